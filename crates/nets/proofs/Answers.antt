@@ -1,0 +1,70 @@
+-- Answers by the table: the number says which refusal it is, so an answer's number and values say which answer it is. Assumes nothing.
+use mathlib.Core.List.{[], _∷_}
+use mathlib.Core.Option.{Option, none, some}
+use mathlib.Core.Path.{_≡_, refl, ap, sym, _∙_}
+use Prim.Native.Nat.{ℕ}
+use native.Mathlib.Omega.{arith}
+use lib.ListN.{getD}
+use borrow.Author.Tests.{ne-eqb}
+use Rattle.nets.specs.Refusals.{number, answered}
+use Rattle.nets.specs.Networks.{refusalOf, takenAs, judged, prefixAs}
+use Rattle.nets.specs.declared.Refusal.{Refusal}
+use Rattle.nets.specs.declared.Refusal.the-variants.{BadSetup, Damaged, NoSet, BadText, BadFile, WrongFamily, BadNetwork, Occupied, OverLimit, NoRoom, ShortBuffer}
+use Rattle.nets.specs.declared.Net.{Net}
+use Rattle.nets.specs.declared.Taken.{Taken}
+use Rattle.nets.specs.declared.Taken.the-variants as taken
+use Rattle.nets.specs.declared.Prefix.{Prefix}
+use Rattle.nets.specs.declared.Prefix.the-variants as prefix
+
+-- the refusal of a number: none is numbered 0
+named : ℕ → Option Refusal
+named n =
+    getD
+    (none ∷ some BadSetup ∷ some Damaged ∷ some NoSet ∷ some BadText ∷ some BadFile ∷ some WrongFamily ∷ some BadNetwork ∷ some Occupied ∷ some OverLimit ∷ some NoRoom ∷ some ShortBuffer ∷ [])
+    n
+    none
+
+named-number : (r : Refusal) → named (number r) ≡ some r
+unfolding named
+named-number BadSetup = refl
+named-number Damaged = refl
+named-number NoSet = refl
+named-number BadText = refl
+named-number BadFile = refl
+named-number WrongFamily = refl
+named-number BadNetwork = refl
+named-number Occupied = refl
+named-number OverLimit = refl
+named-number NoRoom = refl
+named-number ShortBuffer = refl
+
+pub number-one : (r s : Refusal) → number r ≡ number s → r ≡ s
+number-one r s e = let h = named-number r in let k = named-number s in cc
+
+pub number-some : (r : Refusal) → number r ≡ 0 → ⊥
+unfolding named
+number-some r e = let h : none ≡ some r = ap named (sym e) ∙ named-number r in let z : _≡_ {A = ℕ} 0 1 = cc in omega arith
+
+-- A network that is granted, and a refusal, which is the same with any value.
+pub judged-network : (t : Taken) (n m : Net) → takenAs t ≡ judged n → t ≡ taken.Network m → (refusalOf n ≡ 0) × (m ≡ n)
+judged-network t n m e h =
+    let g = sym (ap takenAs h) ∙ e in
+    let k : refusalOf n ≡ 0 = sym (ap (λ p. p .0) g) in
+    (k, rw k at (ap (λ p. p .1) g))
+
+pub judged-refused : {A : Type 0} (t : Taken) (n : Net) (r : Refusal) (z v : A) → takenAs t ≡ judged n → t ≡ taken.Refused r → (number r, z) ≡ answered (refusalOf n) z v
+judged-refused t n r z v e h =
+    let k : refusalOf n ≡ number r = ap (λ p. p .0) (sym e ∙ ap takenAs h) in
+    rw (k, ne-eqb (number r) 0 (number-some r))
+
+pub takenAs-one : (r s : Taken) → takenAs r ≡ takenAs s → r ≡ s
+takenAs-one (taken.Network m) (taken.Network n) e = ap taken.Network (ap (λ p. p .1) e)
+takenAs-one (taken.Network m) (taken.Refused y) e = absurd (number-some y (sym (ap (λ p. p .0) e)))
+takenAs-one (taken.Refused x) (taken.Network n) e = absurd (number-some x (ap (λ p. p .0) e))
+takenAs-one (taken.Refused x) (taken.Refused y) e = ap taken.Refused (number-one x y (ap (λ p. p .0) e))
+
+pub prefixAs-one : (r s : Prefix) → prefixAs r ≡ prefixAs s → r ≡ s
+prefixAs-one (prefix.Bits m) (prefix.Bits n) e = ap prefix.Bits (ap (λ p. p .1) e)
+prefixAs-one (prefix.Bits m) (prefix.Refused y) e = absurd (number-some y (sym (ap (λ p. p .0) e)))
+prefixAs-one (prefix.Refused x) (prefix.Bits n) e = absurd (number-some x (ap (λ p. p .0) e))
+prefixAs-one (prefix.Refused x) (prefix.Refused y) e = ap prefix.Refused (number-one x y (ap (λ p. p .0) e))

@@ -1,0 +1,24 @@
+-- `Net::prefix_bits` meets its contract: what `judge` grants is started on, and what it refuses is refused. Assumes nothing.
+use borrow.Author.Needs.{needs}
+use Rattle.nets.specs.Networks.{noBits, startOf}
+use Rattle.nets.proofs.Answers.{judged-network, judged-refused}
+use Rattle.nets.proofs.Net.prefix_bits.Statement.{statement}
+use Rattle.nets.proofs.Net.prefix_bits.Tie as tie
+
+pub prefix-bits-spec : {M : Type 1} → statement M
+prefix-bits-spec =
+    tie.close
+    (tie.spec
+    (λ c κs. search needs)
+    (λ c. search needs)
+    (λ c κs. search needs)
+    (λ c. search needs)
+    (λ c.
+    let t = c .before .before in
+    let s = t .before .before in
+    let h = judged-network (s .judge .result) (s .before .args .self) (t .t .given .0 .0) (s .judge .ensures) (t .t .given .1) in
+    rw (c .start .ensures, h .1, h .0))
+    (λ c.
+    let s = c .before .before .before in
+    let n = s .before .args .self in
+    judged-refused (s .judge .result) n (c .before .t2 .given .0 .0) noBits (startOf n) (s .judge .ensures) (c .before .t2 .given .1)))

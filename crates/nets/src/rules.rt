@@ -1,0 +1,38 @@
+// What is a network: the width of a family, and the refusal of numbers that are none.
+ghost use mathlib.Core.Path.{_≡_};
+ghost use Rattle.nets.specs.Networks.{width, inRange, takenAs, judged};
+use crate::IPV4;
+use crate::IPV6;
+use crate::Net;
+use crate::Refusal;
+use crate::Taken;
+
+// How many bits an address of the family has.
+pub fn width(family: u8) -> u8
+    ensures { λ r. ⌜ r ≡ width family ⌝ }
+{
+    if family == IPV4 { 32 } else { 128 }
+}
+
+// Whether length and address are within the family's range.
+fn in_range(n: Net) -> bool
+    ensures { λ r. ⌜ r ≡ inRange n ⌝ }
+{
+    if n.family == IPV4 {
+        return n.len <= 32 && (n.hi == 0 && n.lo < 4294967296);
+    }
+    n.len <= 128
+}
+
+// The network, or the refusal of its numbers.
+pub fn judge(n: Net) -> Taken
+    ensures { λ r. ⌜ takenAs r ≡ judged n ⌝ }
+{
+    if n.family != IPV4 && n.family != IPV6 {
+        return Taken::Refused(Refusal::WrongFamily);
+    }
+    if !in_range(n) {
+        return Taken::Refused(Refusal::BadNetwork);
+    }
+    Taken::Network(n)
+}
