@@ -1,0 +1,87 @@
+// Tries in preorder in the pool's words, one word a node, links relative to the node. Node numbers are 1..=n, 0 is no node.
+ghost use mathlib.Core.Path.{_≡_};
+ghost use mathlib.Core.Bool.{cond};
+ghost use Prim.Native.Nat.{_+_, _≤_};
+ghost use lib.Dec.{eqb};
+ghost use lib.ListN.{length, take, drop};
+ghost use Rattle.nodes.specs.Words.{wordAt, zeros};
+ghost use Rattle.nodes.specs.Parse.{Room, parse, after};
+
+// The word of node i.
+pub fn word_at(w: &[u32], b: usize, n: u32, i: u32) -> u32
+    requires { ⌜ Room (now w) b n ⌝ }
+    requires { ⌜ (1 ≤ i) × (i ≤ n) ⌝ }
+    ensures { λ r. ⌜ r ≡ wordAt (now (w .entry)) b i ⌝ }
+{
+    let k = i as usize;
+    w[b + (k - 1)]
+}
+
+// The number after the trie that starts at node root, at most fuel deep and within n nodes, or 0 where there is none. The second children still to come are on a stack, each with the fuel
+// that it is to be read with.
+pub fn trie_end(w: &[u32], b: usize, n: u32, fuel: u32, root: u32) -> u32
+    requires { ⌜ Room (now w) b n ⌝ }
+    requires { ⌜ (1 ≤ root) × (fuel ≤ 129) ⌝ }
+    ensures { λ r. ⌜ r ≡ after root (parse (now (w .entry)) b n fuel root) ⌝ }
+{
+    let mut ats = [0u32; 129];
+    let mut fuels = [0u32; 129];
+    let mut sp: usize = 0;
+    let mut i = root;
+    let mut f = fuel;
+    loop {
+        if f == 0 {
+            return 0;
+        }
+        if n < i {
+            return 0;
+        }
+        let x = word_at(w, b, n, i);
+        let at = i;
+        i += 1;
+        if x == 0 {
+            if sp == 0 {
+                return i;
+            }
+            sp -= 1;
+            if ats[sp] != i {
+                return 0;
+            }
+            f = fuels[sp];
+        } else {
+            f -= 1;
+            if 2 < x {
+                if x % 2 == 0 {
+                    return 0;
+                }
+                ats[sp] = at + x / 2;
+                fuels[sp] = f;
+                sp += 1;
+            }
+        }
+    }
+}
+
+fn one_if_zero(x: u32) -> u32
+    ensures { λ r. ⌜ r ≡ cond (eqb x 0) 1 0 ⌝ }
+{
+    if x == 0 {
+        return 1;
+    }
+    0
+}
+
+// How many of the m words from place p on are 0: the networks of a trie that stands there.
+pub fn zeros_at(w: &[u32], p: usize, m: u32) -> u32
+    requires { ⌜ p + m ≤ length (now w) ⌝ }
+    ensures { λ r. ⌜ r ≡ zeros (take m (drop p (now (w .entry)))) ⌝ }
+{
+    let end = p + m as usize;
+    let mut k = p;
+    let mut count: u32 = 0;
+    while k < end {
+        count += one_if_zero(w[k]);
+        k += 1;
+    }
+    count
+}
