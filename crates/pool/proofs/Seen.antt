@@ -1,0 +1,163 @@
+-- What a survey says of the state (`Seen`), its numbers among those of the words (`Figures`), and what stands before and behind its set. Assumes nothing.
+use mathlib.Core.Path.{_≡_, refl, sym, ap, _∙_}
+use mathlib.Core.Bool.{true, false, false≢true, true≢false}
+use mathlib.Core.List.{List, _++_}
+use Prim.Native.Nat.{ℕ, suc, _+_, _-_, _≤_, _<_}
+use native.Mathlib.Omega.{arith}
+use lib.ListN.{length, getD, take, drop, length-append}
+use Rattle.nets.specs.Tries.{Trie, trieOf}
+use Rattle.nets.specs.Networks.{width}
+use Rattle.nodes.specs.Words.{Has, enc, place}
+use Rattle.pool.specs.States.{State, held, used, claimed, isState}
+use Rattle.pool.specs.Decode.{recordAt, base, leastWords, nodeWords, Decoded, damaged, sound, decode}
+use Rattle.pool.specs.Rules.{startOf, surveyOf}
+use Rattle.pool.specs.Changes.{setAt}
+use Rattle.pool.specs.Steps.{Surveyed, behindAt}
+use Rattle.pool.specs.declared.Survey.{Survey}
+use Rattle.nodes.proofs.Has.{has-front, has-back, has-at, has-seg}
+use Rattle.nodes.proofs.Tries.{length-enc}
+use Rattle.pool.proofs.Claims.{isSize-is, isState-size, isState-sets, isState-claimed, used-claimed, claimedBut-is}
+use Rattle.pool.proofs.Holds.{set-size, startOf-is}
+use Rattle.pool.proofs.Encoded.{Header}
+use Rattle.pool.proofs.Decoded.{decode-header, decode-state, decode-has, decode-used, decode-set, decode-share, decode-parts}
+
+-- the words hold the state S, which has a set k, and v is what a pass over them finds out
+pub record Seen (w : List ℕ) (S : State) (k : ℕ) (v : Survey) : Type 0 where
+  pub decoded : decode w ≡ sound S
+  pub known : k < length (S .sets)
+  pub used : v .used ≡ used (S .sets)
+  pub claimed : v .claimed ≡ claimed (S .sets)
+  pub at : v .at ≡ startOf k 1 (S .sets)
+  pub held : v .held ≡ held (setAt S k)
+
+-- A survey is of sound words, or says that there is no state.
+cases : (d : Decoded) (k : ℕ) → (surveyOf d k .sound ≡ true → (S : State) × (d ≡ sound S)) × (surveyOf d k .sound ≡ false → d ≡ damaged)
+unfolding surveyOf
+cases damaged k = (λ e. absurd (false≢true e), λ e. refl)
+cases (sound S) k = (λ e. (S, refl), λ e. absurd (true≢false e))
+
+module _ (w : List ℕ) (k : ℕ) (v : Survey) (e : v ≡ surveyOf (decode w) k) where
+  pub survey-sound : v .sound ≡ true → (S : State) × (decode w ≡ sound S)
+  survey-sound h = cases (decode w) k .0 (ap (λ (x : Survey). x .sound) (sym e) ∙ h)
+
+  -- the first words can be read
+  pub survey-long : v .sound ≡ true → 64 < length w
+  survey-long h =
+      let x = survey-sound h in
+      let a = decode-header w (x .0) (x .1) in
+      omega (arith, a .long, isSize-is (length (x .0 .sets)) (x .0 .nodes) (isState-size (x .0) (decode-state w (x .0) (x .1))))
+
+  pub survey-damaged : v .sound ≡ false → decode w ≡ damaged
+  survey-damaged h = cases (decode w) k .1 (ap (λ (x : Survey). x .sound) (sym e) ∙ h)
+
+  pub survey-seen : (S : State) → decode w ≡ sound S → k < getD w 2 0 → Seen w S k v
+  unfolding surveyOf
+  survey-seen S d lt =
+      let f : v ≡ surveyOf (sound S) k = rw d at e in
+      record {
+        decoded = d;
+        known = rw (decode-header w S d .sets) at lt;
+        used = ap (λ (x : Survey). x .used) f;
+        claimed = ap (λ (x : Survey). x .claimed) f;
+        at = ap (λ (x : Survey). x .at) f;
+        held = ap (λ (x : Survey). x .held) f;
+      }
+
+module _ {w : List ℕ} {k : ℕ} {v : Survey} (h : Surveyed w k v) where
+  pub seen-as : (S : State) → decode w ≡ sound S → Seen w S k v
+  seen-as S d = survey-seen w k v (h .found) S d (h .known)
+
+  pub seen : (S : State) × Seen w S k v
+  seen = let x = survey-sound w k v (h .found) (h .sound) in (x .0, seen-as (x .0) (x .1))
+
+-- The numbers of a survey among those of the words.
+pub record Figures (w : List ℕ) (k : ℕ) (v : Survey) : Type 0 where
+  pub known : k < getD w 2 0
+  pub sets : getD w 2 0 ≤ 64
+  pub nodes : getD w 3 0 ≤ 4194304
+  pub long : leastWords (getD w 2 0) (getD w 3 0) ≤ length w
+  pub first : 1 ≤ v .at
+  pub last : v .at + v .held ≤ v .used + 1
+  pub used : v .used ≤ v .claimed
+  pub claimed : v .claimed ≤ getD w 3 0
+  pub share : getD w (recordAt k + 1) 0 ≤ v .claimed
+  pub held : v .held ≤ v .claimed
+
+-- where the trie of the set begins; the words of the sets before it, its trie, the words of the sets behind it
+abbrev pub placeOf : List ℕ → Survey → ℕ
+placeOf w v = place (base (getD w 2 0)) (v .at)
+
+abbrev pub before : State → ℕ → List ℕ
+before S k = nodeWords (take k (S .sets))
+
+abbrev trieAt : State → ℕ → Trie
+trieAt S k = trieOf (setAt S k .list)
+
+abbrev pub behind : State → ℕ → List ℕ
+behind S k = nodeWords (drop (suc k) (S .sets))
+
+module _ {w : List ℕ} {S : State} {k : ℕ} {v : Survey} (h : Seen w S k v) where
+  pub seen-state : isState S ≡ true
+  seen-state = decode-state w S (h .decoded)
+
+  pub seen-header : Header w S
+  seen-header = decode-header w S (h .decoded)
+
+  own-size : length (enc (trieAt S k)) ≡ v .held
+  own-size = length-enc (trieAt S k) ∙ set-size (width (S .family)) (setAt S k) (decode-set w S (h .decoded) k (h .known) .rules) ∙ sym (h .held)
+
+  pub before-length : v .at ≡ 1 + length (before S k)
+  before-length = h .at ∙ startOf-is (width (S .family)) k 1 (S .sets) (isState-sets S seen-state) (h .known)
+
+  parts : nodeWords (S .sets) ≡ before S k ++ (enc (trieAt S k) ++ behind S k)
+  parts = decode-parts w S (h .decoded) k (h .known) .0
+
+  parts-has : Has w (base (length (S .sets))) (before S k ++ (enc (trieAt S k) ++ behind S k))
+  parts-has = rw parts at (decode-has w S (h .decoded))
+
+  pub before-has : Has w (base (length (S .sets))) (before S k)
+  before-has = has-front (before S k) (enc (trieAt S k) ++ behind S k) parts-has
+
+  pub behind-length : v .at + v .held + length (behind S k) ≡ v .used + 1
+  behind-length =
+      omega (
+        arith,
+        before-length,
+        own-size,
+        h .used,
+        decode-used w S (h .decoded) .0,
+        ap length parts,
+        length-append (before S k) (enc (trieAt S k) ++ behind S k),
+        length-append (enc (trieAt S k)) (behind S k),
+      )
+
+  pub behind-has : Has w (place (base (length (S .sets))) (v .at + v .held)) (behind S k)
+  behind-has = has-at (omega (arith, before-length, own-size)) (has-back (enc (trieAt S k)) (behind S k) (has-back (before S k) (enc (trieAt S k) ++ behind S k) parts-has))
+
+  -- in words in which they still stand
+  pub behindAt-is : {u : List ℕ} → Has u (place (base (length (S .sets))) (v .at + v .held)) (behind S k) → behindAt u (base (getD w 2 0)) v ≡ behind S k
+  unfolding behindAt
+  behindAt-is g =
+      let n : v .used + 1 - (v .at + v .held) ≡ length (behind S k) = omega (arith, behind-length) in
+      rw (seen-header .sets, n) (has-seg g)
+
+  pub seen-figures : Figures w k v
+  seen-figures =
+      let d = isSize-is (length (S .sets)) (S .nodes) (isState-size S seen-state) in
+      let c = claimedBut-is k (S .sets) (h .known) in
+      let x = isState-claimed S seen-state in
+      record {
+        known = omega (arith, h .known, seen-header .sets);
+        sets = omega (arith, seen-header .sets);
+        nodes = omega (arith, seen-header .nodes);
+        long = omega (arith, seen-header .sets, seen-header .nodes, seen-header .long);
+        first = omega (arith, before-length);
+        last = omega (arith, behind-length);
+        used = omega (arith, h .used, h .claimed, used-claimed (S .sets));
+        claimed = omega (arith, h .claimed, seen-header .nodes);
+        share = omega (arith, h .claimed, decode-share w S (h .decoded) k (h .known));
+        held = omega (arith, h .held, h .claimed);
+      }
+
+pub figures : {w : List ℕ} {k : ℕ} {v : Survey} → Surveyed w k v → Figures w k v
+figures h = seen-figures (seen h .1)

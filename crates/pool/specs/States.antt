@@ -1,0 +1,70 @@
+-- The state of a pool: its family, its nodes, and for each set its share, its limit and its list.
+--
+--   held s            the nodes of a set's list
+--   claim s           the larger of share and held nodes; used, claimed: the sums over sets of held nodes and of claims
+--   freeOf S          the pool's nodes less the nodes of all lists
+--   roomOf S k        the pool's nodes less, for every other set than k, its claim
+--   isState S         the rules: a family, 1 to 64 sets, 1 to 4,194,304 nodes, each list a list of the family's width within its limit,
+--                     each share at most its limit, the claims at most the nodes
+use mathlib.Core.Bool.{Bool, true, _&&_, _||_}
+use mathlib.Core.List.{List, [], _∷_}
+use Prim.Native.Nat.{ℕ, zero, suc, _+_, _-_, max}
+use lib.Dec.{eqb, leb}
+use lib.ListN.{length}
+use Rattle.nets.specs.Bits.{Bits}
+use Rattle.nets.specs.Lists.{isList, nodesL}
+use Rattle.nets.specs.Networks.{width}
+
+pub record SetState : Type 0 where
+  pub share : ℕ
+  pub limit : ℕ
+  pub list : List Bits
+
+pub record State : Type 0 where
+  pub family : ℕ
+  pub nodes : ℕ
+  pub sets : List SetState
+
+abbrev pub held : SetState → ℕ
+held s = nodesL (s .list)
+
+abbrev pub claim : SetState → ℕ
+claim s = max (s .share) (held s)
+
+unfoldable pub used : List SetState → ℕ
+used [] = 0
+used (s ∷ ss) = held s + used ss
+
+unfoldable pub claimed : List SetState → ℕ
+claimed [] = 0
+claimed (s ∷ ss) = claim s + claimed ss
+
+-- the claims of all sets but the one with the number k
+unfoldable pub claimedBut : ℕ → List SetState → ℕ
+claimedBut k [] = 0
+claimedBut zero (s ∷ ss) = claimed ss
+claimedBut (suc k) (s ∷ ss) = claim s + claimedBut k ss
+
+abbrev pub freeOf : State → ℕ
+freeOf S = S .nodes - used (S .sets)
+
+abbrev pub roomOf : State → ℕ → ℕ
+roomOf S k = S .nodes - claimedBut k (S .sets)
+
+abbrev pub isFamily : ℕ → Bool
+isFamily f = eqb f 4 || eqb f 6
+
+-- the rules of one set in a pool of width w
+abbrev pub isSet : ℕ → SetState → Bool
+isSet w s = isList w (s .list) && (leb (s .share) (s .limit) && leb (held s) (s .limit))
+
+abbrev pub areSets : ℕ → List SetState → Bool
+areSets w [] = true
+areSets w (s ∷ ss) = isSet w s && areSets w ss
+
+-- how many sets and nodes there may be
+abbrev pub isSize : ℕ → ℕ → Bool
+isSize sets nodes = (leb 1 sets && leb sets 64) && (leb 1 nodes && leb nodes 4194304)
+
+unfoldable pub isState : State → Bool
+isState S = (isFamily (S .family) && isSize (length (S .sets)) (S .nodes)) && (areSets (width (S .family)) (S .sets) && leb (claimed (S .sets)) (S .nodes))

@@ -1,0 +1,97 @@
+// The pool: up to 64 sets of networks in one lent slice of words. docs/LAYOUT.md has every word.
+use checking::HEAD;
+use checking::RECORD;
+use checking::survey;
+use nets::Refusal;
+use nodes::reading::zeros_at;
+ghost use mathlib.Core.Path.{_≡_};
+ghost use Rattle.pool.specs.Decode.{decode};
+ghost use Rattle.pool.specs.Rules.{answerAs, reportAs, Laid, freeRule, heldRule, planRule};
+
+pub mod checking;
+pub mod judging;
+mod laying;
+pub mod relinking;
+
+// What a changing call answers: the nodes of its result.
+pub enum Answer {
+    Granted(u32),
+    Refused(Refusal),
+}
+
+// Two numbers of a set: its nodes and its networks, or its share and its limit.
+pub enum Report {
+    Numbers(u32, u32),
+    Refused(Refusal),
+}
+
+// What one pass over the pool finds out for the calls on one set.
+pub struct Survey {
+    pub sound: bool,
+    pub used: u32,
+    pub claimed: u32,
+    pub at: u32,
+    pub held: u32,
+}
+
+// Lays out a pool of empty sets in the lent words, a share and a limit for each set. A refusal changes no word, and no word past the smallest buffer is touched.
+pub fn layout(
+    pool: &mut [u32],
+    family: u8,
+    sets: u32,
+    nodes: u32,
+    shares: &[u32],
+    limits: &[u32],
+) -> Answer
+    ensures { λ r. ⌜ Laid (now (pool .entry)) family sets nodes (now (shares .entry)) (now (limits .entry)) r (now (pool .exit)) ⌝ }
+{
+    if laying::is_setup(pool.len(), family, sets, nodes, shares, limits) {
+        laying::clear(pool, laying::least_words(sets, nodes));
+        laying::header(pool, family, sets, nodes);
+        laying::records(pool, shares, limits);
+        return Answer::Granted(0);
+    }
+    Answer::Refused(Refusal::BadSetup)
+}
+
+// The free nodes of a pool.
+pub fn free(pool: &[u32]) -> Answer
+    ensures { λ r. ⌜ answerAs r ≡ freeRule (decode (now (pool .entry))) ⌝ }
+{
+    let found = survey(pool, 0);
+    if found.sound {
+        return Answer::Granted(pool[3] - found.used);
+    }
+    Answer::Refused(Refusal::Damaged)
+}
+
+// The nodes and the networks of a set.
+pub fn held(pool: &[u32], set: u32) -> Report
+    ensures { λ r. ⌜ reportAs r ≡ heldRule (decode (now (pool .entry))) set ⌝ }
+{
+    let found = survey(pool, set);
+    if !found.sound {
+        return Report::Refused(Refusal::Damaged);
+    }
+    let sets = pool[2];
+    if sets <= set {
+        return Report::Refused(Refusal::NoSet);
+    }
+    let first = HEAD + RECORD * (sets as usize) + (found.at as usize - 1);
+    Report::Numbers(found.held, zeros_at(pool, first, found.held))
+}
+
+// The share and the limit of a set.
+pub fn plan(pool: &[u32], set: u32) -> Report
+    ensures { λ r. ⌜ reportAs r ≡ planRule (decode (now (pool .entry))) set ⌝ }
+{
+    let found = survey(pool, set);
+    if !found.sound {
+        return Report::Refused(Refusal::Damaged);
+    }
+    if pool[2] <= set {
+        return Report::Refused(Refusal::NoSet);
+    }
+    let record = HEAD + RECORD * (set as usize);
+    Report::Numbers(pool[record + 1], pool[record + 2])
+}
