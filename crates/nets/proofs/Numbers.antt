@@ -80,16 +80,16 @@ pub record IsNet (n : Net) : Type 0 where
   pub len : n .len ≤ width (n .family)
   pub address : address n < 2 ^ width (n .family)
 
-tests : (f r : Bool) → _≡_ {A = ℕ} (cond f (cond r 0 7) 6) 0 → (f ≡ true) × (r ≡ true)
-tests true true e = (refl, refl)
-tests true false e = absurd (omega arith)
-tests false r e = absurd (omega arith)
+passed : (f r : Bool) → _≡_ {A = ℕ} (cond f (cond r 0 7) 6) 0 → (f ≡ true) × (r ≡ true)
+passed true true e = (refl, refl)
+passed true false e = absurd (omega arith)
+passed false r e = absurd (omega arith)
 
 pub refusalOf-is : (n : Net) → refusalOf n ≡ 0 → IsNet n
 unfolding refusalOf inRange
 refusalOf-is n e =
     let w = width (n .family) in
-    let h = tests (eqb (n .family) 4 || eqb (n .family) 6) (inRange n) e in
+    let h = passed (eqb (n .family) 4 || eqb (n .family) 6) (inRange n) e in
     record {
       family = h .0;
       len = leb-true (n .len) w (and-left (leb (n .len) w) (ltb (address n) (2 ^ w)) (h .1));

@@ -21,9 +21,10 @@ pub enum Refusal {
     ShortBuffer,
 }
 
-// The two families.
+// The family of addresses of 32 bits.
 pub const IPV4: u8 = 4;
 
+// The family of addresses of 128 bits.
 pub const IPV6: u8 = 6;
 
 // A family, an address in two words, and a length. An IPv4 address is below 2^32, in the low word.
@@ -34,6 +35,7 @@ pub struct Net {
     pub len: u8,
 }
 
+// A network, or why there is none.
 pub enum Taken {
     Network(Net),
     Refused(Refusal),
@@ -46,11 +48,13 @@ pub struct PrefixBits {
     pub len: u8,
 }
 
+// The bits of a network, or why there are none.
 pub enum Prefix {
     Bits(PrefixBits),
     Refused(Refusal),
 }
 
+// A bit, with the bits behind it, or the end.
 pub enum NextBit {
     Bit(bool, PrefixBits),
     End,
@@ -73,14 +77,13 @@ impl Net {
     pub fn to_network(self) -> Taken
         ensures { λ r. ⌜ takenAs r ≡ answered (refusalOf self) noNet (cleared self) ⌝ }
     {
-        let t = rules::judge(self);
-        match t {
+        match rules::judge(self) {
             Taken::Network(n) => Taken::Network(words::clear(n)),
             Taken::Refused(no) => Taken::Refused(no),
         }
     }
 
-    // The network of another length around the same address.
+    // The network of length len around the same address.
     pub fn with_new_prefix(mut self, len: u8) -> Taken
         ensures { λ r. ⌜ takenAs r ≡ answered (refusalOf (withLen self len)) noNet (cleared (withLen self len)) ⌝ }
     {
@@ -92,8 +95,7 @@ impl Net {
     pub fn prefix_bits(self) -> Prefix
         ensures { λ r. ⌜ prefixAs r ≡ answered (refusalOf self) noBits (startOf self) ⌝ }
     {
-        let t = rules::judge(self);
-        match t {
+        match rules::judge(self) {
             Taken::Network(n) => Prefix::Bits(words::start(n)),
             Taken::Refused(no) => Prefix::Refused(no),
         }
@@ -110,7 +112,7 @@ impl PrefixBits {
         }
         let bit = self.hi >> 63 == 1;
         self.hi = (self.hi << 1) | (self.lo >> 63);
-        self.lo = self.lo << 1;
+        self.lo <<= 1;
         self.len -= 1;
         NextBit::Bit(bit, self)
     }

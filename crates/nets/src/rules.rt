@@ -19,7 +19,7 @@ fn in_range(n: Net) -> bool
     ensures { λ r. ⌜ r ≡ inRange n ⌝ }
 {
     if n.family == IPV4 {
-        return n.len <= 32 && (n.hi == 0 && n.lo < 4294967296);
+        return n.len <= 32 && (n.hi == 0 && n.lo < 0x1_0000_0000);
     }
     n.len <= 128
 }

@@ -6,8 +6,8 @@ use Rattle.nets.proofs.Answers.{judged-network, judged-refused}
 use Rattle.nets.proofs.Net.to_network.Statement.{statement}
 use Rattle.nets.proofs.Net.to_network.Tie as tie
 
-granted : (c : tie.After-known-told) → let n = c .before .before .before .before .args .self in (refusalOf n ≡ 0) × (c .before .t .given .0 .0 ≡ n)
-granted c = let s = c .before .before .before in judged-network (s .judge .result) (s .before .args .self) (c .before .t .given .0 .0) (s .judge .ensures) (c .before .t .given .1)
+granted : (c : tie.After-known-told) → let n = c .before .before .before .before .args .self in (refusalOf n ≡ 0) × (c .before .n .given .0 .0 ≡ n)
+granted c = let s = c .before .before .before in judged-network (s .judge .result) (s .before .args .self) (c .before .n .given .0 .0) (s .judge .ensures) (c .before .n .given .1)
 
 pub to-network-spec : {M : Type 1} → statement M
 to-network-spec =
@@ -21,4 +21,4 @@ to-network-spec =
     (λ c.
     let s = c .before .before .before in
     let n = s .before .args .self in
-    judged-refused (s .judge .result) n (c .before .t2 .given .0 .0) noNet (cleared n) (s .judge .ensures) (c .before .t2 .given .1)))
+    judged-refused (s .judge .result) n (c .before .no .given .0 .0) noNet (cleared n) (s .judge .ensures) (c .before .no .given .1)))
