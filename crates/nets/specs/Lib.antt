@@ -1,8 +1,8 @@
--- What a reader must believe, in the order of the scope document: bit strings, tries, lists of networks, refusals, the numbers of a network.
--- TrieOps is the road of the laws and need not be believed.
+-- What a reader must believe of networks: bit strings, lists of networks and what each call makes of them, refusals, the numbers of a network.
+-- Tries and TrieOps are the road: where a definition of Lists goes through a trie, a law gives the scope document's sentence and says that it leaves one list.
 pub mod Bits
-pub mod Tries
 pub mod Lists
-pub mod TrieOps
 pub mod Refusals
 pub mod Networks
+pub mod Tries
+pub mod TrieOps
