@@ -18,5 +18,6 @@ pub mod Excluding
 pub mod Laws
 pub mod TwoWords
 pub mod Numbers
+pub mod Handing
 pub mod Answers
 pub mod Worked

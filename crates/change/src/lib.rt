@@ -1,0 +1,3 @@
+// Changing one set.
+pub mod inserting;
+pub mod removing;
