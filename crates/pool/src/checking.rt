@@ -15,7 +15,7 @@ ghost use Rattle.pool.specs.Rules.{shareIn, limitIn, noSurvey, surveyOf}
 // The first word of every pool.
 pub const MARK: u32 = 1296126540;
 
-// The words before the records, those of a record, and those that the smallest buffer has for a node.
+// The words before the records, those of a record, and those that a pool has for each node.
 pub const HEAD: usize = 64;
 
 pub const RECORD: usize = 8;
@@ -70,7 +70,7 @@ pub fn is_header(w: &[u32]) -> bool
     if !is_size(sets, nodes) {
         return false;
     }
-    HEAD + RECORD * (sets as usize) + 8 * (nodes as usize) <= w.len()
+    HEAD + RECORD * (sets as usize) + NODE * (nodes as usize) <= w.len()
 }
 
 // The levels that a trie of the family may have: one more than the bits of an address.
@@ -189,7 +189,7 @@ fn survey_sets(w: &[u32], set: usize) -> Survey
     }
 }
 
-// What one pass over the pool finds out for the calls on one set: whether it is sound, the nodes in use, the claims, the number at which the set begins or would, and its nodes.
+// What one pass over the pool finds out for the calls on one set.
 pub fn survey(w: &[u32], set: u32) -> Survey
     ensures { λ r. ⌜ r ≡ surveyOf (decode (now (w .entry))) set ⌝ }
 {
