@@ -1,0 +1,5 @@
+-- The laws of lazy emission, from the bottom up.
+pub mod Answers
+pub mod Simplify
+pub mod Sources
+pub mod Combine
