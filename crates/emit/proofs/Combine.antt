@@ -51,7 +51,7 @@ unfolding body size
 body-mixed = by-kind (λ t. kindOf t ≡ mixed → length (body (half false t)) + length (body (half true t)) < length (body t))
     (λ h. absurd (flat≢mixed false h)) (λ h. absurd (flat≢mixed true h)) (λ l r e. rw e (λ h. omega (arith, length-body l, length-body r, length-enc (node l r))))
 
-size-op : (j : Bool) (f : Bool → Bool → Bool) (k : ℕ) (t u : Trie) → size (opT j f k t u) ≤ 1 + 2 * (length (body t) + length (body u))
+pub size-op : (j : Bool) (f : Bool → Bool → Bool) (k : ℕ) (t u : Trie) → size (opT j f k t u) ≤ 1 + 2 * (length (body t) + length (body u))
 unfolding opT size
 size-op j f zero t u = omega arith
 size-op j f (suc k) t u =
