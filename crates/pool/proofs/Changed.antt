@@ -1,4 +1,5 @@
--- THE LAW OF EVERY CHANGE: a trie written at the place of its set, with the sets behind it behind it, and then the roots put right, is the state with the new list. Assumes nothing.
+-- The law of every change: a trie written at the place of its set, with the sets behind it behind it, and then the roots put right, is the state with the new list.
+-- Both orders of writing come to this, and a result within the room leaves what moving and linking ask. Assumes nothing.
 use mathlib.Core.Path.{_≡_, refl, sym, ap, _∙_}
 use mathlib.Core.Bool.{true}
 use mathlib.Core.List.{List, [], _∷_, _++_, append-assoc}

@@ -1,4 +1,5 @@
--- States: their rules taken apart, and what the claims of the sets leave of the pool's nodes: free nodes, and the room for a set. Assumes nothing.
+-- States: the rules of a state and of its sets, taken apart, and what the claims of the sets leave of the pool's nodes: free nodes, and the room for a set.
+-- Assumes nothing.
 use mathlib.Core.Path.{_≡_, refl}
 use mathlib.Core.Bool.{Bool, true, false, _&&_}
 use mathlib.Core.List.{List, [], _∷_}
@@ -11,11 +12,14 @@ use Rattle.nets.specs.Bits.{Bits, before}
 use Rattle.nets.specs.Lists.{isList, nodesL}
 use Rattle.nets.specs.Networks.{width}
 use Rattle.nets.proofs.Strings.{and-left, and-right}
-use Rattle.pool.specs.States.{SetState, State, claim, used, claimed, claimedBut, freeOf, roomOf, isFamily, isSize, areSets, isState}
+use Rattle.pool.specs.States.{SetState, State, held, claim, used, claimed, claimedBut, freeOf, roomOf, isFamily, isSize, isSet, areSets, isState}
 use Rattle.pool.specs.Rules.{noSet}
 
 -- The rules of a state.
-pub isSize-is : (s n : ℕ) → isSize s n ≡ true → (1 ≤ s) × (s ≤ 64) × (1 ≤ n) × (n ≤ 4194304)
+abbrev pub Sized : ℕ → ℕ → Type 0
+Sized s n = (1 ≤ s) × (s ≤ 64) × (1 ≤ n) × (n ≤ 4194304)
+
+pub isSize-is : (s n : ℕ) → isSize s n ≡ true → Sized s n
 isSize-is s n e =
     let f = and-left (leb 1 s && leb s 64) (leb 1 n && leb n 4194304) e in
     let g = and-right (leb 1 s && leb s 64) (leb 1 n && leb n 4194304) e in (
@@ -49,6 +53,24 @@ module _ (S : State) (e : isState S ≡ true) where
   isState-claimed =
       leb-true (claimed (S .sets)) (S .nodes)
       (and-right (areSets (width (S .family)) (S .sets)) (leb (claimed (S .sets)) (S .nodes)) (and-right (numbers S) (lists S) e))
+
+-- The rules of a set: share and nodes are within the limit.
+abbrev pub limited : SetState → Bool
+limited x = leb (x .share) (x .limit) && leb (held x) (x .limit)
+
+module _ (v : ℕ) (x : SetState) (e : isSet v x ≡ true) where
+  pub isSet-list : isList v (x .list) ≡ true
+  isSet-list = and-left (isList v (x .list)) (limited x) e
+
+  pub isSet-limited : limited x ≡ true
+  isSet-limited = and-right (isList v (x .list)) (limited x) e
+
+module _ (v : ℕ) (x : SetState) (xs : List SetState) (e : areSets v (x ∷ xs) ≡ true) where
+  pub areSets-head : isSet v x ≡ true
+  areSets-head = and-left (isSet v x) (areSets v xs) e
+
+  pub areSets-tail : areSets v xs ≡ true
+  areSets-tail = and-right (isSet v x) (areSets v xs) e
 
 -- The claims.
 pub used-claimed : (ss : List SetState) → used ss ≤ claimed ss

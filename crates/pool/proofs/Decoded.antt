@@ -1,13 +1,14 @@
--- What sound words say, in the scope document's sentences; encoding and decoding are inverse; a granted layout is decoded. Assumes nothing.
-use mathlib.Core.Path.{_≡_, refl, ap, _∙_}
-use mathlib.Core.Bool.{Bool, true, false, cond, _&&_, false≢true}
+-- What sound words say, in the scope document's sentences, as what is decoded stands in the words. So encoding and decoding are inverse, and a granted layout is decoded.
+-- Assumes nothing.
+use mathlib.Core.Path.{_≡_, refl, _∙_}
+use mathlib.Core.Bool.{Bool, true, false, cond, false≢true}
 use mathlib.Core.List.{List, [], _∷_, _++_}
 use Prim.Native.Nat.{ℕ, suc, _+_, _≤_, _<_}
 use native.Mathlib.Nat.{zero-add}
 use native.Mathlib.Omega.{arith}
-use lib.Dec.{leb, eqb}
+use lib.Dec.{leb}
 use lib.ListN.{length, getD, take, drop, replicate}
-use borrow.Author.Tests.{le-leb, leb-true, eqb-true}
+use borrow.Author.Tests.{le-leb}
 use Rattle.nets.specs.Lists.{isList, nodesL}
 use Rattle.nets.specs.Networks.{width}
 use Rattle.nets.specs.Tries.{trieOf}
@@ -15,17 +16,18 @@ use Rattle.nets.proofs.Strings.{and-left, and-right}
 use Rattle.nets.proofs.Nodes.{nodesL-empty}
 use Rattle.nodes.specs.Words.{put, Has, enc}
 use Rattle.nodes.specs.Parse.{Stands}
-use Rattle.pool.specs.States.{State, used, claimed, isFamily, isSize, isSet, areSets, isState}
+use Rattle.pool.specs.States.{State, used, claimed, isSet, areSets, isState}
 use Rattle.pool.specs.Decode.{recordAt, base, leastWords, rootAt, nodeWords, over, sound, decode}
-use Rattle.pool.specs.Rules.{noSet, startOf, sharesFit, total, layoutNo, emptySets, laid, withinLimits, isSetup}
+use Rattle.pool.specs.Rules.{noSet, startOf, total, layoutNo, emptySets, laid, withinLimits, isSetup}
 use Rattle.nodes.proofs.Put.{length-put}
 use Rattle.nodes.proofs.Has.{has-head, has-at}
 use Rattle.pool.proofs.Claims.{isState-sets, isState-claimed, used-claimed}
+use Rattle.pool.proofs.Setups.{Kept, isSetup-kept, length-emptySets}
 use Rattle.pool.proofs.Holds.{HoldsSet, length-nodeWords, nodeWords-at, startOf-is, holds-at}
-use Rattle.pool.proofs.Encoded.{Header, sound-header, sound-decode, decode-sound, over-sound, sound-over}
+use Rattle.pool.proofs.Encoded.{HeaderOf, sound-header, sound-decode, decode-sound, over-sound, sound-over}
 
 module _ (w : List ℕ) (S : State) (e : decode w ≡ sound S) where
-  pub decode-header : Header w S
+  pub decode-header : HeaderOf w S
   decode-header = sound-header (decode-sound w S e)
 
   -- Each set has one list of the family's width, within its limit; each share is at most its limit; the claims add up to at most the nodes.
@@ -80,34 +82,30 @@ isSet-empty : (v x y : ℕ) → leb x y ≡ true → isSet v (record { share = x
 unfolding isList nodesL
 isSet-empty v x y e = rw e (le-leb 0 y (omega arith))
 
-emptySets-is : (v : ℕ) (shares limits : List ℕ) → withinLimits shares limits ≡ true
-    → (length (emptySets shares limits) ≡ length shares) × (areSets v (emptySets shares limits) ≡ true) × (claimed (emptySets shares limits) ≡ total shares)
+emptySets-is : (v : ℕ) (shares limits : List ℕ) → withinLimits shares limits ≡ true → (areSets v (emptySets shares limits) ≡ true) × (claimed (emptySets shares limits) ≡ total shares)
 unfolding claimed total
-emptySets-is v [] limits e = (refl, refl, refl)
+emptySets-is v [] limits e = (refl, refl)
 emptySets-is v (x ∷ shares) [] e = absurd (false≢true e)
 emptySets-is v (x ∷ shares) (y ∷ limits) e =
     let h = emptySets-is v shares limits (and-right (leb x y) (withinLimits shares limits) e) in
-    (ap suc (h .0), rw (isSet-empty v x y (and-left (leb x y) (withinLimits shares limits) e)) (h .1), omega (arith, h .2, nodesL-empty))
+    (rw (isSet-empty v x y (and-left (leb x y) (withinLimits shares limits) e)) (h .0), omega (arith, h .1, nodesL-empty))
 
--- the tests of a layout, apart
-tests : (a b c d f g h : Bool) → _≡_ {A = ℕ} (cond (((a && b) && c) && ((d && f) && (g && h))) 0 1) 0 → (a ≡ true) × (b ≡ true) × (c ≡ true) × (d ≡ true) × (g ≡ true) × (h ≡ true)
-tests false b c d f g h e = absurd (omega arith)
-tests true false c d f g h e = absurd (omega arith)
-tests true true false d f g h e = absurd (omega arith)
-tests true true true false f g h e = absurd (omega arith)
-tests true true true true false g h e = absurd (omega arith)
-tests true true true true true false h e = absurd (omega arith)
-tests true true true true true true false e = absurd (omega arith)
-tests true true true true true true true e = (refl, refl, refl, refl, refl, refl)
+layoutNo-kept : (w : List ℕ) (family sets nodes : ℕ) (shares limits : List ℕ) → layoutNo w family sets nodes shares limits ≡ 0 → Kept (length w) family sets nodes shares limits
+unfolding layoutNo
+layoutNo-kept w family sets nodes shares limits e = isSetup-kept (length w) family sets nodes shares limits (go (isSetup (length w) family sets nodes shares limits) e)
+  where
+    go : (b : Bool) → _≡_ {A = ℕ} (cond b 0 1) 0 → b ≡ true
+    go true e = refl
+    go false e = absurd (omega arith)
 
 pub decode-laid : (w : List ℕ) (family sets nodes : ℕ) (shares limits : List ℕ) → layoutNo w family sets nodes shares limits ≡ 0
     → decode (laid w family sets nodes shares limits) ≡ sound (record { family = family; nodes = nodes; sets = emptySets shares limits })
-unfolding layoutNo isSetup sharesFit laid isState
+unfolding laid isState
 decode-laid w family sets nodes shares limits e =
-    let t = tests (isFamily family) (isSize sets nodes) (leb (leastWords sets nodes) (length w)) (eqb (length shares) sets) (eqb (length limits) sets) (withinLimits shares limits) (leb (total shares) nodes) e in
-    let x = emptySets-is (width family) shares limits (t .4) in
-    let n : length (emptySets shares limits) ≡ sets = x .0 ∙ eqb-true (length shares) sets (t .3) in
+    let k = layoutNo-kept w family sets nodes shares limits e in
+    let x = emptySets-is (width family) shares limits (k .within) in
+    let n : length (emptySets shares limits) ≡ sets = length-emptySets shares limits (omega arith) ∙ k .share in
     let z : List ℕ = replicate (leastWords sets nodes) 0 in
     decode-over (put w 0 z) (record { family = family; nodes = nodes; sets = emptySets shares limits })
-    (rw (t .0, n, t .1, x .1, x .2) (t .5))
-    (rw (n, length-put w 0 z) (leb-true (leastWords sets nodes) (length w) (t .2)))
+    (rw (k .family, n, k .size, x .0, x .1) (le-leb (total shares) nodes (k .total)))
+    (rw (n, length-put w 0 z) (k .room))

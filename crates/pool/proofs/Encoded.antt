@@ -1,23 +1,22 @@
 -- Words that hold a state (`Sound`): `decode` gives the state exactly there. Written over words that are long enough, a state is held by them; and where it is held,
 -- to write it changes nothing. Assumes nothing.
 use mathlib.Core.Path.{_≡_, refl, _∙_, subst}
-use mathlib.Core.Bool.{Bool, true, false, cond, _&&_}
+use mathlib.Core.Bool.{Bool, true, false, cond}
 use mathlib.Core.List.{List, [], _∷_}
 use Prim.Native.Nat.{ℕ, suc, _+_, _≤_}
 use native.Mathlib.Omega.{arith}
-use lib.Dec.{leb, eqb}
+use lib.Dec.{leb}
 use lib.ListN.{length, getD}
-use borrow.Author.Tests.{le-leb, leb-true, eqb-true}
+use borrow.Author.Tests.{le-leb}
 use Rattle.nets.specs.Networks.{width}
-use Rattle.nets.proofs.Strings.{and-left, and-right}
 use Rattle.nodes.specs.Words.{put, Has}
-use Rattle.nodes.specs.Parse.{Room}
-use Rattle.pool.specs.States.{SetState, State, held, claimed, isFamily, isSize, isState}
+use Rattle.pool.specs.States.{SetState, State, held, claimed, isState}
 use Rattle.pool.specs.Decode.{mark, recordAt, base, leastWords, overRecords, nodeWords, over, damaged, sound, ReadSets, badSets, okSets, isHeader, readSets, judged, decode}
 use Rattle.nodes.proofs.Put.{length-put}
 use Rattle.nodes.proofs.Has.{has-put, put-has, has-head, has-at, has-cons, has-same}
-use Rattle.pool.proofs.Claims.{isSize-is, isState-family, isState-size, isState-sets, isState-claimed, used-claimed}
-use Rattle.pool.proofs.Holds.{has-three, length-nodeWords, recordOf, Records, Holds, readSets-of, readSets-holds}
+use Rattle.pool.proofs.Claims.{isState-family, isState-size, isState-sets, isState-claimed, used-claimed}
+use Rattle.pool.proofs.Header.{IsHeader, isHeader-header, header-room}
+use Rattle.pool.proofs.Holds.{has-three, length-nodeWords, recordOf, Records, records-put, Holds, readSets-of, readSets-holds}
 
 abbrev pub headerOf : State → List ℕ
 headerOf S = mark ∷ S .family ∷ length (S .sets) ∷ S .nodes ∷ []
@@ -28,8 +27,8 @@ pub record Sound (w : List ℕ) (S : State) : Type 0 where
   pub header : Has w 0 (headerOf S)
   pub holds : Holds w (base (length (S .sets))) (S .nodes) (width (S .family)) 0 1 (S .sets)
 
--- The state that words hold is decoded,
-pub record Header (w : List ℕ) (S : State) : Type 0 where
+-- The state that words hold is decoded: their header is that of the state,
+pub record HeaderOf (w : List ℕ) (S : State) : Type 0 where
   pub known : isHeader w ≡ true
   pub family : getD w 1 0 ≡ S .family
   pub sets : getD w 2 0 ≡ length (S .sets)
@@ -37,7 +36,7 @@ pub record Header (w : List ℕ) (S : State) : Type 0 where
   pub long : leastWords (length (S .sets)) (S .nodes) ≤ length w
 
 module _ {w : List ℕ} {S : State} (h : Sound w S) where
-  pub sound-header : Header w S
+  pub sound-header : HeaderOf w S
   unfolding isHeader
   sound-header =
       let f : getD w 1 0 ≡ S .family = h .header .at 1 (omega arith) in
@@ -60,44 +59,16 @@ setsOf w = readSets w (base (getD w 2 0)) (getD w 3 0) (suc (width (getD w 1 0))
 abbrev stateOf : List ℕ → List SetState → State
 stateOf w xs = record { family = getD w 1 0; nodes = getD w 3 0; sets = xs }
 
-module _ (w : List ℕ) (e : isHeader w ≡ true) where
-  abbrev front : Bool
-  front = eqb (getD w 0 0) mark && isFamily (getD w 1 0)
-
-  abbrev back : Bool
-  back = isSize (getD w 2 0) (getD w 3 0) && leb (leastWords (getD w 2 0) (getD w 3 0)) (length w)
-
-  header-mark : getD w 0 0 ≡ mark
-  unfolding isHeader
-  header-mark = eqb-true (getD w 0 0) mark (and-left (eqb (getD w 0 0) mark) (isFamily (getD w 1 0)) (and-left front back e))
-
-  header-family : isFamily (getD w 1 0) ≡ true
-  unfolding isHeader
-  header-family = and-right (eqb (getD w 0 0) mark) (isFamily (getD w 1 0)) (and-left front back e)
-
-  header-size : isSize (getD w 2 0) (getD w 3 0) ≡ true
-  unfolding isHeader
-  header-size = and-left (isSize (getD w 2 0) (getD w 3 0)) (leb (leastWords (getD w 2 0) (getD w 3 0)) (length w)) (and-right front back e)
-
-  header-long : leastWords (getD w 2 0) (getD w 3 0) ≤ length w
-  unfolding isHeader
-  header-long =
-      leb-true (leastWords (getD w 2 0) (getD w 3 0)) (length w)
-      (and-right (isSize (getD w 2 0) (getD w 3 0)) (leb (leastWords (getD w 2 0) (getD w 3 0)) (length w)) (and-right front back e))
-
-  pub header-room : Room w (base (getD w 2 0)) (getD w 3 0)
-  header-room = omega (arith, header-long, isSize-is (getD w 2 0) (getD w 3 0) header-size)
-
-  header-sound : (xs : List SetState) → setsOf w ≡ okSets xs → leb (claimed xs) (getD w 3 0) ≡ true → Sound w (stateOf w xs)
-  unfolding isState
-  header-sound xs r c =
-      let h = readSets-holds w (base (getD w 2 0)) (getD w 3 0) header-room (width (getD w 1 0)) (getD w 2 0) 0 1 xs (omega arith) (omega arith) (omega (arith, header-long)) r in
-      record {
-        state = rw (header-family, h .1, header-size, h .0 .rules, c);
-        long = rw (h .1) header-long;
-        header = rw (h .1) (has-cons header-mark (has-three w 1 (omega (arith, header-long))));
-        holds = rw (h .1) (h .0);
-      }
+header-sound : {w : List ℕ} → IsHeader w → (xs : List SetState) → setsOf w ≡ okSets xs → leb (claimed xs) (getD w 3 0) ≡ true → Sound w (stateOf w xs)
+unfolding isState
+header-sound {w} p xs r c =
+    let h = readSets-holds w (base (getD w 2 0)) (getD w 3 0) (header-room p) (width (getD w 1 0)) (getD w 2 0) 0 1 xs (omega arith) (omega arith) (omega arith) r in
+    record {
+      state = rw (p .family, h .1, p .size, h .0 .rules, c);
+      long = rw (h .1) (p .long);
+      header = rw (h .1) (has-cons (p .marked) (has-three w 1 (omega arith)));
+      holds = rw (h .1) (h .0);
+    }
 
 never : (S : State) → damaged ≡ sound S → ⊥
 never S e = let z : _≡_ {A = ℕ} 0 1 = cc in omega arith
@@ -113,9 +84,9 @@ decode-sound w S e = go (isHeader w) (setsOf w) refl refl e
     go : (c : Bool) (r : ReadSets) → isHeader w ≡ c → setsOf w ≡ r → cond c (judged w r) damaged ≡ sound S → Sound w S
     go false r h q d = absurd (never S d)
     go true badSets h q d = absurd (never S d)
-    go true (okSets xs) h q d = fit xs (leb (claimed xs) (getD w 3 0)) (header-sound w h xs q) d
+    go true (okSets xs) h q d = fit xs (leb (claimed xs) (getD w 3 0)) (header-sound (isHeader-header w h) xs q) d
 
--- Records written: what stands before them stays, they stand, a write behind them leaves them, and to write those that stand there changes nothing.
+-- Records written: what stands before them stays, they stand, and to write those that stand there changes nothing.
 length-overRecords : (w : List ℕ) (s i : ℕ) (xs : List SetState) → length (overRecords w s i xs) ≡ length w
 unfolding overRecords
 length-overRecords w s i [] = refl
@@ -133,10 +104,6 @@ overRecords-has w s i (x ∷ xs) le =
     let u = put w (recordAt s) (recordOf i x) in
     let here : Has u (recordAt s) (recordOf i x) = put-has w (recordAt s) (recordOf i x) (omega arith) in
     (has-overRecords (s + 1) (i + held x) xs here (omega arith), overRecords-has u (s + 1) (i + held x) xs (rw (length-put w (recordAt s) (recordOf i x)) (omega arith)))
-
-records-put : (w : List ℕ) (s i : ℕ) (xs : List SetState) (q : ℕ) (ys : List ℕ) → recordAt (s + length xs) ≤ q → Records w s i xs → Records (put w q ys) s i xs
-records-put w s i [] q ys le h = tt
-records-put w s i (x ∷ xs) q ys le h = (has-put q ys (h .0) (λ k a b c d. omega arith), records-put w (s + 1) (i + held x) xs q ys (omega arith) (h .1))
 
 records-same : (w : List ℕ) (s i : ℕ) (xs : List SetState) → Records w s i xs → overRecords w s i xs ≡ w
 unfolding overRecords
@@ -165,7 +132,7 @@ over-sound w S e le =
       header = has-put b (nodeWords (S .sets)) (has-overRecords 0 1 (S .sets) (put-has w 0 (headerOf S) (omega arith)) (omega arith)) (λ k p q s t. omega arith);
       holds = record {
         rules = isState-sets S e;
-        records = records-put r 0 1 (S .sets) b (nodeWords (S .sets)) (omega arith) (overRecords-has u 0 1 (S .sets) (omega arith));
+        records = records-put r 0 1 (S .sets) b (nodeWords (S .sets)) (λ k p q s t. omega arith) (overRecords-has u 0 1 (S .sets) (omega arith));
         nodes = has-at (omega arith) (put-has r b (nodeWords (S .sets)) (omega arith));
         within = rw (length-nodeWords (width (S .family)) (S .sets) (isState-sets S e)) at few;
       };

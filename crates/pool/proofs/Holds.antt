@@ -1,60 +1,44 @@
 -- Sets in words: `readSets` gives sets exactly where the words hold them (`Holds`), the records each at its place and the tries one behind the other.
 -- Assumes nothing.
 use mathlib.Core.Path.{_≡_, refl, sym, ap, _∙_, subst}
-use mathlib.Core.Bool.{Bool, true, false, cond, _&&_}
+use mathlib.Core.Bool.{Bool, true, false, cond}
 use mathlib.Core.List.{List, [], _∷_, _++_, append-assoc}
-use Prim.Native.Nat.{ℕ, zero, suc, _+_, _≤_, _<_}
+use Prim.Native.Nat.{ℕ, zero, suc, _+_, _*_, _≤_, _<_}
 use native.Mathlib.Omega.{arith}
-use lib.Dec.{leb, eqb}
+use lib.Dec.{eqb}
 use lib.ListN.{length, getD, take, drop, length-append}
 use borrow.Author.Tests.{eq-eqb, ne-eqb, eqb-true}
 use Rattle.nets.specs.Bits.{Bits}
-use Rattle.nets.specs.Lists.{isList, nodesL}
+use Rattle.nets.specs.Lists.{nodesL}
 use Rattle.nets.specs.Tries.{Trie, none, size, levels, listOf, trieOf}
-use Rattle.nets.proofs.Strings.{and-left, and-right}
 use Rattle.nets.proofs.Nodes.{nodesL-listOf}
 use Rattle.nets.proofs.TrieOf.{isList-within, levels-trieOf, listOf-trieOf, trieOf-listOf, isList-listOf}
-use Rattle.nodes.specs.Words.{Has, place, enc}
+use Rattle.nodes.specs.Words.{put, Has, Apart, place, enc}
 use Rattle.nodes.specs.Parse.{Room, Read, bad, ok, parse, Stands}
 use Rattle.pool.specs.States.{SetState, held, used, isSet, areSets}
 use Rattle.pool.specs.Decode.{recordAt, rootAt, nodeWords, ReadSets, badSets, okSets, readSet, setOf, setBefore, readSets}
 use Rattle.pool.specs.Rules.{noSet, startOf}
-use Rattle.nodes.proofs.Has.{has-front, has-back, has-head, has-at, has-join}
+use Rattle.nodes.proofs.Has.{has-put, has-front, has-back, has-head, has-at, has-join}
 use Rattle.nodes.proofs.Tries.{length-enc}
-use Rattle.nodes.proofs.Parsed.{parse-of, stands}
+use Rattle.nodes.proofs.Parsed.{parse-of, none-stands, stands}
+use Rattle.pool.proofs.Claims.{limited, isSet-list, isSet-limited, areSets-head, areSets-tail}
 
--- The rules of one set, and its trie.
-abbrev limited : SetState → Bool
-limited x = leb (x .share) (x .limit) && leb (held x) (x .limit)
-
+-- The trie of a set.
 module _ (v : ℕ) (x : SetState) (e : isSet v x ≡ true) where
-  pub set-list : isList v (x .list) ≡ true
-  set-list = and-left (isList v (x .list)) (limited x) e
-
-  set-limited : limited x ≡ true
-  set-limited = and-right (isList v (x .list)) (limited x) e
-
-  set-listOf : listOf (trieOf (x .list)) ≡ x .list
-  set-listOf = listOf-trieOf v (x .list) set-list
+  pub set-listOf : listOf (trieOf (x .list)) ≡ x .list
+  set-listOf = listOf-trieOf v (x .list) (isSet-list v x e)
 
   pub set-size : size (trieOf (x .list)) ≡ held x
   set-size = sym (nodesL-listOf (trieOf (x .list))) ∙ ap nodesL set-listOf
 
   set-levels : levels (trieOf (x .list)) ≤ suc v
-  set-levels = levels-trieOf v (x .list) (isList-within v (x .list) set-list)
-
-module _ (v : ℕ) (x : SetState) (xs : List SetState) (e : areSets v (x ∷ xs) ≡ true) where
-  sets-head : isSet v x ≡ true
-  sets-head = and-left (isSet v x) (areSets v xs) e
-
-  sets-tail : areSets v xs ≡ true
-  sets-tail = and-right (isSet v x) (areSets v xs) e
+  set-levels = levels-trieOf v (x .list) (isList-within v (x .list) (isSet-list v x e))
 
 pub length-nodeWords : (v : ℕ) (xs : List SetState) → areSets v xs ≡ true → length (nodeWords xs) ≡ used xs
 unfolding nodeWords used
 length-nodeWords v [] e = refl
 length-nodeWords v (x ∷ xs) e =
-    omega (arith, length-append (enc (trieOf (x .list))) (nodeWords xs), length-enc (trieOf (x .list)), set-size v x (sets-head v x xs e), length-nodeWords v xs (sets-tail v x xs e))
+    omega (arith, length-append (enc (trieOf (x .list))) (nodeWords xs), length-enc (trieOf (x .list)), set-size v x (areSets-head v x xs e), length-nodeWords v xs (areSets-tail v x xs e))
 
 -- What stands in the words w, with the nodes 1..n from b on and lists of width v: the record of a set, records, a set, and sets; the first is set s and begins at node i.
 abbrev pub recordOf : ℕ → SetState → List ℕ
@@ -63,6 +47,14 @@ recordOf i x = rootAt i (x .list) ∷ x .share ∷ x .limit ∷ []
 abbrev pub Records : List ℕ → ℕ → ℕ → List SetState → Type 0
 Records w s i [] = Unit
 Records w s i (x ∷ xs) = Has w (recordAt s) (recordOf i x) × Records w (s + 1) (i + held x) xs
+
+-- a write apart from them leaves the records
+pub records-put : (w : List ℕ) (s i : ℕ) (xs : List SetState) (q : ℕ) (ys : List ℕ) → Apart (recordAt s) (8 * length xs) q (length ys) → Records w s i xs → Records (put w q ys) s i xs
+records-put w s i [] q ys far h = tt
+records-put w s i (x ∷ xs) q ys far h = (
+  has-put q ys (h .0) (λ k a b c d. far k a (omega arith) c d),
+  records-put w (s + 1) (i + held x) xs q ys (λ k a b c d. far k (omega arith) (omega arith) c d) (h .1),
+)
 
 pub record HoldsSet (w : List ℕ) (b n v s i : ℕ) (x : SetState) : Type 0 where
   pub rules : isSet v x ≡ true
@@ -88,7 +80,7 @@ module _ {w : List ℕ} {b n v s i : ℕ} {x : SetState} {xs : List SetState} (p
   holds-head : Holds w b n v s i (x ∷ xs) → HoldsSet w b n v s i x
   unfolding nodeWords used
   holds-head h =
-      let e = sets-head v x xs (h .rules) in
+      let e = areSets-head v x xs (h .rules) in
       record {
         rules = e;
         here = h .records .0;
@@ -102,19 +94,19 @@ module _ {w : List ℕ} {b n v s i : ℕ} {x : SetState} {xs : List SetState} (p
   holds-tail : Holds w b n v s i (x ∷ xs) → Holds w b n v (s + 1) (i + held x) xs
   unfolding nodeWords used
   holds-tail h =
-      let e = set-size v x (sets-head v x xs (h .rules)) in
+      let e = set-size v x (areSets-head v x xs (h .rules)) in
       record {
-        rules = sets-tail v x xs (h .rules);
+        rules = areSets-tail v x xs (h .rules);
         records = h .records .1;
         nodes = has-at (omega (arith, length-enc (trieOf (x .list)))) (has-back (enc (trieOf (x .list))) (nodeWords xs) (h .nodes));
         within = omega (arith, h .within);
       }
 
 -- The root's number tells the empty list from the others.
-root-some : (i : ℕ) (l : List Bits) → (trieOf l ≡ none → ⊥) → rootAt i l ≡ i
+pub rootAt-trie : (i : ℕ) (l : List Bits) → (trieOf l ≡ none → ⊥) → rootAt i l ≡ i
 unfolding trieOf
-root-some i [] ne = absurd (ne refl)
-root-some i (p ∷ l) ne = refl
+rootAt-trie i [] ne = absurd (ne refl)
+rootAt-trie i (p ∷ l) ne = refl
 
 trieOf-some : (p : Bits) (l : List Bits) → listOf (trieOf (p ∷ l)) ≡ p ∷ l → trieOf (p ∷ l) ≡ none → ⊥
 unfolding listOf levels
@@ -145,7 +137,7 @@ readSets-of w b n v s i (x ∷ xs) pos h =
     let g = holds-head pos h in
     let e = readSets-of w b n v (s + 1) (i + held x) xs (omega arith) (holds-tail pos h) in
     readSets-step w b n (suc v) (length xs) s i (trieOf (x .list)) (readSet-of pos g)
-    ∙ rw (setOf-of pos g, set-size v x (g .rules), e, set-limited v x (g .rules))
+    ∙ rw (setOf-of pos g, set-size v x (g .rules), e, isSet-limited v x (g .rules))
 
 -- and what is read stands there.
 never-read : (t : Trie) → bad ≡ ok t → ⊥
@@ -174,20 +166,17 @@ has-three w p le = record { fits = le; at = go }
 
 module _ (w : List ℕ) (b n : ℕ) (room : Room w b n) where
   readSet-stands : (f s i : ℕ) (t : Trie) → 1 ≤ i → i ≤ suc n → readSet w b n f s i ≡ ok t → (getD w (recordAt s) 0 ≡ rootAt i (listOf t)) × Stands w b n f i t
-  unfolding readSet size levels enc listOf
+  unfolding readSet levels listOf
   readSet-stands f s i t pos le e = go (eqb (getD w (recordAt s) 0) 0) (eqb (getD w (recordAt s) 0) i) refl refl e
     where
-      empty : Stands w b n f i none
-      empty = record { deep = omega arith; within = omega arith; has = record { fits = omega (arith, room .long); at = λ k l. absurd (omega arith) } }
-
       go : (c d : Bool) → eqb (getD w (recordAt s) 0) 0 ≡ c → eqb (getD w (recordAt s) 0) i ≡ d → cond c (ok none) (cond d (parse w b n f i) bad) ≡ ok t
           → (getD w (recordAt s) 0 ≡ rootAt i (listOf t)) × Stands w b n f i t
       go true d z q h =
           let a : none ≡ t = cc in
-          subst (λ (u : Trie). (getD w (recordAt s) 0 ≡ rootAt i (listOf u)) × Stands w b n f i u) a (eqb-true (getD w (recordAt s) 0) 0 z, empty)
+          subst (λ (u : Trie). (getD w (recordAt s) 0 ≡ rootAt i (listOf u)) × Stands w b n f i u) a (eqb-true (getD w (recordAt s) 0) 0 z, none-stands w b n f i le (omega (arith, room .long)))
       go false true z q h =
           let a = stands w b n room f i t pos h in
-          (eqb-true (getD w (recordAt s) 0) i q ∙ sym (root-some i (listOf t) (λ r. a .1 (sym (trieOf-listOf t) ∙ r))), a .0)
+          (eqb-true (getD w (recordAt s) 0) i q ∙ sym (rootAt-trie i (listOf t) (λ r. a .1 (sym (trieOf-listOf t) ∙ r))), a .0)
       go false false z q h = absurd (never-read t h)
 
   module _ (v m s i : ℕ) (pos : 1 ≤ i) (le : i ≤ suc n) (fits : recordAt (s + suc m) ≤ length w) where
@@ -243,8 +232,8 @@ startOf-is v zero i (x ∷ xs) e lt = omega arith
 startOf-is v (suc k) i (x ∷ xs) e lt =
     omega (
       arith,
-      startOf-is v k (i + held x) xs (sets-tail v x xs e) (omega arith),
+      startOf-is v k (i + held x) xs (areSets-tail v x xs e) (omega arith),
       length-append (enc (trieOf (x .list))) (nodeWords (take k xs)),
       length-enc (trieOf (x .list)),
-      set-size v x (sets-head v x xs e),
+      set-size v x (areSets-head v x xs e),
     )

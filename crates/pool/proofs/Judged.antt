@@ -1,4 +1,5 @@
--- The paths of the functions that judge a result by its nodes. Assumes nothing.
+-- Judging a result by its nodes, by the tests of the code: the room is what the claims of the other sets leave, and what is above neither the limit nor the room is
+-- granted. Assumes nothing.
 use mathlib.Core.Path.{_≡_, refl, sym, _∙_}
 use mathlib.Core.Bool.{Bool, true, false, cond}
 use mathlib.Core.List.{List}

@@ -1,18 +1,23 @@
--- The laws of a pool, from the bottom up: states and claims; what sound words hold; layout; the pass over a pool; a change of one set.
+-- The laws of a pool, from the bottom up.
+-- States: their rules and sums, and another list in one of the sets.
 pub mod Claims
+pub mod WithList
+-- The header and layout, by the tests and the loops of the code.
+pub mod Header
+pub mod Setups
+-- Words that hold a state: it is decoded there and nowhere else.
 pub mod Holds
 pub mod Encoded
 pub mod Decoded
-pub mod Setups
-pub mod Header
-pub mod Sets
+-- The pass over a pool, what it has seen, and the reports that are made of it.
 pub mod Scan
 pub mod Pass
-pub mod Sound
-pub mod Reports
-pub mod WithList
-pub mod Relinked
 pub mod Seen
+pub mod Reports
+-- A change of one set: judged, linked again, written, answered.
 pub mod Judged
+pub mod Relinked
 pub mod Changed
 pub mod Returns
+-- Each call has one outcome.
+pub mod Determined

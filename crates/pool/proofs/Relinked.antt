@@ -1,5 +1,5 @@
 -- The roots after a change: a turn of the loop that writes them, by what is still to be written; and `relinked` leaves what writing the records of the state
--- afterwards leaves. Assumes nothing.
+-- afterwards leaves, as of each record behind only the root moves. Assumes nothing.
 use mathlib.Core.Path.{_≡_, refl, sym, ap, _∙_}
 use mathlib.Core.List.{List, [], _∷_}
 use Prim.Native.Nat.{ℕ, zero, suc, _+_, _-_, _≤_, _<_}
@@ -11,7 +11,7 @@ use lib.Seq.{getD-set-other}
 use borrow.Author.Tests.{ne-eqb}
 use Rattle.nets.specs.Bits.{Bits}
 use Rattle.nets.specs.Lists.{nodesL}
-use Rattle.nets.specs.Tries.{Trie, none, node, size, levels, listOf, trieOf}
+use Rattle.nets.specs.Tries.{Trie, none, node, size, levels, listOf}
 use Rattle.nets.proofs.Nodes.{nodesL-listOf}
 use Rattle.nets.proofs.TrieOf.{trieOf-listOf}
 use Rattle.nodes.specs.Words.{put, Has}
@@ -23,7 +23,7 @@ use Rattle.pool.specs.Steps.{ownRoot, movedRoot, movedRoots, relinked, M
 use Rattle.nodes.proofs.Put.{set-put, put-behind-at, put-swap, getD-put-before}
 use Rattle.nodes.proofs.Has.{has-put, has-head, has-tail, has-same}
 use Rattle.nodes.proofs.Tries.{some}
-use Rattle.pool.proofs.Holds.{Records}
+use Rattle.pool.proofs.Holds.{Records, records-put, rootAt-trie}
 
 -- The loop: the roots behind set k and before set s of m are right.
 pub record Turn (w₀ : List ℕ) (k old new m : ℕ) (w : List ℕ) (s : ℕ) : Type 0 where
@@ -64,7 +64,8 @@ module _ {w₀ : List ℕ} {k old new m : ℕ} {w : List ℕ} {s : ℕ} (h : Tur
   unfolding movedRoots
   turn-last le = let e : m - s ≡ 0 = omega (arith, h .within) in rw e at (h .is)
 
-pub turns : (u : List ℕ) {k : ℕ} (i : ℕ) {old new : ℕ} (x : ℕ) {w : List ℕ} {s : ℕ} → Turn (set u (recordAt k) x) k old new (getD u 2 0) w s → x ≡ ownRoot i new → getD u 2 0 ≤ s → w ≡ relinked u k i old new
+pub turns : (u : List ℕ) {k : ℕ} (i : ℕ) {old new : ℕ} (x : ℕ) {w : List ℕ} {s : ℕ}
+    → Turn (set u (recordAt k) x) k old new (getD u 2 0) w s → x ≡ ownRoot i new → getD u 2 0 ≤ s → w ≡ relinked u k i old new
 unfolding relinked
 turns u {k} i x h q le = rw (← q, ← set-put u (recordAt k) x) (turn-last h le)
 
@@ -72,11 +73,6 @@ turns u {k} i x h q le = rw (← q, ← set-put u (recordAt k) x) (turn-last h l
 movedRoot-is : (i old new : ℕ) (l : List Bits) → 1 ≤ i → movedRoot old new (rootAt (i + old) l) ≡ rootAt (i + new) l
 movedRoot-is i old new [] pos = refl
 movedRoot-is i old new (p ∷ l) pos = rw (ne-eqb (i + old) 0 (λ e. omega arith)) (omega arith)
-
-rootAt-trie : (i : ℕ) (l : List Bits) → (trieOf l ≡ none → ⊥) → rootAt i l ≡ i
-unfolding trieOf
-rootAt-trie i [] ne = absurd (ne refl)
-rootAt-trie i (p ∷ l) ne = refl
 
 ownRoot-is : (i : ℕ) (t : Trie) → ownRoot i (size t) ≡ rootAt i (listOf t)
 unfolding size listOf levels
@@ -88,11 +84,6 @@ put-root : {w : List ℕ} {p x : ℕ} {ys : List ℕ} (r : ℕ) → Has w p (x �
 put-root {w} {p} {x} {ys} r h =
     sym (put-behind-at w p (p + 1) (r ∷ []) ys refl) ∙ has-same (has-put p (r ∷ []) (has-tail h) (λ k a b c d. omega arith))
 
--- a write before them leaves the records
-records-behind : (w : List ℕ) (s i : ℕ) (xs : List SetState) (q : ℕ) (ys : List ℕ) → q + length ys ≤ recordAt s → Records w s i xs → Records (put w q ys) s i xs
-records-behind w s i [] q ys le h = tt
-records-behind w s i (x ∷ xs) q ys le h = (has-put q ys (h .0) (λ k a b c d. omega arith), records-behind w (s + 1) (i + held x) xs q ys (omega arith) (h .1))
-
 -- The records behind a set that changed.
 overRecords-moved : (w : List ℕ) (s i old new : ℕ) (xs : List SetState) → 1 ≤ i → Records w s (i + old) xs → overRecords w s (i + new) xs ≡ movedRoots w old new (length xs) s
 unfolding overRecords movedRoots
@@ -103,7 +94,7 @@ overRecords-moved w s i old new (x ∷ xs) pos h =
     let root : movedRoot old new (getD w (recordAt s) 0) ≡ r = ap (movedRoot old new) (has-head (h .0)) ∙ movedRoot-is i old new (x .list) pos in
     let a : i + new + held x ≡ i + held x + new = omega arith in
     let b : i + old + held x ≡ i + held x + old = omega arith in
-    let g : Records u (s + 1) (i + held x + old) xs = rw b at (records-behind w (s + 1) (i + old + held x) xs (recordAt s) (r ∷ []) (omega arith) (h .1)) in
+    let g : Records u (s + 1) (i + held x + old) xs = rw b at (records-put w (s + 1) (i + old + held x) xs (recordAt s) (r ∷ []) (λ k c d e f. omega arith) (h .1)) in
     ap (λ y. overRecords y (s + 1) (i + new + held x) xs) (put-root r (h .0))
     ∙ ap (λ j. overRecords u (s + 1) j xs) a
     ∙ overRecords-moved u (s + 1) (i + held x) old new xs (omega arith) g
@@ -118,7 +109,7 @@ overRecords-with zero l w s i (x ∷ xs) pos lt h =
     let u = put w (recordAt s) (rootAt i l ∷ []) in
     let a : s + 0 ≡ s = omega arith in
     let b : suc (length xs) - 1 ≡ length xs = omega arith in
-    let g = records-behind w (s + 1) (i + held x) xs (recordAt s) (rootAt i l ∷ []) (omega arith) (h .1) in
+    let g = records-put w (s + 1) (i + held x) xs (recordAt s) (rootAt i l ∷ []) (λ j c d e f. omega arith) (h .1) in
     rw (a, b) (ap (λ y. overRecords y (s + 1) (i + nodesL l) xs) (put-root (rootAt i l) (h .0)) ∙ overRecords-moved u (s + 1) i (held x) (nodesL l) xs pos g)
 overRecords-with (suc k) l w s i (x ∷ xs) pos lt h =
     let a : s + suc k ≡ s + 1 + k = omega arith in

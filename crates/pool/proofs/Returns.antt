@@ -1,4 +1,4 @@
--- The returns of a changing call, one law for each, by the tests on the way to it. Assumes nothing.
+-- The returns of a changing call, one law for each, by the tests on the way to it; and the words that it leaves are sound. Assumes nothing.
 use mathlib.Core.Path.{_≡_, refl, sym, ap, _∙_}
 use mathlib.Core.Bool.{Bool, true, false, cond}
 use mathlib.Core.List.{List}

@@ -1,4 +1,5 @@
--- The pass over the sets: `scan` is the loop, set by set, and it finds what `surveyOf` says of the decoded words. Assumes nothing.
+-- The pass over the sets: `scan` is the loop, which judges set by set, and it finds what `surveyOf` says of the decoded words, for which all the sets are read before
+-- they are judged: `finish` is what both come to. Assumes nothing.
 use mathlib.Core.Path.{_≡_, refl, sym, _∙_}
 use mathlib.Core.Bool.{Bool, true, false, cond, _&&_}
 use mathlib.Core.List.{List, [], _∷_}
@@ -8,14 +9,15 @@ use native.Mathlib.Nat.{add-zero, zero-add, add-assoc}
 use lib.Dec.{eqb, leb}
 use lib.ListN.{getD}
 use borrow.Author.Tests.{le-leb, lt-leb, eq-eqb, ne-eqb, leb-true, leb-false}
+use Rattle.nets.specs.Networks.{width}
 use Rattle.nets.specs.Tries.{size}
 use Rattle.nets.proofs.Nodes.{nodesL-listOf, nodesL-empty}
 use Rattle.nodes.specs.Parse.{Read, bad, ok}
 use Rattle.pool.specs.States.{SetState, held, claim, used, claimed}
-use Rattle.pool.specs.Decode.{damaged, sound, ReadSets, badSets, okSets, setOf, setBefore, isHeader, readSet, readSets, judged, decode}
+use Rattle.pool.specs.Decode.{base, damaged, sound, ReadSets, badSets, okSets, setOf, setBefore, isHeader, readSet, readSets, judged, decode}
 use Rattle.pool.specs.Rules.{shareIn, limitIn, noSet, noSurvey, startOf, surveyOf}
 use Rattle.pool.specs.declared.Survey.{Survey}
-use Rattle.pool.proofs.Header.{setsIn, nodesIn, baseIn, levelsIn}
+use Rattle.pool.proofs.Claims.{limited}
 
 -- Start and nodes of set k, of the sets from s and number i on; p where it is not among them.
 abbrev chosen : ℕ → ℕ → ℕ → ℕ × ℕ → List SetState → ℕ × ℕ
@@ -36,10 +38,6 @@ chosen-start (suc j) s i (x ∷ xs) =
 -- what the code makes of its numbers at the end
 abbrev pub found : ℕ → ℕ → ℕ × ℕ → Survey
 found i c p = record { sound = true; used = i - 1; claimed = c; at = p .0; held = p .1 }
-
--- a set within its limit
-abbrev allowed : SetState → Bool
-allowed x = leb (x .share) (x .limit) && leb (held x) (x .limit)
 
 module _ (w : List ℕ) (b n f k : ℕ) where
   -- set s, of m nodes: where it is within its limit and its claim within the pool, the pass goes on
@@ -64,30 +62,30 @@ module _ (w : List ℕ) (b n f k : ℕ) where
   finish s i c p (okSets xs) = cond (leb (c + claimed xs) n) (found (i + used xs) (c + claimed xs) (chosen k s i p xs)) noSurvey
 
   module _ (s i c : ℕ) (p : ℕ × ℕ) (x : SetState) where
-    finish-off : (r : ReadSets) → allowed x ≡ false → finish s i c p (setBefore x r) ≡ noSurvey
+    finish-off : (r : ReadSets) → limited x ≡ false → finish s i c p (setBefore x r) ≡ noSurvey
     finish-off badSets e = refl
     finish-off (okSets xs) e = rw e
 
     finish-over : (r : ReadSets) → n < c + claim x → finish s i c p (setBefore x r) ≡ noSurvey
     unfolding claimed
     finish-over badSets e = refl
-    finish-over (okSets xs) e = go (allowed x)
+    finish-over (okSets xs) e = go (limited x)
       where
         go : (q : Bool) → finish s i c p (cond q (okSets (x ∷ xs)) badSets) ≡ noSurvey
         go true = rw (lt-leb (c + (claim x + claimed xs)) n (omega arith))
         go false = refl
 
-    finish-on : (r : ReadSets) → allowed x ≡ true → finish (s + 1) (i + held x) (c + claim x) (cond (eqb s k) (i, held x) p) r ≡ finish s i c p (setBefore x r)
+    finish-on : (r : ReadSets) → limited x ≡ true → finish (s + 1) (i + held x) (c + claim x) (cond (eqb s k) (i, held x) p) r ≡ finish s i c p (setBefore x r)
     unfolding used claimed
     finish-on badSets e = refl
     finish-on (okSets xs) e = rw (e, add-assoc c (claim x) (claimed xs), add-assoc i (held x) (used xs))
 
     finish-set : (r : ReadSets) (z : Survey)
         → (c + claim x ≤ n → z ≡ finish (s + 1) (i + held x) (c + claim x) (cond (eqb s k) (i, held x) p) r)
-        → cond (allowed x) (cond (leb (c + claim x) n) z noSurvey) noSurvey ≡ finish s i c p (setBefore x r)
-    finish-set r z next = go (allowed x) (leb (c + claim x) n) refl refl
+        → cond (limited x) (cond (leb (c + claim x) n) z noSurvey) noSurvey ≡ finish s i c p (setBefore x r)
+    finish-set r z next = go (limited x) (leb (c + claim x) n) refl refl
       where
-        go : (q o : Bool) → allowed x ≡ q → leb (c + claim x) n ≡ o → cond q (cond o z noSurvey) noSurvey ≡ finish s i c p (setBefore x r)
+        go : (q o : Bool) → limited x ≡ q → leb (c + claim x) n ≡ o → cond q (cond o z noSurvey) noSurvey ≡ finish s i c p (setBefore x r)
         go false o d e = sym (finish-off r d)
         go true false d e = sym (finish-over r (leb-false (c + claim x) n e))
         go true true d e = next (leb-true (c + claim x) n e) ∙ finish-on r d
@@ -108,27 +106,27 @@ module _ (w : List ℕ) (b n f k : ℕ) where
           rw (← nodesL-listOf t)
           (finish-set s i c p x (readSets w b n f m (s + 1) (i + held x)) (scan m (s + 1) (i + held x) (c + claim x) q) (ih (i + held x) (c + claim x) q))
 
-finish-judged : (w : List ℕ) (b f k : ℕ) (r : ReadSets) → finish w b (nodesIn w) f k 0 1 0 (0, 0) r ≡ surveyOf (judged w r) k
+finish-judged : (w : List ℕ) (b f k : ℕ) (r : ReadSets) → finish w b (getD w 3 0) f k 0 1 0 (0, 0) r ≡ surveyOf (judged w r) k
 unfolding surveyOf
 finish-judged w b f k badSets = refl
-finish-judged w b f k (okSets xs) = rw (zero-add (claimed xs)) (go (leb (claimed xs) (nodesIn w)))
+finish-judged w b f k (okSets xs) = rw (zero-add (claimed xs)) (go (leb (claimed xs) (getD w 3 0)))
   where
     start : chosen k 0 1 (0, 0) xs ≡ (startOf k 1 xs, held (getD xs k noSet))
     start = rw (zero-add k) at (chosen-start k 0 1 xs)
 
     go : (o : Bool) → cond o (found (1 + used xs) (claimed xs) (chosen k 0 1 (0, 0) xs)) noSurvey
-        ≡ surveyOf (cond o (sound (record { family = getD w 1 0; nodes = nodesIn w; sets = xs })) damaged) k
+        ≡ surveyOf (cond o (sound (record { family = getD w 1 0; nodes = getD w 3 0; sets = xs })) damaged) k
     go true = let e : 1 + used xs - 1 ≡ used xs = omega arith in rw (start, e)
     go false = refl
 
--- LAW: from the first set on, the pass finds what the decoded state says; without a header there is nothing to find
-pub scan-survey : (w : List ℕ) (k : ℕ) → isHeader w ≡ true → scan w (baseIn w) (nodesIn w) (levelsIn w) k (setsIn w) 0 1 0 (0, 0) ≡ surveyOf (decode w) k
+-- From the first set on, the pass finds what the decoded state says; without a header there is nothing to find.
+pub scan-survey : (w : List ℕ) (k : ℕ) → isHeader w ≡ true → scan w (base (getD w 2 0)) (getD w 3 0) (suc (width (getD w 1 0))) k (getD w 2 0) 0 1 0 (0, 0) ≡ surveyOf (decode w) k
 unfolding decode
 scan-survey w k h =
-    let b = baseIn w in
-    let n = nodesIn w in
-    let f = levelsIn w in
-    scan-finish w b n f k (setsIn w) 0 1 0 (0, 0) (omega arith) ∙ rw h (finish-judged w b f k (readSets w b n f (setsIn w) 0 1))
+    let b = base (getD w 2 0) in
+    let n = getD w 3 0 in
+    let f = suc (width (getD w 1 0)) in
+    scan-finish w b n f k (getD w 2 0) 0 1 0 (0, 0) (omega arith) ∙ rw h (finish-judged w b f k (readSets w b n f (getD w 2 0) 0 1))
 
 pub surveyOf-headless : (w : List ℕ) (k : ℕ) → isHeader w ≡ false → noSurvey ≡ surveyOf (decode w) k
 unfolding decode surveyOf

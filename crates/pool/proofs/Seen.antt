@@ -1,4 +1,5 @@
--- What a survey says of the state (`Seen`), its numbers among those of the words (`Figures`), and what stands before and behind its set. Assumes nothing.
+-- What a survey says of the state (`Seen`): its numbers are those of the decoded state. So they are in order among the numbers of the words (`Figures`), and the words of
+-- its set, and those before and behind it, stand where they say. Assumes nothing.
 use mathlib.Core.Path.{_≡_, refl, sym, ap, _∙_}
 use mathlib.Core.Bool.{true, false, false≢true, true≢false}
 use mathlib.Core.List.{List, _++_}
@@ -16,10 +17,11 @@ use Rattle.pool.specs.Steps.{Surveyed, behindAt}
 use Rattle.pool.specs.declared.Survey.{Survey}
 use Rattle.nodes.proofs.Has.{has-front, has-back, has-at, has-seg}
 use Rattle.nodes.proofs.Tries.{length-enc}
-use Rattle.pool.proofs.Claims.{isSize-is, isState-size, isState-sets, isState-claimed, used-claimed, claimedBut-is}
-use Rattle.pool.proofs.Holds.{set-size, startOf-is}
-use Rattle.pool.proofs.Encoded.{Header}
-use Rattle.pool.proofs.Decoded.{decode-header, decode-state, decode-has, decode-used, decode-set, decode-share, decode-parts}
+use Rattle.pool.proofs.Claims.{isState-claimed, used-claimed, claimedBut-is}
+use Rattle.pool.proofs.Header.{IsHeader, isHeader-header}
+use Rattle.pool.proofs.Holds.{set-size}
+use Rattle.pool.proofs.Encoded.{HeaderOf}
+use Rattle.pool.proofs.Decoded.{decode-header, decode-state, decode-has, decode-used, decode-set, decode-share, decode-at, decode-parts}
 
 -- the words hold the state S, which has a set k, and v is what a pass over them finds out
 pub record Seen (w : List ℕ) (S : State) (k : ℕ) (v : Survey) : Type 0 where
@@ -40,12 +42,12 @@ module _ (w : List ℕ) (k : ℕ) (v : Survey) (e : v ≡ surveyOf (decode w) k)
   pub survey-sound : v .sound ≡ true → (S : State) × (decode w ≡ sound S)
   survey-sound h = cases (decode w) k .0 (ap (λ (x : Survey). x .sound) (sym e) ∙ h)
 
+  pub survey-header : v .sound ≡ true → IsHeader w
+  survey-header h = let x = survey-sound h in isHeader-header w (decode-header w (x .0) (x .1) .known)
+
   -- the first words can be read
   pub survey-long : v .sound ≡ true → 64 < length w
-  survey-long h =
-      let x = survey-sound h in
-      let a = decode-header w (x .0) (x .1) in
-      omega (arith, a .long, isSize-is (length (x .0 .sets)) (x .0 .nodes) (isState-size (x .0) (decode-state w (x .0) (x .1))))
+  survey-long h = omega (arith, survey-header h)
 
   pub survey-damaged : v .sound ≡ false → decode w ≡ damaged
   survey-damaged h = cases (decode w) k .1 (ap (λ (x : Survey). x .sound) (sym e) ∙ h)
@@ -90,7 +92,7 @@ placeOf w v = place (base (getD w 2 0)) (v .at)
 abbrev pub before : State → ℕ → List ℕ
 before S k = nodeWords (take k (S .sets))
 
-abbrev trieAt : State → ℕ → Trie
+abbrev pub trieAt : State → ℕ → Trie
 trieAt S k = trieOf (setAt S k .list)
 
 abbrev pub behind : State → ℕ → List ℕ
@@ -100,14 +102,14 @@ module _ {w : List ℕ} {S : State} {k : ℕ} {v : Survey} (h : Seen w S k v) wh
   pub seen-state : isState S ≡ true
   seen-state = decode-state w S (h .decoded)
 
-  pub seen-header : Header w S
+  pub seen-header : HeaderOf w S
   seen-header = decode-header w S (h .decoded)
 
-  own-size : length (enc (trieAt S k)) ≡ v .held
-  own-size = length-enc (trieAt S k) ∙ set-size (width (S .family)) (setAt S k) (decode-set w S (h .decoded) k (h .known) .rules) ∙ sym (h .held)
+  pub own-length : length (enc (trieAt S k)) ≡ v .held
+  own-length = length-enc (trieAt S k) ∙ set-size (width (S .family)) (setAt S k) (decode-set w S (h .decoded) k (h .known) .rules) ∙ sym (h .held)
 
   pub before-length : v .at ≡ 1 + length (before S k)
-  before-length = h .at ∙ startOf-is (width (S .family)) k 1 (S .sets) (isState-sets S seen-state) (h .known)
+  before-length = h .at ∙ decode-parts w S (h .decoded) k (h .known) .1
 
   parts : nodeWords (S .sets) ≡ before S k ++ (enc (trieAt S k) ++ behind S k)
   parts = decode-parts w S (h .decoded) k (h .known) .0
@@ -118,12 +120,15 @@ module _ {w : List ℕ} {S : State} {k : ℕ} {v : Survey} (h : Seen w S k v) wh
   pub before-has : Has w (base (length (S .sets))) (before S k)
   before-has = has-front (before S k) (enc (trieAt S k) ++ behind S k) parts-has
 
+  pub own-has : Has w (placeOf w v) (enc (trieAt S k))
+  own-has = has-at (omega (arith, h .at, seen-header .sets)) (decode-at w S (h .decoded) k (h .known) .has)
+
   pub behind-length : v .at + v .held + length (behind S k) ≡ v .used + 1
   behind-length =
       omega (
         arith,
         before-length,
-        own-size,
+        own-length,
         h .used,
         decode-used w S (h .decoded) .0,
         ap length parts,
@@ -132,7 +137,7 @@ module _ {w : List ℕ} {S : State} {k : ℕ} {v : Survey} (h : Seen w S k v) wh
       )
 
   pub behind-has : Has w (place (base (length (S .sets))) (v .at + v .held)) (behind S k)
-  behind-has = has-at (omega (arith, before-length, own-size)) (has-back (enc (trieAt S k)) (behind S k) (has-back (before S k) (enc (trieAt S k) ++ behind S k) parts-has))
+  behind-has = has-at (omega (arith, before-length, own-length)) (has-back (enc (trieAt S k)) (behind S k) (has-back (before S k) (enc (trieAt S k) ++ behind S k) parts-has))
 
   -- in words in which they still stand
   pub behindAt-is : {u : List ℕ} → Has u (place (base (length (S .sets))) (v .at + v .held)) (behind S k) → behindAt u (base (getD w 2 0)) v ≡ behind S k
@@ -143,14 +148,14 @@ module _ {w : List ℕ} {S : State} {k : ℕ} {v : Survey} (h : Seen w S k v) wh
 
   pub seen-figures : Figures w k v
   seen-figures =
-      let d = isSize-is (length (S .sets)) (S .nodes) (isState-size S seen-state) in
+      let d = isHeader-header w (seen-header .known) in
       let c = claimedBut-is k (S .sets) (h .known) in
       let x = isState-claimed S seen-state in
       record {
         known = omega (arith, h .known, seen-header .sets);
-        sets = omega (arith, seen-header .sets);
-        nodes = omega (arith, seen-header .nodes);
-        long = omega (arith, seen-header .sets, seen-header .nodes, seen-header .long);
+        sets = omega arith;
+        nodes = omega arith;
+        long = d .long;
         first = omega (arith, before-length);
         last = omega (arith, behind-length);
         used = omega (arith, h .used, h .claimed, used-claimed (S .sets));

@@ -1,4 +1,5 @@
--- Laws of layout: a turn of each of its loops, whose invariant says that what is still to come completes the whole, and the words that it leaves. Assumes nothing.
+-- Layout: a turn of each of its loops, whose invariant says that what is still to come completes the whole; the rules of a setup, taken apart; the words that it leaves.
+-- Assumes nothing.
 use mathlib.Core.Bool.{true, false, _&&_, and-false}
 use mathlib.Core.List.{List, [], _∷_}
 use mathlib.Core.Path.{_≡_, refl, sym, ap, _∙_}
@@ -82,25 +83,37 @@ module _ {sets nodes : ℕ} {shares limits : List ℕ} {left s : ℕ} (h : Shari
   unfolding total
   sharesFit-end l = let k : length shares ≤ s = omega arith in sym (le-leb 0 left (omega arith)) ∙ rw (drop-of-length-le shares k) at (h .rest)
 
--- what the writes need of a setup that keeps the rules
-pub record Kept (words sets nodes : ℕ) (shares limits : List ℕ) : Type 0 where
+-- is_setup: the rules that a setup keeps, taken apart
+pub record Kept (words f sets nodes : ℕ) (shares limits : List ℕ) : Type 0 where
+  pub family : isFamily f ≡ true
+  pub size : isSize sets nodes ≡ true
   pub room : leastWords sets nodes ≤ words
   pub share : length shares ≡ sets
   pub limit : length limits ≡ sets
+  pub within : withinLimits shares limits ≡ true
+  pub total : total shares ≤ nodes
 
-pub isSetup-kept : (words family sets nodes : ℕ) (shares limits : List ℕ) → isSetup words family sets nodes shares limits ≡ true → Kept words sets nodes shares limits
+pub isSetup-kept : (words family sets nodes : ℕ) (shares limits : List ℕ) → isSetup words family sets nodes shares limits ≡ true → Kept words family sets nodes shares limits
 unfolding isSetup sharesFit
 isSetup-kept words family sets nodes shares limits e =
     let p = isFamily family && isSize sets nodes in
     let q = leb (leastWords sets nodes) words in
     let a = eqb (length shares) sets in
     let b = eqb (length limits) sets in
-    let r = withinLimits shares limits && leb (total shares) nodes in
-    let f = and-left (a && b) r (and-right (p && q) (a && b && r) e) in
+    let c = withinLimits shares limits in
+    let d = leb (total shares) nodes in
+    let f = and-left (p && q) (a && b && (c && d)) e in
+    let g = and-right (p && q) (a && b && (c && d)) e in
+    let h = and-left (a && b) (c && d) g in
+    let k = and-right (a && b) (c && d) g in
     record {
-      room = leb-true (leastWords sets nodes) words (and-right p q (and-left (p && q) (a && b && r) e));
-      share = eqb-true (length shares) sets (and-left a b f);
-      limit = eqb-true (length limits) sets (and-right a b f);
+      family = and-left (isFamily family) (isSize sets nodes) (and-left p q f);
+      size = and-right (isFamily family) (isSize sets nodes) (and-left p q f);
+      room = leb-true (leastWords sets nodes) words (and-right p q f);
+      share = eqb-true (length shares) sets (and-left a b h);
+      limit = eqb-true (length limits) sets (and-right a b h);
+      within = and-left c d k;
+      total = leb-true (total shares) nodes (and-right c d k);
     }
 
 -- stores one behind the other are one write
@@ -171,7 +184,7 @@ module _ {shares limits w₀ w : List ℕ} {s : ℕ} (h : Recording shares limit
   records-end l = rw (drop-of-length-le shares l) at (h .rest)
 
 -- empty sets: as many as there are shares, and no node
-length-emptySets : (shares limits : List ℕ) → length shares ≡ length limits → length (emptySets shares limits) ≡ length shares
+pub length-emptySets : (shares limits : List ℕ) → length shares ≡ length limits → length (emptySets shares limits) ≡ length shares
 length-emptySets [] limits e = refl
 length-emptySets (x ∷ shares) [] e = absurd (omega arith)
 length-emptySets (x ∷ shares) (y ∷ limits) e = ap suc (length-emptySets shares limits (omega arith))

@@ -1,6 +1,7 @@
--- A state with another list in one of its sets: what stays, the sums of nodes and claims, and when it is a state again. Assumes nothing.
+-- A state with another list in one of its sets: what stays, the sums of nodes and claims, in which only that set's terms differ, and when it is a state again.
+-- Assumes nothing.
 use mathlib.Core.Path.{_≡_, refl, ap}
-use mathlib.Core.Bool.{true, _&&_}
+use mathlib.Core.Bool.{true}
 use mathlib.Core.List.{List, [], _∷_}
 use Prim.Native.Nat.{ℕ, zero, suc, _+_, _≤_, _<_}
 use native.Mathlib.Omega.{arith}
@@ -10,11 +11,11 @@ use borrow.Author.Tests.{le-leb}
 use Rattle.nets.specs.Bits.{Bits}
 use Rattle.nets.specs.Lists.{isList, nodesL}
 use Rattle.nets.specs.Networks.{width}
-use Rattle.nets.proofs.Strings.{and-left, and-right}
-use Rattle.pool.specs.States.{SetState, State, held, claim, used, claimed, claimedBut, freeOf, roomOf, isSet, areSets, isState}
+use Rattle.nets.proofs.Strings.{and-left}
+use Rattle.pool.specs.States.{SetState, State, held, claim, used, claimed, claimedBut, freeOf, roomOf, areSets, isState}
 use Rattle.pool.specs.Rules.{noSet}
 use Rattle.pool.specs.Changes.{setAt, listAt, setWith, setsWith, withList}
-use Rattle.pool.proofs.Claims.{isState-family, isState-size, isState-sets, isState-claimed, claimedBut-is, freeOf-is}
+use Rattle.pool.proofs.Claims.{isState-family, isState-size, isState-sets, isState-claimed, isSet-limited, areSets-head, areSets-tail, claimedBut-is, freeOf-is}
 
 -- Sets.
 pub length-setsWith : (k : ℕ) (l : List Bits) (ss : List SetState) → length (setsWith k l ss) ≡ length ss
@@ -64,11 +65,9 @@ claimedBut-setsWith (suc k) l (s ∷ ss) = rw (claimedBut-setsWith k l ss)
 areSets-setsWith : (w k : ℕ) (l : List Bits) (ss : List SetState) → areSets w ss ≡ true → isList w l ≡ true → nodesL l ≤ getD ss k noSet .limit → areSets w (setsWith k l ss) ≡ true
 areSets-setsWith w k l [] e i le = refl
 areSets-setsWith w zero l (s ∷ ss) e i le =
-    let x = and-left (isSet w s) (areSets w ss) e in
-    let y = and-right (isList w (s .list)) (leb (s .share) (s .limit) && leb (held s) (s .limit)) x in
-    rw (i, and-left (leb (s .share) (s .limit)) (leb (held s) (s .limit)) y, le-leb (nodesL l) (s .limit) le) (and-right (isSet w s) (areSets w ss) e)
-areSets-setsWith w (suc k) l (s ∷ ss) e i le =
-    rw (and-left (isSet w s) (areSets w ss) e) (areSets-setsWith w k l ss (and-right (isSet w s) (areSets w ss) e) i le)
+    let x = and-left (leb (s .share) (s .limit)) (leb (held s) (s .limit)) (isSet-limited w s (areSets-head w s ss e)) in
+    rw (i, x, le-leb (nodesL l) (s .limit) le) (areSets-tail w s ss e)
+areSets-setsWith w (suc k) l (s ∷ ss) e i le = rw (areSets-head w s ss e) (areSets-setsWith w k l ss (areSets-tail w s ss e) i le)
 
 -- States.
 module _ (S : State) (k : ℕ) (l : List Bits) where

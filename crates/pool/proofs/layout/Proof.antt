@@ -1,4 +1,4 @@
--- `pool::layout` meets its contract: each answer is a law over the test and what the three writes ensure. Assumes nothing.
+-- `layout` meets its contract: each answer is a law over the test and what the three writes ensure. Assumes nothing.
 use denote.Ref.{now}
 use mathlib.Core.Bool.{true}
 use mathlib.Core.Path.{_≡_, _∙_, sym}

@@ -1,4 +1,4 @@
--- `checking::in_limit` meets its contract. Assumes nothing.
+-- `checking::in_limit` meets its contract, by its test. Assumes nothing.
 use borrow.Author.Needs.{needs}
 use borrow.Author.Tests.{le-leb, lt-leb}
 use Rattle.pool.proofs.checking.in_limit.Statement.{statement}

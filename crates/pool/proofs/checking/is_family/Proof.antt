@@ -1,4 +1,4 @@
--- `checking::is_family` meets its contract. Assumes nothing.
+-- `checking::is_family` meets its contract, by its test. Assumes nothing.
 use borrow.Author.Tests.{eq-eqb, ne-eqb}
 use Rattle.pool.proofs.checking.is_family.Statement.{statement}
 use Rattle.pool.proofs.checking.is_family.Tie as tie

@@ -1,16 +1,17 @@
--- `checking::is_header` meets its contract. Assumes nothing.
+-- `checking::is_header` meets its contract: its tests are those of `isHeader`, and no sum wraps behind `is_size`. Assumes nothing.
 use denote.Ref.{now}
 use mathlib.Core.Path.{sym, _∙_}
 use native.Mathlib.Omega.{arith}
 use lib.ListN.{getD}
 use borrow.Author.Needs.{needs}
 use borrow.Author.Tests.{not-true, not-false}
-use Rattle.pool.proofs.Header.{Sized, isSize-sized, isHeader-short, isHeader-mark, isHeader-family, isHeader-size, isHeader-long}
+use Rattle.pool.proofs.Claims.{Sized, isSize-is}
+use Rattle.pool.proofs.Header.{isHeader-short, isHeader-mark, isHeader-family, isHeader-size, isHeader-long}
 use Rattle.pool.proofs.checking.is_header.Statement.{statement}
 use Rattle.pool.proofs.checking.is_header.Tie as tie
 
 small : (c : tie.Else4) → let w = now (c .before .before .before .before .before .before .before .before .before .before .before .args .w) in Sized (getD w 2 0) (getD w 3 0)
-small c = isSize-sized _ _ (sym (c .before .is-size .ensures) ∙ not-false _ (c .if4 .left))
+small c = isSize-is _ _ (sym (c .before .is-size .ensures) ∙ not-false _ (c .if4 .left))
 
 pub is-header-spec : {M : Type 1} → statement M
 is-header-spec =

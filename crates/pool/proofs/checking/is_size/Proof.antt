@@ -1,4 +1,4 @@
--- `checking::is_size` meets its contract. Assumes nothing.
+-- `checking::is_size` meets its contract: its tests are those of `isSize`. Assumes nothing.
 use borrow.Author.Tests.{le-leb, lt-leb}
 use Rattle.pool.proofs.checking.is_size.Statement.{statement}
 use Rattle.pool.proofs.checking.is_size.Tie as tie

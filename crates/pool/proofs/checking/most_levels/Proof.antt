@@ -1,4 +1,4 @@
--- `checking::most_levels` meets its contract. Assumes nothing.
+-- `checking::most_levels` meets its contract, by the width of each family. Assumes nothing.
 use borrow.Author.Tests.{eq-eqb, ne-eqb}
 use Rattle.nets.specs.Networks.{width}
 use Rattle.pool.proofs.checking.most_levels.Statement.{statement}

@@ -1,4 +1,4 @@
--- `checking::picked` meets its contract. Assumes nothing.
+-- `checking::picked` meets its contract, by its test. Assumes nothing.
 use borrow.Author.Tests.{eq-eqb, ne-eqb}
 use Rattle.pool.proofs.checking.picked.Statement.{statement}
 use Rattle.pool.proofs.checking.picked.Tie as tie

@@ -1,7 +1,7 @@
--- `checking::set_end` meets its contract. Assumes nothing.
+-- `checking::set_end` meets its contract: the root is none, or elsewhere, or where the trie is read. Assumes nothing.
 use mathlib.Core.Path.{_∙_}
 use borrow.Author.Needs.{needs}
-use Rattle.pool.proofs.Sets.{readSet-none, readSet-off, readSet-at}
+use Rattle.pool.proofs.Pass.{readSet-none, readSet-off, readSet-at}
 use Rattle.pool.proofs.checking.set_end.Statement.{statement}
 use Rattle.pool.proofs.checking.set_end.Tie as tie
 

@@ -1,4 +1,4 @@
--- `checking::survey` meets its contract. Assumes nothing.
+-- `checking::survey` meets its contract: without a header there is nothing to find. Assumes nothing.
 use mathlib.Core.Path.{sym, _∙_}
 use borrow.Author.Needs.{needs}
 use Rattle.pool.proofs.Scan.{surveyOf-headless}

@@ -1,9 +1,8 @@
 -- `checking::survey_sets` meets its contract. The loop's invariant: what is left to scan completes the answer. Assumes nothing.
-use mathlib.Core.Path.{sym, _∙_}
+use mathlib.Core.Path.{_∙_}
 use Prim.Native.Nat.{_-_}
 use native.Mathlib.Omega.{arith}
 use borrow.Author.Needs.{needs}
-use borrow.Author.Tests.{not-true, not-false}
 use Rattle.pool.proofs.Header.{isHeader-header}
 use Rattle.pool.proofs.Pass.{Pass, pass-start, pass-done, pass-bad, pass-up, pass-off, pass-over, pass-on}
 use Rattle.pool.proofs.checking.survey_sets.Statement.{statement}
@@ -41,7 +40,7 @@ survey-sets-spec =
     let l = c .before .before in
     let d = l .before .before in
     c .no-survey2 .ensures
-    ∙ pass-off (d .before .before .loop .inv) (d .before .loop-test .taken) (d .set-end .ensures) (l .before .if1 .left) (sym (l .in-limit .ensures) ∙ not-true _ (c .before .if2 .taken)))
+    ∙ pass-off (d .before .before .loop .inv) (d .before .loop-test .taken) (d .set-end .ensures) (l .before .if1 .left) (l .in-limit .ensures) (c .before .if2 .taken))
     (λ c κs. search needs)
     (λ c. search needs)
     (λ c κs. search needs)
@@ -50,8 +49,8 @@ survey-sets-spec =
     let l = g .before .before in
     let d = l .before .before in
     c .no-survey3 .ensures
-    ∙ pass-over (d .before .before .loop .inv) (d .before .loop-test .taken) (d .set-end .ensures) (l .before .if1 .left) (sym (l .in-limit .ensures) ∙ not-false _ (g .before .if2 .left))
-    (g .claim-at .ensures) (c .before .if3 .taken))
+    ∙ pass-over (d .before .before .loop .inv) (d .before .loop-test .taken) (d .set-end .ensures) (l .before .if1 .left) (l .in-limit .ensures) (g .before .if2 .left) (g .claim-at .ensures)
+    (c .before .if3 .taken))
     (λ c. search needs)
     (λ c κs. search needs)
     (λ c κs. search needs)
@@ -62,7 +61,7 @@ survey-sets-spec =
     let l = g .before .before in
     let d = l .before .before in
     rw (c .before .picked .ensures, c .picked2 .ensures)
-    (pass-on (d .before .before .loop .inv) (d .before .loop-test .taken) (d .set-end .ensures) (l .before .if1 .left) (sym (l .in-limit .ensures) ∙ not-false _ (g .before .if2 .left))
-    (g .claim-at .ensures) (c .before .before .if3 .left)))
+    (pass-on (d .before .before .loop .inv) (d .before .loop-test .taken) (d .set-end .ensures) (l .before .if1 .left) (l .in-limit .ensures) (g .before .if2 .left) (g .claim-at .ensures)
+    (c .before .before .if3 .left)))
     (λ c. search needs)
     (λ c. pass-done (c .before .loop .inv) (c .loop-test .left)))

@@ -1,4 +1,4 @@
--- `pool::laying::clear` meets its contract. The loop's invariant: the zeros to come complete it. Assumes nothing.
+-- `laying::clear` meets its contract. The loop's invariant: the zeros to come complete it. Assumes nothing.
 use Prim.Native.Nat.{_-_}
 use borrow.Author.Needs.{needs}
 use Rattle.pool.proofs.Setups.{Clearing, clear-start, clear-turn, clear-end}

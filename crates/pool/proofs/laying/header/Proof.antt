@@ -1,4 +1,4 @@
--- `pool::laying::header` meets its contract: four stores are one write. Assumes nothing.
+-- `laying::header` meets its contract: four stores are one write. Assumes nothing.
 use native.Mathlib.Omega.{arith}
 use lib.ListN.{length-set}
 use borrow.Author.Needs.{needs}

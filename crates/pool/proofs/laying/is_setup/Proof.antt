@@ -1,4 +1,4 @@
--- `pool::laying::is_setup` meets its contract: the flag after each test is the conjunction so far. Assumes nothing.
+-- `laying::is_setup` meets its contract: the flag after each test is the conjunction so far. Assumes nothing.
 use mathlib.Core.Bool.{_&&_}
 use mathlib.Core.Logic.{⊎-elim}
 use mathlib.Core.Path.{_≡_, _∙_}

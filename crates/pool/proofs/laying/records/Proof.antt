@@ -1,4 +1,4 @@
--- `pool::laying::records` meets its contract. The loop's invariant: the records to come complete it. Assumes nothing.
+-- `laying::records` meets its contract. The loop's invariant: the records to come complete it. Assumes nothing.
 use Prim.Native.Nat.{_-_}
 use lib.ListN.{length, length-set}
 use native.Mathlib.Omega.{arith}

@@ -1,4 +1,4 @@
--- `writing::moved_root` meets its contract, by its test. Assumes nothing.
+-- `relinking::moved_root` meets its contract, by its test. Assumes nothing.
 use native.Mathlib.Omega.{arith}
 use borrow.Author.Tests.{eq-eqb, ne-eqb}
 use Rattle.pool.proofs.relinking.moved_root.Statement.{statement}

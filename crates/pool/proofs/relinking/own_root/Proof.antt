@@ -1,4 +1,4 @@
--- `writing::own_root` meets its contract, by its test. Assumes nothing.
+-- `relinking::own_root` meets its contract, by its test. Assumes nothing.
 use borrow.Author.Tests.{eq-eqb, ne-eqb}
 use Rattle.pool.proofs.relinking.own_root.Statement.{statement}
 use Rattle.pool.proofs.relinking.own_root.Tie as tie

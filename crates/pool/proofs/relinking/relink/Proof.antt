@@ -1,4 +1,4 @@
--- `writing::relink` meets its contract. The loop's invariant: the roots before set s are right. Assumes nothing.
+-- `relinking::relink` meets its contract. The loop's invariant: the roots still to be written complete it. Assumes nothing.
 use mathlib.Core.Path.{_∙_}
 use Prim.Native.Nat.{_-_}
 use native.Mathlib.Omega.{arith}

@@ -1,4 +1,4 @@
--- `writing::shift_behind` meets its contract. Assumes nothing.
+-- `relinking::shift_behind` meets its contract: one move of the words behind the set. Assumes nothing.
 use borrow.Author.Needs.{needs}
 use Rattle.pool.specs.Steps.{behindAt}
 use Rattle.pool.proofs.relinking.shift_behind.Statement.{statement}

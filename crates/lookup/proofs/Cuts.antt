@@ -1,0 +1,80 @@
+-- A member that a path shows is at most as long as the query: the query cut to its length is a network. Assumes nothing.
+use mathlib.Core.Bool.{Bool, true, false, cond}
+use mathlib.Core.List.{List, [], _∷_}
+use mathlib.Core.Path.{_≡_, refl}
+use Prim.Native.Nat.{ℕ, _+_, _≤_}
+use native.Mathlib.Omega.{arith}
+use lib.Dec.{eqb, leb, ltb}
+use lib.ListN.{length, getD}
+use borrow.Author.Tests.{eqb-true}
+use Rattle.nets.specs.Bits.{Bits}
+use Rattle.nets.specs.Networks.{netBits, refusalOf, withLen}
+use Rattle.nets.specs.declared.Net.{Net}
+use Rattle.nets.specs.declared.Refusal.the-variants.{Damaged, NoSet, WrongFamily, BadNetwork}
+use Rattle.nets.proofs.Strings.{cond-both}
+use Rattle.nets.proofs.Numbers.{refusalOf-is, is-refusalOf, length-netBits}
+use Rattle.nodes.specs.Words.{wordAt}
+use Rattle.pool.specs.Decode.{recordAt, base, isHeader}
+use Rattle.lookup.specs.Walks.{areNodes, toward, shows, walk, walkFrom}
+use Rattle.lookup.specs.Rules.{onRoot, query, lookup}
+use Rattle.lookup.specs.declared.walking.Shown.{Shown}
+use Rattle.lookup.specs.declared.walking.Shown.the-variants.{Member, Nothing, Refused}
+
+-- P holds of the length of the member that is shown, if one is
+abbrev Shows : (ℕ → Type 0) → Shown → Type 0
+Shows P (Member d) = P d
+Shows P Nothing = Unit
+Shows P (Refused r) = Unit
+
+abbrev AtMost : ℕ → Shown → Type 0
+AtMost m = Shows (λ d. d ≤ m)
+
+module _ (w : List ℕ) (b n m : ℕ) where
+  shows-within : (d i x : ℕ) (s : Shown) → d ≤ m → AtMost m s → AtMost m (shows n d i x s)
+  shows-within d i x s le h =
+      cond-both (AtMost m) (eqb x 0) (Member d) (cond (areNodes n i x) s (Refused Damaged)) le (cond-both (AtMost m) (areNodes n i x) s (Refused Damaged) h tt)
+
+  walk-within : (q : Bits) (d i : ℕ) → d + length q ≤ m → AtMost m (walk w b n d i q)
+  unfolding walk
+  walk-within [] d i le = shows-within d i (wordAt w b i) Nothing (omega arith) tt
+  walk-within (c ∷ q) d i le =
+      let x = toward c (wordAt w b i) in
+      shows-within d i (wordAt w b i) (cond (eqb x 0) Nothing (walk w b n (d + 1) (i + x) q)) (omega arith)
+      (cond-both (AtMost m) (eqb x 0) Nothing (walk w b n (d + 1) (i + x) q) tt (walk-within q (d + 1) (i + x) (omega arith)))
+
+  walkFrom-within : (q : Bits) (r : ℕ) → length q ≤ m → AtMost m (walkFrom w b n q r)
+  unfolding walkFrom
+  walkFrom-within q r le =
+      cond-both (AtMost m) (eqb r 0) Nothing (cond (leb r n) (walk w b n 0 r q) (Refused Damaged)) tt
+      (cond-both (AtMost m) (leb r n) (walk w b n 0 r q) (Refused Damaged) (walk-within q 0 r (omega arith)) tt)
+
+-- the query n, cut to the length of the member that is shown, is a network
+abbrev pub Cut : Net → Shown → Type 0
+Cut n = Shows (λ d. refusalOf (withLen n d) ≡ 0)
+
+module _ (n : Net) where
+  cut : refusalOf n ≡ 0 → (s : Shown) → AtMost (n .len) s → Cut n s
+  cut e (Member d) h = let k = refusalOf-is n e in is-refusalOf (withLen n d) (record { family = k .family; len = omega (arith, k .len); address = k .address })
+  cut e Nothing h = tt
+  cut e (Refused r) h = tt
+
+  query-cut : (w : List ℕ) (r : ℕ) → Cut n (query w n r)
+  unfolding query
+  query-cut w r = cond-both (Cut n) (eqb (n .family) (getD w 1 0)) (cond (eqb (refusalOf n) 0) s (Refused BadNetwork)) (Refused WrongFamily) (go (eqb (refusalOf n) 0) refl) tt
+    where
+      s : Shown
+      s = walkFrom w (base (getD w 2 0)) (getD w 3 0) (netBits n) r
+
+      go : (t : Bool) → eqb (refusalOf n) 0 ≡ t → Cut n (cond t s (Refused BadNetwork))
+      go true e =
+          let h = eqb-true (refusalOf n) 0 e in
+          cut h s (walkFrom-within w (base (getD w 2 0)) (getD w 3 0) (n .len) (netBits n) r (omega (arith, length-netBits n h)))
+      go false e = tt
+
+  pub lookup-cut : (w : List ℕ) (k : ℕ) → Cut n (lookup w k n)
+  unfolding lookup onRoot
+  lookup-cut w k =
+      let s = query w n (getD w (recordAt k) 0) in
+      cond-both (Cut n) (isHeader w) (cond (ltb k (getD w 2 0)) s (Refused NoSet)) (Refused Damaged)
+      (cond-both (Cut n) (ltb k (getD w 2 0)) s (Refused NoSet) (query-cut w (getD w (recordAt k) 0)) tt)
+      tt

@@ -1,0 +1,136 @@
+-- On sound words each lookup is the list's: the number by the state alone, and the member, the truth or the emptiness by the set's list. Assumes nothing.
+use mathlib.Core.Bool.{Bool, true, false, cond, _&&_, false≢true}
+use mathlib.Core.List.{List, [], _∷_}
+use mathlib.Core.Logic.{_⊎_, inl, inr}
+use mathlib.Core.Path.{_≡_, refl, ap, sym, _∙_}
+use Prim.Native.Nat.{ℕ, _≤_, _<_}
+use native.Mathlib.Nat.{zero-add}
+use native.Mathlib.Omega.{arith}
+use lib.Dec.{eqb, leb, ltb}
+use lib.ListN.{length, getD, take}
+use lib.Seq.{take-take}
+use borrow.Author.Tests.{ltb-true, le-leb, eqb-true}
+use Rattle.nets.specs.Bits.{Bits, leads, bits}
+use Rattle.nets.specs.Tries.{trieOf}
+use Rattle.nets.specs.Lists.{Found, found, missing, isFound, isList, supernetL, containsL}
+use Rattle.nets.specs.Refusals.{number, answered}
+use Rattle.nets.specs.Networks.{width, address, netBits, netFrom, inRange, refusalOf, noNet, withLen, cleared}
+use Rattle.nets.specs.declared.Net.{Net}
+use Rattle.nets.specs.declared.Refusal.{Refusal}
+use Rattle.nets.specs.declared.Refusal.the-variants.{NoSet, WrongFamily, BadNetwork}
+use Rattle.nets.proofs.Strings.{and-left, leads-head, leads-tail, leads-length}
+use Rattle.nets.proofs.Numbers.{length-netBits}
+use Rattle.nets.proofs.TrieOf.{listOf-trieOf}
+use Rattle.nets.proofs.Lookups.{supernetL-found, searchT-listOf}
+use Rattle.pool.specs.States.{State, isFamily, held}
+use Rattle.pool.specs.Decode.{recordAt, base, decode, sound}
+use Rattle.pool.specs.Rules.{startOf}
+use Rattle.pool.specs.Changes.{setAt, listAt, netNo}
+use Rattle.pool.proofs.Claims.{isState-family}
+use Rattle.pool.proofs.Encoded.{HeaderOf}
+use Rattle.pool.proofs.Decoded.{decode-header, decode-state, decode-set, decode-root, decode-at, decode-parts}
+use Rattle.lookup.specs.Walks.{walkFrom}
+use Rattle.lookup.specs.Rules.{onRoot, query, lookup, memberOf, isMember, supernetRule, containsRule, emptyAt, emptyRule, setNo, lookupNo, foundAs}
+use Rattle.lookup.specs.declared.walking.Shown.{Shown}
+use Rattle.lookup.specs.declared.walking.Shown.the-variants.{Refused}
+use Rattle.lookup.proofs.Searched.{shown, rootAt-node, walkFrom-search}
+
+-- The member that is found is the query, cut to the member's length.
+take-leads : (p q : Bits) → leads p q ≡ true → take (length p) q ≡ p
+take-leads [] q e = refl
+take-leads (b ∷ p) [] e = absurd (false≢true e)
+take-leads (b ∷ p) (c ∷ q) e = rw (leads-head b c p q e, take-leads p q (leads-tail b c p q e))
+
+cleared-cut : (n : Net) (p : Bits) → refusalOf n ≡ 0 → leads p (netBits n) ≡ true → cleared (withLen n (length p)) ≡ netFrom (n .family) p
+unfolding cleared netBits
+cleared-cut n p e h =
+    let B = bits (width (n .family)) (address n) in
+    let le : length p ≤ n .len = omega (arith, leads-length p (netBits n) h, length-netBits n e) in
+    ap (netFrom (n .family)) (sym (take-take (length p) (n .len) B le) ∙ take-leads p (netBits n) h)
+
+-- In a pool's family a network is refused as 7 or not at all.
+refusalOf-known : (n : Net) → isFamily (n .family) ≡ true → (refusalOf n ≡ 0) ⊎ (refusalOf n ≡ 7)
+unfolding refusalOf
+refusalOf-known n e = go (inRange n) refl
+  where
+    go : (b : Bool) → inRange n ≡ b → (refusalOf n ≡ 0) ⊎ (refusalOf n ≡ 7)
+    go true h = inl (rw (e, h))
+    go false h = inr (rw (e, h))
+
+module _ (w : List ℕ) (S : State) (e : decode w ≡ sound S) (k : ℕ) where
+  head : HeaderOf w S
+  head = decode-header w S e
+
+  onRoot-sound : {A : Type 0} (refuse : Refusal → A) (f : ℕ → A) → onRoot w k refuse f ≡ cond (ltb k (length (S .sets))) (f (getD w (recordAt k) 0)) (refuse NoSet)
+  unfolding onRoot
+  onRoot-sound refuse f = rw (head .known, head .sets)
+
+  module _ (lt : k < length (S .sets)) where
+    one : 1 ≤ startOf k 1 (S .sets)
+    one = omega (arith, decode-parts w S e k lt .1)
+
+    is-list : isList (width (S .family)) (listAt S k) ≡ true
+    is-list = and-left (isList (width (S .family)) (listAt S k)) (leb (setAt S k .share) (setAt S k .limit) && leb (held (setAt S k)) (setAt S k .limit)) (decode-set w S e k lt .rules)
+
+    walk-sound : (q : Bits) → walkFrom w (base (getD w 2 0)) (getD w 3 0) q (getD w (recordAt k) 0) ≡ shown 0 (supernetL (listAt S k) q)
+    walk-sound q =
+        rw (head .sets, head .nodes, decode-root w S e k lt)
+        (walkFrom-search one (listAt S k) q (decode-at w S e k lt)
+        ∙ ap (shown 0) (sym (searchT-listOf q (trieOf (listAt S k))) ∙ ap (λ l. supernetL l q) (listOf-trieOf (width (S .family)) (listAt S k) is-list)))
+
+    root-sound : (getD w (recordAt k) 0 ≤ getD w 3 0) × (eqb (getD w (recordAt k) 0) 0 ≡ eqb (length (listAt S k)) 0)
+    root-sound = rw (head .nodes, decode-root w S e k lt) (rootAt-node one (listAt S k) (decode-at w S e k lt))
+
+  -- What the path of a query shows, and the whole lookup: by whether there is the set, and whether the family is the pool's.
+  abbrev path : Net → Shown
+  path n = shown 0 (supernetL (listAt S k) (netBits n))
+
+  abbrev whole : Net → Bool → Bool → Shown
+  whole n a b = cond a (cond b (cond (eqb (refusalOf n) 0) (path n) (Refused BadNetwork)) (Refused WrongFamily)) (Refused NoSet)
+
+  lookup-sound : (n : Net) → lookup w k n ≡ whole n (ltb k (length (S .sets))) (eqb (n .family) (S .family))
+  unfolding lookup query
+  lookup-sound n = onRoot-sound Refused (query w n) ∙ go (ltb k (length (S .sets))) refl
+    where
+      go : (a : Bool) → ltb k (length (S .sets)) ≡ a → cond a (query w n (getD w (recordAt k) 0)) (Refused NoSet) ≡ whole n a (eqb (n .family) (S .family))
+      go true h = rw (head .family, walk-sound (ltb-true k (length (S .sets)) h) (netBits n))
+      go false h = refl
+
+  -- an answer by what is shown is an answer by the table
+  module _ {A : Type 0} (n : Net) (z v : A) (F : Shown → ℕ × A) (no-value : (r : Refusal) → F (Refused r) ≡ (number r, z)) (value : n .family ≡ S .family → refusalOf n ≡ 0 → F (path n) ≡ (0, v)) where
+    by-table : F (lookup w k n) ≡ answered (lookupNo S k n) z v
+    unfolding netNo
+    by-table = rw (lookup-sound n) (go (ltb k (length (S .sets))) (eqb (n .family) (S .family)) (eqb-true (n .family) (S .family)))
+      where
+        known : n .family ≡ S .family → (refusalOf n ≡ 0) ⊎ (refusalOf n ≡ 7) → F (whole n true true) ≡ answered (refusalOf n) z v
+        known f (inl r) = rw r (value f r)
+        known f (inr r) = rw r (no-value BadNetwork)
+
+        go : (a b : Bool) → (b ≡ true → n .family ≡ S .family) → F (whole n a b) ≡ answered (cond a (cond b (refusalOf n) 6) 3) z v
+        go false b h = no-value NoSet
+        go true false h = no-value WrongFamily
+        go true true h = known (h refl) (refusalOf-known n (rw (h refl) (isState-family S (decode-state w S e))))
+
+  pub supernetRule-sound : (n : Net) → supernetRule w k n ≡ answered (lookupNo S k n) (false, noNet) (foundAs (S .family) (supernetL (listAt S k) (netBits n)))
+  unfolding supernetRule
+  supernetRule-sound n = by-table n (false, noNet) (foundAs (S .family) (supernetL (listAt S k) (netBits n))) (memberOf n) (λ r. refl) (λ f r. go f r (supernetL (listAt S k) (netBits n)) refl)
+    where
+      go : n .family ≡ S .family → refusalOf n ≡ 0 → (x : Found) → supernetL (listAt S k) (netBits n) ≡ x → memberOf n (shown 0 x) ≡ (0, foundAs (S .family) x)
+      go f r missing h = refl
+      go f r (found p) h = rw (zero-add (length p), cleared-cut n p r (supernetL-found (listAt S k) (netBits n) p h .1), f)
+
+  pub containsRule-sound : (n : Net) → containsRule w k n ≡ answered (lookupNo S k n) false (containsL (listAt S k) (netBits n))
+  unfolding containsRule containsL
+  containsRule-sound n = by-table n false (containsL (listAt S k) (netBits n)) isMember (λ r. refl) (λ f r. go (supernetL (listAt S k) (netBits n)))
+    where
+      go : (x : Found) → isMember (shown 0 x) ≡ (0, isFound x)
+      go missing = refl
+      go (found p) = refl
+
+  pub emptyRule-sound : emptyRule w k ≡ answered (setNo S k) false (eqb (length (listAt S k)) 0)
+  unfolding emptyRule
+  emptyRule-sound = onRoot-sound (λ r. (number r, false)) (emptyAt (getD w 3 0)) ∙ go (ltb k (length (S .sets))) refl
+    where
+      go : (a : Bool) → ltb k (length (S .sets)) ≡ a → cond a (emptyAt (getD w 3 0) (getD w (recordAt k) 0)) (3, false) ≡ answered (cond a 0 3) false (eqb (length (listAt S k)) 0)
+      go true h = let r = root-sound (ltb-true k (length (S .sets)) h) in rw (le-leb (getD w (recordAt k) 0) (getD w 3 0) (r .0), r .1)
+      go false h = refl

@@ -1,0 +1,52 @@
+-- An answer's number and values say which answer it is: so each rule, a function of the words and the arguments, determines the answer. Assumes nothing.
+use mathlib.Core.Bool.{false≢true, true≢false}
+use mathlib.Core.List.{List}
+use mathlib.Core.Path.{_≡_, refl, ap, sym, _∙_}
+use Prim.Native.Nat.{ℕ}
+use Rattle.nets.specs.declared.Net.{Net}
+use Rattle.nets.proofs.Answers.{number-one, number-some}
+use Rattle.lookup.specs.Rules.{lookup, supernetAs, toldAs, memberOf, isMember, supernetRule, containsRule, emptyRule}
+use Rattle.lookup.specs.declared.walking.Shown.{Shown}
+use Rattle.lookup.specs.declared.walking.Shown.the-variants.{Member, Nothing, Refused}
+use Rattle.lookup.specs.declared.Covering.{Covering}
+use Rattle.lookup.specs.declared.Covering.the-variants as covering
+use Rattle.lookup.specs.declared.Told.{Told}
+use Rattle.lookup.specs.declared.Told.the-variants as told
+
+pub supernetAs-one : (r s : Covering) → supernetAs r ≡ supernetAs s → r ≡ s
+supernetAs-one (covering.Member m) (covering.Member n) e = ap covering.Member (ap (λ p. p .1 .1) e)
+supernetAs-one (covering.Member m) covering.Nothing e = absurd (true≢false (ap (λ p. p .1 .0) e))
+supernetAs-one (covering.Member m) (covering.Refused y) e = absurd (true≢false (ap (λ p. p .1 .0) e))
+supernetAs-one covering.Nothing (covering.Member n) e = absurd (false≢true (ap (λ p. p .1 .0) e))
+supernetAs-one covering.Nothing covering.Nothing e = refl
+supernetAs-one covering.Nothing (covering.Refused y) e = absurd (number-some y (sym (ap (λ p. p .0) e)))
+supernetAs-one (covering.Refused x) (covering.Member n) e = absurd (false≢true (ap (λ p. p .1 .0) e))
+supernetAs-one (covering.Refused x) covering.Nothing e = absurd (number-some x (ap (λ p. p .0) e))
+supernetAs-one (covering.Refused x) (covering.Refused y) e = ap covering.Refused (number-one x y (ap (λ p. p .0) e))
+
+pub toldAs-one : (r s : Told) → toldAs r ≡ toldAs s → r ≡ s
+toldAs-one (told.Is a) (told.Is b) e = ap told.Is (ap (λ p. p .1) e)
+toldAs-one (told.Is a) (told.Refused y) e = absurd (number-some y (sym (ap (λ p. p .0) e)))
+toldAs-one (told.Refused x) (told.Is b) e = absurd (number-some x (ap (λ p. p .0) e))
+toldAs-one (told.Refused x) (told.Refused y) e = ap told.Refused (number-one x y (ap (λ p. p .0) e))
+
+-- Two answers that a contract allows are one.
+module _ (w : List ℕ) (k : ℕ) (n : Net) where
+  pub supernet-one : (r s : Covering) → supernetAs r ≡ supernetRule w k n → supernetAs s ≡ supernetRule w k n → r ≡ s
+  supernet-one r s e f = supernetAs-one r s (e ∙ sym f)
+
+  pub contains-one : (r s : Told) → toldAs r ≡ containsRule w k n → toldAs s ≡ containsRule w k n → r ≡ s
+  contains-one r s e f = toldAs-one r s (e ∙ sym f)
+
+pub empty-one : (w : List ℕ) (k : ℕ) (r s : Told) → toldAs r ≡ emptyRule w k → toldAs s ≡ emptyRule w k → r ≡ s
+empty-one w k r s e f = toldAs-one r s (e ∙ sym f)
+
+-- `contains` tells whether `supernet` finds a member, on any words.
+pub contains-supernet : (w : List ℕ) (k : ℕ) (n : Net) → containsRule w k n ≡ (supernetRule w k n .0, supernetRule w k n .1 .0)
+unfolding containsRule supernetRule
+contains-supernet w k n = go (lookup w k n)
+  where
+    go : (s : Shown) → isMember s ≡ (memberOf n s .0, memberOf n s .1 .0)
+    go (Member d) = refl
+    go Nothing = refl
+    go (Refused r) = refl

@@ -1,0 +1,17 @@
+-- `contains` meets its contract, by what is shown. Assumes nothing.
+use borrow.Author.Needs.{needs}
+use Rattle.lookup.proofs.Asked.{contains-by}
+use Rattle.lookup.proofs.contains.Statement.{statement}
+use Rattle.lookup.proofs.contains.Tie as tie
+
+pub contains-spec : {M : Type 1} → statement M
+contains-spec =
+    tie.close
+    (tie.spec
+    (λ c κs. search needs)
+    (λ c. search needs)
+    (λ c. search needs)
+    (λ c. search needs)
+    (λ c. contains-by _ _ _ _ _ (c .before .before .lookup .ensures) (c .enum-told .given .1))
+    (λ c. contains-by _ _ _ _ _ (c .before .before .lookup .ensures) (c .enum-told2 .given .1))
+    (λ c. contains-by _ _ _ _ _ (c .before .before .before .lookup .ensures) (c .before .s .given .1)))

@@ -1,0 +1,84 @@
+-- The rules of the lookups, as functions of the words: the header first, then the arguments, then the path and nothing else.
+--
+--   onRoot w k refuse f     2 no header of a pool, 3 no such set; else what f says of the number of the set's root
+--   query, lookup           6 another family than the pool's, 7 no network; else what the path shows
+--   supernetRule, containsRule, emptyRule      the number and the values of each answer
+--   setNo, lookupNo, foundAs                   the same of a sound pool, by its lists: proofs/OnLists.antt
+use mathlib.Core.Bool.{Bool, true, false, cond}
+use mathlib.Core.List.{List}
+use Prim.Native.Nat.{ℕ}
+use lib.Dec.{eqb, leb, ltb}
+use lib.ListN.{length, getD}
+use Rattle.nets.specs.Lists.{Found, found, missing}
+use Rattle.nets.specs.Refusals.{number}
+use Rattle.nets.specs.Networks.{netBits, netFrom, refusalOf, noNet, withLen, cleared}
+use Rattle.nets.specs.declared.Net.{Net}
+use Rattle.nets.specs.declared.Refusal.{Refusal}
+use Rattle.nets.specs.declared.Refusal.the-variants.{Damaged, NoSet, WrongFamily, BadNetwork}
+use Rattle.pool.specs.States.{State}
+use Rattle.pool.specs.Decode.{recordAt, base, isHeader}
+use Rattle.pool.specs.Changes.{netNo}
+use Rattle.lookup.specs.Walks.{walkFrom}
+use Rattle.lookup.specs.declared.walking.Shown.{Shown}
+use Rattle.lookup.specs.declared.walking.Shown.the-variants.{Member, Nothing, Refused}
+use Rattle.lookup.specs.declared.Covering.{Covering}
+use Rattle.lookup.specs.declared.Covering.the-variants as covering
+use Rattle.lookup.specs.declared.Told.{Told}
+use Rattle.lookup.specs.declared.Told.the-variants as told
+
+unfoldable pub onRoot : {A : Type 0} → List ℕ → ℕ → (Refusal → A) → (ℕ → A) → A
+onRoot w k refuse f = cond (isHeader w) (cond (ltb k (getD w 2 0)) (f (getD w (recordAt k) 0)) (refuse NoSet)) (refuse Damaged)
+
+unfoldable pub query : List ℕ → Net → ℕ → Shown
+query w n r =
+    cond (eqb (n .family) (getD w 1 0))
+    (cond (eqb (refusalOf n) 0) (walkFrom w (base (getD w 2 0)) (getD w 3 0) (netBits n) r) (Refused BadNetwork))
+    (Refused WrongFamily)
+
+unfoldable pub lookup : List ℕ → ℕ → Net → Shown
+lookup w k n = onRoot w k Refused (query w n)
+
+-- the number and the values of an answer: a refusal has its number and zeros
+abbrev pub supernetAs : Covering → ℕ × (Bool × Net)
+supernetAs (covering.Member m) = (0, (true, m))
+supernetAs covering.Nothing = (0, (false, noNet))
+supernetAs (covering.Refused r) = (number r, (false, noNet))
+
+abbrev pub toldAs : Told → ℕ × Bool
+toldAs (told.Is b) = (0, b)
+toldAs (told.Refused r) = (number r, false)
+
+-- the member that a path shows is the query, cut to the member's length
+abbrev pub memberOf : Net → Shown → ℕ × (Bool × Net)
+memberOf n (Member d) = (0, (true, cleared (withLen n d)))
+memberOf n Nothing = (0, (false, noNet))
+memberOf n (Refused r) = (number r, (false, noNet))
+
+abbrev pub isMember : Shown → ℕ × Bool
+isMember (Member d) = (0, true)
+isMember Nothing = (0, false)
+isMember (Refused r) = (number r, false)
+
+unfoldable pub supernetRule : List ℕ → ℕ → Net → ℕ × (Bool × Net)
+supernetRule w k n = memberOf n (lookup w k n)
+
+unfoldable pub containsRule : List ℕ → ℕ → Net → ℕ × Bool
+containsRule w k n = isMember (lookup w k n)
+
+-- the emptiness test, by the root's number r in a pool of n nodes
+abbrev pub emptyAt : ℕ → ℕ → ℕ × Bool
+emptyAt n r = cond (leb r n) (0, eqb r 0) (2, false)
+
+unfoldable pub emptyRule : List ℕ → ℕ → ℕ × Bool
+emptyRule w k = onRoot w k (λ r. (number r, false)) (emptyAt (getD w 3 0))
+
+-- a sound pool: the numbers by its state, and the member that a list gives
+abbrev pub setNo : State → ℕ → ℕ
+setNo S k = cond (ltb k (length (S .sets))) 0 3
+
+abbrev pub lookupNo : State → ℕ → Net → ℕ
+lookupNo S k n = cond (ltb k (length (S .sets))) (netNo n S) 3
+
+abbrev pub foundAs : ℕ → Found → Bool × Net
+foundAs f (found p) = (true, netFrom f p)
+foundAs f missing = (false, noNet)

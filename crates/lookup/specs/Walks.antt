@@ -1,0 +1,38 @@
+-- The walk of a lookup: down from a root's number by the bits of the query, one word a level.
+--
+--   childAt i x           the number of the child that stands x nodes behind node i: 0, the mark for absence, where x is 0
+--   walk w b n d i q      what node i of n shows, d bits down, where the bits q are still to come: a leaf is a member of length d
+--   walkFrom w b n q r    what the root's number r shows
+use mathlib.Core.Bool.{Bool, cond, _&&_}
+use mathlib.Core.List.{List, [], _∷_}
+use Prim.Native.Nat.{ℕ, _+_, _/_, _%_}
+use lib.Dec.{eqb, leb}
+use Rattle.nets.specs.Bits.{Bits}
+use Rattle.nets.specs.Tries.{side}
+use Rattle.nets.specs.declared.Refusal.the-variants.{Damaged}
+use Rattle.nodes.specs.Words.{wordAt}
+use Rattle.lookup.specs.declared.walking.Shown.{Shown}
+use Rattle.lookup.specs.declared.walking.Shown.the-variants.{Member, Nothing, Refused}
+
+abbrev pub childAt : ℕ → ℕ → ℕ
+childAt i x = cond (eqb x 0) 0 (i + x)
+
+-- both children's numbers that the word x of node i gives are 0 or a node's
+abbrev pub areNodes : ℕ → ℕ → ℕ → Bool
+areNodes n i x = leb (childAt i (x % 2)) n && leb (childAt i (x / 2)) n
+
+-- the distance to the child on the side of the bit
+abbrev pub toward : Bool → ℕ → ℕ
+toward c x = side c (x % 2) (x / 2)
+
+-- what the word x of node i shows, d bits down, where s is what the way on shows
+abbrev pub shows : ℕ → ℕ → ℕ → ℕ → Shown → Shown
+shows n d i x s = cond (eqb x 0) (Member d) (cond (areNodes n i x) s (Refused Damaged))
+
+unfoldable pub walk : List ℕ → ℕ → ℕ → ℕ → ℕ → Bits → Shown
+walk w b n d i [] = shows n d i (wordAt w b i) Nothing
+walk w b n d i (c ∷ q) =
+    shows n d i (wordAt w b i) (cond (eqb (toward c (wordAt w b i)) 0) Nothing (walk w b n (d + 1) (i + toward c (wordAt w b i)) q))
+
+unfoldable pub walkFrom : List ℕ → ℕ → ℕ → Bits → ℕ → Shown
+walkFrom w b n q r = cond (eqb r 0) Nothing (cond (leb r n) (walk w b n 0 r q) (Refused Damaged))

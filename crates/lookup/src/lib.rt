@@ -1,0 +1,79 @@
+// Lookups: the member that contains a query, whether there is one, and whether a set is empty. Each reads the header, the record of its set and one path down a trie: no pass over the pool.
+use nets::Net;
+use nets::Refusal;
+use nets::Taken;
+use pool::Answer;
+use walking::Shown;
+use walking::lookup;
+use walking::root;
+ghost use mathlib.Core.Bool.{true};
+ghost use mathlib.Core.Path.{_≡_};
+ghost use Rattle.nets.specs.Networks.{refusalOf, withLen, cleared};
+ghost use Rattle.lookup.specs.Rules.{supernetAs, toldAs, supernetRule, containsRule, emptyRule};
+
+mod walking;
+
+// What supernet answers: the member that contains the query.
+pub enum Covering {
+    Member(Net),
+    Nothing,
+    Refused(Refusal),
+}
+
+// What contains and is_empty answer.
+pub enum Told {
+    Is(bool),
+    Refused(Refusal),
+}
+
+// The member of that length around the query.
+fn member(net: Net, len: u8) -> Covering
+    requires { ⌜ refusalOf (withLen net len) ≡ 0 ⌝ }
+    ensures { λ r. ⌜ supernetAs r ≡ (0, (true, cleared (withLen net len))) ⌝ }
+{
+    let t = net.with_new_prefix(len);
+    match t {
+        Taken::Network(m) => Covering::Member(m),
+        Taken::Refused(no) => Covering::Refused(no),
+    }
+}
+
+// The member of a set that contains the whole network.
+pub fn supernet(pool: &[u32], set: u32, net: Net) -> Covering
+    ensures { λ r. ⌜ supernetAs r ≡ supernetRule (now (pool .entry)) set net ⌝ }
+{
+    let s = lookup(pool, set, net);
+    match s {
+        Shown::Member(len) => member(net, len),
+        Shown::Nothing => Covering::Nothing,
+        Shown::Refused(no) => Covering::Refused(no),
+    }
+}
+
+// Whether a member of a set contains the whole network.
+pub fn contains(pool: &[u32], set: u32, net: Net) -> Told
+    ensures { λ r. ⌜ toldAs r ≡ containsRule (now (pool .entry)) set net ⌝ }
+{
+    let s = lookup(pool, set, net);
+    match s {
+        Shown::Member(_) => Told::Is(true),
+        Shown::Nothing => Told::Is(false),
+        Shown::Refused(no) => Told::Refused(no),
+    }
+}
+
+// Whether a set has no member.
+pub fn is_empty(pool: &[u32], set: u32) -> Told
+    ensures { λ r. ⌜ toldAs r ≡ emptyRule (now (pool .entry)) set ⌝ }
+{
+    let a = root(pool, set);
+    match a {
+        Answer::Granted(r) => {
+            if pool[3] < r {
+                return Told::Refused(Refusal::Damaged);
+            }
+            Told::Is(r == 0)
+        }
+        Answer::Refused(no) => Told::Refused(no),
+    }
+}

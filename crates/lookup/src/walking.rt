@@ -1,0 +1,116 @@
+// The walk of a lookup: header, arguments, and then down by the bits of the query, one word a level.
+use nets::Net;
+use nets::NextBit;
+use nets::Prefix;
+use nets::PrefixBits;
+use nets::Refusal;
+use nodes::reading::word_at;
+use pool::Answer;
+use pool::checking::HEAD;
+use pool::checking::RECORD;
+use pool::checking::is_header;
+ghost use mathlib.Core.Bool.{true};
+ghost use mathlib.Core.Path.{_≡_};
+ghost use Prim.Native.Nat.{_≤_};
+ghost use Rattle.nets.specs.Networks.{bitsLeft};
+ghost use Rattle.nodes.specs.Parse.{Room};
+ghost use Rattle.pool.specs.Decode.{isHeader};
+ghost use Rattle.lookup.specs.Walks.{toward, walkFrom};
+ghost use Rattle.lookup.specs.Rules.{onRoot, query, lookup};
+
+// What a path shows: a member of that length, nothing, or why there is no answer.
+pub enum Shown {
+    Member(u8),
+    Nothing,
+    Refused(Refusal),
+}
+
+// The number of the root of a set.
+pub fn root(w: &[u32], set: u32) -> Answer
+    ensures { λ r. ⌜ r ≡ onRoot (now (w .entry)) set Answer.Refused Answer.Granted ⌝ }
+{
+    if !is_header(w) {
+        return Answer::Refused(Refusal::Damaged);
+    }
+    if w[2] <= set {
+        return Answer::Refused(Refusal::NoSet);
+    }
+    Answer::Granted(w[HEAD + RECORD * (set as usize)])
+}
+
+// The distance to the child on the side of the bit, by the word x of a node.
+fn turn(bit: bool, x: u32) -> u32
+    ensures { λ r. ⌜ r ≡ toward bit x ⌝ }
+{
+    if bit {
+        return x / 2;
+    }
+    x % 2
+}
+
+// What the path down from the root's number shows, where the nodes 1..=n stand from b on.
+fn walk_from(w: &[u32], b: usize, n: u32, root: u32, bits: PrefixBits) -> Shown
+    requires { ⌜ Room (now w) b n × (bits .len ≤ 128) ⌝ }
+    ensures { λ r. ⌜ r ≡ walkFrom (now (w .entry)) b n (bitsLeft bits) root ⌝ }
+{
+    if root == 0 {
+        return Shown::Nothing;
+    }
+    if n < root {
+        return Shown::Refused(Refusal::Damaged);
+    }
+    let mut i = root;
+    let mut d: u8 = 0;
+    let mut left = bits;
+    loop {
+        let x = word_at(w, b, n, i);
+        if x == 0 {
+            return Shown::Member(d);
+        }
+        if n < i + x % 2 {
+            return Shown::Refused(Refusal::Damaged);
+        }
+        if n < i + x / 2 {
+            return Shown::Refused(Refusal::Damaged);
+        }
+        let next = left.next();
+        match next {
+            NextBit::End => return Shown::Nothing,
+            NextBit::Bit(bit, later) => {
+                let c = turn(bit, x);
+                if c == 0 {
+                    return Shown::Nothing;
+                }
+                i += c;
+                d += 1;
+                left = later;
+            }
+        }
+    }
+}
+
+// What the path of a query shows, down from the root's number.
+fn query(w: &[u32], net: Net, root: u32) -> Shown
+    requires { ⌜ isHeader (now w) ≡ true ⌝ }
+    ensures { λ r. ⌜ r ≡ query (now (w .entry)) net root ⌝ }
+{
+    if net.family as u32 != w[1] {
+        return Shown::Refused(Refusal::WrongFamily);
+    }
+    let p = net.prefix_bits();
+    match p {
+        Prefix::Bits(bits) => walk_from(w, HEAD + RECORD * (w[2] as usize), w[3], root, bits),
+        Prefix::Refused(_) => Shown::Refused(Refusal::BadNetwork),
+    }
+}
+
+// What a lookup shows: header, set, network, and then the path.
+pub fn lookup(w: &[u32], set: u32, net: Net) -> Shown
+    ensures { λ r. ⌜ r ≡ lookup (now (w .entry)) set net ⌝ }
+{
+    let a = root(w, set);
+    match a {
+        Answer::Granted(r) => query(w, net, r),
+        Answer::Refused(no) => Shown::Refused(no),
+    }
+}
