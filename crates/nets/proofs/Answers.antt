@@ -7,7 +7,7 @@ use native.Mathlib.Omega.{arith}
 use lib.ListN.{getD}
 use borrow.Author.Tests.{ne-eqb}
 use Rattle.nets.specs.Refusals.{number, answered}
-use Rattle.nets.specs.Networks.{refusalOf, takenAs, judged, prefixAs}
+use Rattle.nets.specs.Networks.{refusalOf, noNet, takenAs, judged, prefixAs}
 use Rattle.nets.specs.declared.Refusal.{Refusal}
 use Rattle.nets.specs.declared.Refusal.the-variants.{BadSetup, Damaged, NoSet, BadText, BadFile, WrongFamily, BadNetwork, Occupied, OverLimit, NoRoom, ShortBuffer}
 use Rattle.nets.specs.declared.Net.{Net}
@@ -45,12 +45,12 @@ pub number-some : (r : Refusal) → number r ≡ 0 → ⊥
 unfolding named
 number-some r e = let h : none ≡ some r = ap named (sym e) ∙ named-number r in let z : _≡_ {A = ℕ} 0 1 = cc in omega arith
 
--- A network that is granted, and a refusal, which is the same with any value.
+-- What is granted, a network that is, and a refusal, which is the same with any value.
+pub answered-granted : {A : Type 0} (k : ℕ) (z v a : A) → (0, a) ≡ answered k z v → (k ≡ 0) × (a ≡ v)
+answered-granted k z v a e = let h : k ≡ 0 = sym (ap (λ p. p .0) e) in (h, rw h at (ap (λ p. p .1) e))
+
 pub judged-network : (t : Taken) (n m : Net) → takenAs t ≡ judged n → t ≡ taken.Network m → (refusalOf n ≡ 0) × (m ≡ n)
-judged-network t n m e h =
-    let g = sym (ap takenAs h) ∙ e in
-    let k : refusalOf n ≡ 0 = sym (ap (λ p. p .0) g) in
-    (k, rw k at (ap (λ p. p .1) g))
+judged-network t n m e h = answered-granted (refusalOf n) noNet n m (sym (ap takenAs h) ∙ e)
 
 pub judged-refused : {A : Type 0} (t : Taken) (n : Net) (r : Refusal) (z v : A) → takenAs t ≡ judged n → t ≡ taken.Refused r → (number r, z) ≡ answered (refusalOf n) z v
 judged-refused t n r z v e h =

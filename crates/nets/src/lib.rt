@@ -1,6 +1,6 @@
 // Networks: the numbers of one, the refusal of numbers that are none, clearing, and the bits from the highest on.
 ghost use mathlib.Core.Path.{_≡_};
-ghost use Rattle.nets.specs.Refusals.{answered};
+ghost use Rattle.nets.specs.Refusals.{number, answered};
 ghost use Rattle.nets.specs.Networks.{width, netWords, netOf, refusalOf, noNet, takenAs, judged, withLen, cleared, bigEndian, startOf, noBits, prefixAs, nextOf};
 
 mod rules;
@@ -19,6 +19,27 @@ pub enum Refusal {
     OverLimit,
     NoRoom,
     ShortBuffer,
+}
+
+impl Refusal {
+    // The number of the table.
+    pub fn number(self) -> u8
+        ensures { λ r. ⌜ r ≡ number self ⌝ }
+    {
+        match self {
+            Refusal::BadSetup => 1,
+            Refusal::Damaged => 2,
+            Refusal::NoSet => 3,
+            Refusal::BadText => 4,
+            Refusal::BadFile => 5,
+            Refusal::WrongFamily => 6,
+            Refusal::BadNetwork => 7,
+            Refusal::Occupied => 8,
+            Refusal::OverLimit => 9,
+            Refusal::NoRoom => 10,
+            Refusal::ShortBuffer => 11,
+        }
+    }
 }
 
 // The family of addresses of 32 bits.

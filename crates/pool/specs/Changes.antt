@@ -2,9 +2,10 @@
 --
 --   withList S k l     the state with the list l in set k
 --   changeNo S k a l   3 no such set, then a, 9 more nodes than the limit, 10 more than the room, 0 granted
---   changeRule, wordsAfter     the answer, and the words afterwards: those of the state with the new list, or no word changed
+--   changeRule, wordsAfter     the answer, and the words afterwards: those of the state with the new list, or no word changed; Changed: both, as a contract
 use mathlib.Core.Bool.{cond}
 use mathlib.Core.List.{List, [], _∷_}
+use mathlib.Core.Path.{_≡_}
 use Prim.Native.Nat.{ℕ, zero, suc}
 use lib.Dec.{eqb, leb, ltb}
 use lib.ListN.{length, getD}
@@ -14,8 +15,9 @@ use Rattle.nets.specs.Refusals.{answered}
 use Rattle.nets.specs.Networks.{refusalOf}
 use Rattle.nets.specs.declared.Net.{Net}
 use Rattle.pool.specs.States.{SetState, State, roomOf}
-use Rattle.pool.specs.Decode.{Decoded, damaged, sound, over}
-use Rattle.pool.specs.Rules.{noSet}
+use Rattle.pool.specs.Decode.{Decoded, damaged, sound, over, decode}
+use Rattle.pool.specs.Rules.{noSet, answerAs}
+use Rattle.pool.specs.declared.Answer.{Answer}
 
 abbrev pub setAt : State → ℕ → SetState
 setAt S k = getD (S .sets) k noSet
@@ -47,6 +49,11 @@ changeRule (sound S) k a f = answered (changeNo S k (a S) (f S)) 0 (nodesL (f S)
 unfoldable pub wordsAfter : List ℕ → Decoded → ℕ → (State → ℕ) → (State → List Bits) → List ℕ
 wordsAfter w damaged k a f = w
 wordsAfter w (sound S) k a f = cond (eqb (changeNo S k (a S) (f S)) 0) (over w (withList S k (f S))) w
+
+-- from the words w a changing call on set k answers r and leaves the words v
+pub record Changed (w : List ℕ) (k : ℕ) (a : State → ℕ) (f : State → List Bits) (r : Answer) (v : List ℕ) : Type 0 where
+  pub answer : answerAs r ≡ changeRule (decode w) k a f
+  pub words : v ≡ wordsAfter w (decode w) k a f
 
 -- the number that a network gets as an argument: 6 for another family than the pool's, then 7
 unfoldable pub netNo : Net → State → ℕ

@@ -1,0 +1,38 @@
+-- What stands at a place: a test of the first byte says that the place is within the bytes. Assumes nothing.
+use mathlib.Core.Bool.{Bool, true, false, false≢true}
+use mathlib.Core.List.{List, []}
+use mathlib.Core.Path.{_≡_, refl, sym, _∙_}
+use Prim.Native.Nat.{ℕ, _≤_, _<_}
+use lib.Dec.{ltb}
+use lib.ListN.{length, drop, getD, drop-of-length-le}
+use lib.Seq.{drop-cons}
+use borrow.Author.Tests.{ltb-true, ltb-false}
+use Rattle.text.specs.Decimal.{isDigit}
+use Rattle.text.specs.Places.{startsDigit}
+use Rattle.text.proofs.Numbers.{isDigit-is}
+
+-- A test that fails where there is no byte.
+module _ (f : List ℕ → Bool) (none : f [] ≡ false) (s : List ℕ) (at : ℕ) where
+  pub starts-past : length s ≤ at → f (drop at s) ≡ false
+  starts-past h = rw (drop-of-length-le s h) none
+
+  pub starts-within : f (drop at s) ≡ true → at < length s
+  starts-within e = go (ltb at (length s)) refl
+    where
+      go : (b : Bool) → ltb at (length s) ≡ b → at < length s
+      go true h = ltb-true at (length s) h
+      go false h = absurd (false≢true (sym (starts-past (ltb-false at (length s) h)) ∙ e))
+
+pub record Digit (s : List ℕ) (at : ℕ) : Type 0 where
+  pub within : at < length s
+  pub test : isDigit (getD s at 0) ≡ true
+  pub least : 48 ≤ getD s at 0
+  pub most : getD s at 0 ≤ 57
+
+pub startsDigit-is : (s : List ℕ) (at : ℕ) → startsDigit (drop at s) ≡ true → Digit s at
+unfolding startsDigit
+startsDigit-is s at e =
+    let h = starts-within startsDigit refl s at e in
+    let d : isDigit (getD s at 0) ≡ true = rw (drop-cons s at 0 h) at e in
+    let b = isDigit-is (getD s at 0) d in
+    record { within = h; test = d; least = b .0; most = b .1 }

@@ -1,0 +1,135 @@
+-- What is written: the digits of a number case by case, stores one behind another, and the length of a line. Assumes nothing.
+use mathlib.Core.Bool.{Bool, true, false}
+use mathlib.Core.List.{List, [], _∷_, _++_, append-assoc}
+use mathlib.Core.Path.{_≡_, refl, _∙_}
+use Prim.Native.Nat.{ℕ, suc, _+_, _/_, _%_, _^_, _≤_, _<_}
+use native.Mathlib.Nat.{add-zero}
+use native.Mathlib.Omega.{arith}
+use lib.Dec.{ltb}
+use lib.ListN.{length, set, length-append}
+use lib.Seq.{sets}
+use borrow.Author.Tests.{ltb-true, ltb-false, lt-ltb, le-ltb, le-leb, ne-eqb}
+use Rattle.nets.specs.declared.Net.{Net}
+use Rattle.text.specs.Decimal.{isDigit, allDigits, decimal, decimalFrom, isNumber, plain, byteOf, digitsOf}
+use Rattle.text.specs.Ipv4.{dot, slash, joined, octetOf, lineOf}
+use Rattle.text.specs.Places.{Stored}
+use Rattle.text.proofs.Numbers.{is-isNumber}
+
+-- The digits of a number.
+pub digitsOf-one : (x : ℕ) → x < 10 → digitsOf x ≡ byteOf x ∷ []
+unfolding digitsOf
+digitsOf-one x h = rw (lt-ltb x 10 h)
+
+pub digitsOf-two : (x : ℕ) → 10 ≤ x → x < 100 → digitsOf x ≡ byteOf (x / 10) ∷ byteOf (x % 10) ∷ []
+unfolding digitsOf
+digitsOf-two x h g = rw (le-ltb x 10 h, lt-ltb x 100 g)
+
+pub digitsOf-three : (x : ℕ) → 100 ≤ x → digitsOf x ≡ byteOf (x / 100) ∷ byteOf (x / 10 % 10) ∷ byteOf (x % 10) ∷ []
+unfolding digitsOf
+digitsOf-three x h = rw (le-ltb x 10 (omega arith), le-ltb x 100 h)
+
+digitsOf-cases : (P : List ℕ → Type 0) (x : ℕ)
+    → (x < 10 → P (byteOf x ∷ []))
+    → (10 ≤ x → x < 100 → P (byteOf (x / 10) ∷ byteOf (x % 10) ∷ []))
+    → (100 ≤ x → P (byteOf (x / 100) ∷ byteOf (x / 10 % 10) ∷ byteOf (x % 10) ∷ []))
+    → P (digitsOf x)
+digitsOf-cases P x f g h = go (ltb x 10) (ltb x 100) refl refl
+  where
+    go : (a b : Bool) → ltb x 10 ≡ a → ltb x 100 ≡ b → P (digitsOf x)
+    go true b d e = rw (digitsOf-one x (ltb-true x 10 d)) (f (ltb-true x 10 d))
+    go false true d e = rw (digitsOf-two x (ltb-false x 10 d) (ltb-true x 100 e)) (g (ltb-false x 10 d) (ltb-true x 100 e))
+    go false false d e = rw (digitsOf-three x (ltb-false x 100 e)) (h (ltb-false x 100 e))
+
+pub length-digitsOf : (x : ℕ) → length (digitsOf x) ≤ 3
+length-digitsOf x = digitsOf-cases (λ s. length s ≤ 3) x (λ h. omega arith) (λ h k. omega arith) (λ h. omega arith)
+
+pub length-digitsOf-two : (x : ℕ) → x < 100 → length (digitsOf x) ≤ 2
+length-digitsOf-two x g = digitsOf-cases (λ s. length s ≤ 2) x (λ h. omega arith) (λ h k. omega arith) (λ h. absurd (omega arith))
+
+isDigit-byteOf : (d : ℕ) → d < 10 → isDigit (byteOf d) ≡ true
+unfolding isDigit
+isDigit-byteOf d h = rw (le-leb 48 (byteOf d) (omega arith), le-leb (byteOf d) 57 (omega arith))
+
+allDigits-digitsOf : (x : ℕ) → x < 1000 → allDigits (digitsOf x) ≡ true
+unfolding allDigits
+allDigits-digitsOf x g =
+    digitsOf-cases (λ s. allDigits s ≡ true) x (λ h. rw (isDigit-byteOf x h))
+    (λ h k. rw (isDigit-byteOf (x / 10) (omega arith), isDigit-byteOf (x % 10) (omega arith)))
+    (λ h. rw (isDigit-byteOf (x / 100) (omega arith), isDigit-byteOf (x / 10 % 10) (omega arith), isDigit-byteOf (x % 10) (omega arith)))
+
+pub decimal-digitsOf : (x : ℕ) → decimal (digitsOf x) ≡ x
+unfolding decimalFrom
+decimal-digitsOf x = digitsOf-cases (λ s. decimal s ≡ x) x (λ h. omega arith) (λ h k. omega arith) (λ h. omega arith)
+
+pub plain-digitsOf : (x : ℕ) → plain (digitsOf x) ≡ true
+unfolding plain
+plain-digitsOf x =
+    digitsOf-cases (λ s. plain s ≡ true) x (λ h. refl)
+    (λ h k. rw (ne-eqb (byteOf (x / 10)) 48 (omega arith)))
+    (λ h. rw (ne-eqb (byteOf (x / 100)) 48 (omega arith)))
+
+-- a number within its limit is written as a number of the grammar
+pub isNumber-digitsOf : (k m x : ℕ) → x < 1000 → x ≤ m → length (digitsOf x) ≤ k → isNumber k m (digitsOf x) ≡ true
+isNumber-digitsOf k m x g h l =
+    is-isNumber k m (digitsOf x)
+    (record { digits = allDigits-digitsOf x g; some = digitsOf-cases (λ s. 1 ≤ length s) x (λ h. omega arith) (λ h k. omega arith) (λ h. omega arith); few = l; most = rw (decimal-digitsOf x) h })
+
+-- Stores behind stores.
+sets-append : (w : List ℕ) (p : ℕ) (s t : List ℕ) → sets (sets w p s) (p + length s) t ≡ sets w p (s ++ t)
+sets-append w p [] t = rw (add-zero p)
+sets-append w p (c ∷ s) t = let e : p + suc (length s) ≡ suc p + length s = omega arith in rw e (sets-append (set w p c) (suc p) s t)
+
+pub stored-append : {w v u s t : List ℕ} {p q r : ℕ} → Stored w p s v q → Stored v q t u r → Stored w p (s ++ t) u r
+stored-append {w} {v} {u} {s} {t} {p} {q} {r} h k =
+    record {
+      place = k .place ∙ omega (arith, h .place, length-append s t);
+      bytes = k .bytes ∙ rw (h .bytes, h .place) (sets-append w p s t);
+    }
+
+-- The four numbers, each with the byte that ends it, and the length make the line.
+joined-fields : (a b c d n : List ℕ) → (a ++ (dot ∷ [])) ++ ((b ++ (dot ∷ [])) ++ ((c ++ (dot ∷ [])) ++ ((d ++ (slash ∷ [])) ++ n))) ≡ joined a b c d n
+unfolding joined
+joined-fields a b c d n = simp append-assoc
+
+pub stored-line : {w v : List ℕ} {q : ℕ} (n : Net)
+    → Stored w 0 ((octetOf (n .lo) 3 ++ (dot ∷ [])) ++ ((octetOf (n .lo) 2 ++ (dot ∷ [])) ++ ((octetOf (n .lo) 1 ++ (dot ∷ [])) ++ ((octetOf (n .lo) 0 ++ (slash ∷ [])) ++ digitsOf (n .len))))) v q
+    → Stored w 0 (lineOf n) v q
+unfolding lineOf
+stored-line n h = rw (joined-fields (octetOf (n .lo) 3) (octetOf (n .lo) 2) (octetOf (n .lo) 1) (octetOf (n .lo) 0) (digitsOf (n .len))) at h
+
+length-joined : (a b c d n : List ℕ) → length (joined a b c d n) ≡ length a + length b + length c + length d + length n + 4
+unfolding joined
+length-joined a b c d n = simp length-append (omega arith)
+
+length-ended : (s : List ℕ) (e : ℕ) → length (s ++ (e ∷ [])) ≡ length s + 1
+length-ended s e = length-append s (e ∷ [])
+
+-- how many bytes the line of a network has, and each of its numbers with the byte that ends it
+pub record Lengths (n : Net) : Type 0 where
+  pub line : length (lineOf n) ≡ length (octetOf (n .lo) 3) + length (octetOf (n .lo) 2) + length (octetOf (n .lo) 1) + length (octetOf (n .lo) 0) + length (digitsOf (n .len)) + 4
+  pub third : length (octetOf (n .lo) 3 ++ (dot ∷ [])) ≡ length (octetOf (n .lo) 3) + 1
+  pub second : length (octetOf (n .lo) 2 ++ (dot ∷ [])) ≡ length (octetOf (n .lo) 2) + 1
+  pub first : length (octetOf (n .lo) 1 ++ (dot ∷ [])) ≡ length (octetOf (n .lo) 1) + 1
+  pub last : length (octetOf (n .lo) 0 ++ (slash ∷ [])) ≡ length (octetOf (n .lo) 0) + 1
+
+pub lengths : (n : Net) → Lengths n
+unfolding lineOf
+lengths n =
+    record {
+      line = length-joined (octetOf (n .lo) 3) (octetOf (n .lo) 2) (octetOf (n .lo) 1) (octetOf (n .lo) 0) (digitsOf (n .len));
+      third = length-ended (octetOf (n .lo) 3) dot;
+      second = length-ended (octetOf (n .lo) 2) dot;
+      first = length-ended (octetOf (n .lo) 1) dot;
+      last = length-ended (octetOf (n .lo) 0) slash;
+    }
+
+pub length-lineOf : (n : Net) → length (lineOf n) ≤ 16 + length (digitsOf (n .len))
+length-lineOf n =
+    omega (
+      arith,
+      lengths n,
+      length-digitsOf (n .lo / 2 ^ 24 % 256),
+      length-digitsOf (n .lo / 2 ^ 16 % 256),
+      length-digitsOf (n .lo / 2 ^ 8 % 256),
+      length-digitsOf (n .lo / 2 ^ 0 % 256),
+    )
