@@ -76,7 +76,7 @@ pub size-side : (d : Bool) (l r : Trie) → size (node l r) ≡ 1 + size (side d
 size-side false l r = node-size l r
 size-side true l r = omega (arith, node-size l r)
 
-size-insert : (p : Bits) (t : Trie) → size (insertT p t) ≤ size t + length p + 1
+pub size-insert : (p : Bits) (t : Trie) → size (insertT p t) ≤ size t + length p + 1
 unfolding insertT
 size-insert [] t = omega (arith, size-leaf)
 size-insert (d ∷ p) none = omega (arith, size-chain (d ∷ p))

@@ -1,3 +1,85 @@
-// Changing one set.
+// Changing one set: adding a network, removing one, simplifying. Where a call is refused, no word changes.
+use calling::Asked;
+use calling::ask;
+use calling::granted;
+use calling::seat_of;
+use calling::too_many;
+use nets::Net;
+use nets::Refusal;
+use pool::Answer;
+use pool::checking::HEAD;
+use pool::checking::RECORD;
+use pool::checking::most_levels;
+use pool::checking::survey;
+use pool::judging::judge;
+use pool::relinking::relink;
+use pool::relinking::shift_behind;
+use shrinking::shrink;
+ghost use Rattle.change.specs.Calls.{Added, Removed};
+ghost use Rattle.change.specs.Simplified.{Simplifies};
+
+pub mod calling;
 pub mod inserting;
 pub mod removing;
+pub mod shrinking;
+
+// Adds a network to a set: where no member contains it, the members inside it go and it joins. Answers the nodes of the set.
+pub fn add(pool: &mut [u32], set: u32, net: Net) -> Answer
+    ensures { λ r. ⌜ Added (now (pool .entry)) set net r (now (pool .exit)) ⌝ }
+{
+    let asked = ask(pool, set, net);
+    match asked {
+        Asked::Refused(no) => Answer::Refused(no),
+        Asked::Go(found, s) => {
+            let at = seat_of(pool, found);
+            let n = inserting::insert_size(pool, at.base, at.first, at.end, s) as u32;
+            let no = judge(pool, set, found, n);
+            if no != 0 {
+                return too_many(no);
+            }
+            inserting::insert(pool, at.base, at.first, at.end, at.used, s);
+            granted(pool, set, found, n)
+        }
+    }
+}
+
+// Removes a network from a set: the members inside it go, and one that contains it gives way to the blocks beside the path. Answers the nodes of the set.
+pub fn remove(pool: &mut [u32], set: u32, net: Net) -> Answer
+    ensures { λ r. ⌜ Removed (now (pool .entry)) set net r (now (pool .exit)) ⌝ }
+{
+    let asked = ask(pool, set, net);
+    match asked {
+        Asked::Refused(no) => Answer::Refused(no),
+        Asked::Go(found, s) => {
+            let at = seat_of(pool, found);
+            let n = removing::remove_size(pool, at.base, at.first, at.end, s) as u32;
+            let no = judge(pool, set, found, n);
+            if no != 0 {
+                return too_many(no);
+            }
+            removing::remove(pool, at.base, at.first, at.first, at.end, at.used, s);
+            granted(pool, set, found, n)
+        }
+    }
+}
+
+// Simplifies a set: the same addresses, and afterwards no two halves of one block are both listed. Answers the nodes of the set. The result never has more nodes than
+// the set, so nothing is counted before it is written.
+pub fn simplify(pool: &mut [u32], set: u32) -> Answer
+    ensures { λ r. ⌜ Simplifies (now (pool .entry)) set r (now (pool .exit)) ⌝ }
+{
+    let found = survey(pool, set);
+    if !found.sound {
+        return Answer::Refused(Refusal::Damaged);
+    }
+    let sets = pool[2];
+    if sets <= set {
+        return Answer::Refused(Refusal::NoSet);
+    }
+    let b = HEAD + RECORD * (sets as usize);
+    let levels = most_levels(pool[1]);
+    let n = shrink(pool, b, found, levels);
+    shift_behind(pool, b, found, n);
+    relink(pool, set, found.at, found.held, n);
+    Answer::Granted(n)
+}

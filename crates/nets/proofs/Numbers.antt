@@ -151,7 +151,7 @@ bits-words a = rw (← mod-pow-add a 64 64) (bits-mod 128 a)
 take-moved : (k j w a : ℕ) → k ≤ j → j ≤ w → take k (bits w (a * 2 ^ (w - j))) ≡ take k (bits j a)
 take-moved k j w a h g = sym (take-take k j (bits w (a * 2 ^ (w - j))) h) ∙ ap (take k) (take-aligned j w a g)
 
-width-le : (f : ℕ) → width f ≤ 128
+pub width-le : (f : ℕ) → width f ≤ 128
 unfolding width
 width-le f = go (eqb f 4)
   where

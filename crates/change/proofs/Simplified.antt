@@ -1,0 +1,183 @@
+-- Simplifying a set: the steps of the call, a law for each return, and what the contract says of every buffer. The result has no more nodes than the set, so it is never refused, it is written
+-- where the set stands, and the sets behind it close up. Assumes nothing.
+use mathlib.Core.Path.{_≡_, refl, sym, ap, _∙_}
+use mathlib.Core.Bool.{true, false, _&&_}
+use mathlib.Core.List.{List, _++_}
+use Prim.Native.Nat.{ℕ, suc, _+_, _-_, _≤_, _<_}
+use native.Mathlib.Omega.{arith}
+use lib.Dec.{leb}
+use lib.ListN.{length, getD}
+use borrow.Author.Tests.{lt-ltb, le-ltb, le-leb, leb-true}
+use Rattle.nets.specs.Lists.{isList, nodesL, simplifyL}
+use Rattle.nets.specs.Tries.{Trie, size, trieOf, simplifyT}
+use Rattle.nets.specs.Networks.{width}
+use Rattle.nets.specs.declared.Refusal.the-variants.{Damaged, NoSet}
+use Rattle.nets.proofs.Strings.{and-right}
+use Rattle.nets.proofs.Nodes.{nodesL-listOf}
+use Rattle.nets.proofs.TrieOf.{isList-within}
+use Rattle.nets.proofs.Simplifying.{isList-simplify}
+use Rattle.nodes.specs.Words.{put, Has, place, enc}
+use Rattle.nodes.specs.Segments.{Segment}
+use Rattle.nodes.proofs.Put.{length-put}
+use Rattle.nodes.proofs.Has.{has-at, has-back}
+use Rattle.nodes.proofs.Segments.{segment-fit}
+use Rattle.emit.specs.Answers.{body, Emits, endOf, restOf}
+use Rattle.emit.specs.Simplify.{Source}
+use Rattle.emit.specs.declared.emitting.Emitted.{Emitted}
+use Rattle.emit.specs.declared.emitting.Emitted.the-variants.{Full}
+use Rattle.emit.proofs.Answers.{end-is, full-size, settled}
+use Rattle.emit.proofs.Simplify.{size-simplify}
+use Rattle.pool.specs.States.{State, held, roomOf, isSet}
+use Rattle.pool.specs.Decode.{base, damaged, sound, decode}
+use Rattle.pool.specs.Rules.{answerAs, surveyOf}
+use Rattle.pool.specs.Changes.{setAt, listAt, withList, changeNo, changeRule, wordsAfter}
+use Rattle.pool.specs.Steps.{behindAt, Gap, relinked, Relink}
+use Rattle.pool.specs.declared.Answer.{Answer}
+use Rattle.pool.specs.declared.Answer.the-variants as answer
+use Rattle.pool.specs.declared.Survey.{Survey}
+use Rattle.pool.proofs.Determined.{answerAs-one}
+use Rattle.pool.proofs.WithList.{claim-roomOf}
+use Rattle.pool.proofs.Claims.{isSet-list}
+use Rattle.pool.proofs.Holds.{set-size}
+use Rattle.pool.proofs.Decoded.{decode-state, decode-has, decode-set, decode-parts}
+use Rattle.pool.proofs.Seen.{Seen, before, behind, seen-header, seen-figures, before-length, behind-length}
+use Rattle.pool.proofs.Changed.{withTrie, behind-last, relink-asks, gap-asks}
+use Rattle.pool.proofs.Returns.{Owes, change-damaged, change-noset, change-granted, decode-after}
+use Rattle.change.proofs.Outcomes.{changed-one}
+use Rattle.change.specs.Simplified.{listSimple, noArgs, Simplifies, Shrunk}
+
+-- The trie is simplified where it stands, and a leaf that the emission left is written.
+module _ {w u : List ℕ} {b i e fuel : ℕ} {t : Trie} {x : Emitted} (g : Source w b i e i fuel t) (d : Emits w u b i x (simplifyT t)) where
+  pub settle-fits : x ≡ Full → place b i < length u
+  settle-fits q =
+      let same : length u ≡ length w = ap length (d .wrote) ∙ length-put w (place b i) (body (simplifyT t)) in
+      omega (arith, full-size x (simplifyT t) i (d .answers) q, size-simplify t, segment-fit (g .here))
+
+  module _ {m : ℕ} (q : m ≡ endOf x i) where
+    end-simple : m ≡ i + size (simplifyT t)
+    end-simple = q ∙ end-is x (simplifyT t) i (d .answers)
+
+    pub end-fits : (i ≤ m) × (m ≤ 1073741824)
+    end-fits = omega (arith, end-simple, size-simplify t, segment-fit (g .here))
+
+    pub shrunk : {v : List ℕ} → v ≡ put u (place b i) (restOf x) → Shrunk w v b i t (m - i)
+    shrunk p = record { nodes = omega (arith, end-simple); wrote = settled d p }
+
+-- The result has no more nodes than the set: it is within the limit and the room.
+abbrev trieAt : State → ℕ → Trie
+trieAt S k = trieOf (listAt S k)
+
+abbrev simpleAt : State → ℕ → Trie
+simpleAt S k = simplifyT (trieAt S k)
+
+nodesL-simplify : (S : State) (k : ℕ) → nodesL (listSimple k S) ≡ size (simpleAt S k)
+unfolding simplifyL
+nodesL-simplify S k = nodesL-listOf (simpleAt S k)
+
+module _ (w : List ℕ) (S : State) (k : ℕ) (d : decode w ≡ sound S) (lt : k < length (S .sets)) where
+  rules : isSet (width (S .family)) (setAt S k) ≡ true
+  rules = decode-set w S d k lt .rules
+
+  trie-size : size (trieAt S k) ≡ held (setAt S k)
+  trie-size = set-size (width (S .family)) (setAt S k) rules
+
+  fewer : size (simpleAt S k) ≤ held (setAt S k)
+  fewer = omega (arith, size-simplify (trieAt S k), trie-size)
+
+  in-limit : size (simpleAt S k) ≤ setAt S k .limit
+  in-limit =
+      let s = setAt S k in
+      let x = and-right (isList (width (S .family)) (s .list)) (leb (s .share) (s .limit) && leb (held s) (s .limit)) rules in
+      omega (arith, fewer, leb-true (held s) (s .limit) (and-right (leb (s .share) (s .limit)) (leb (held s) (s .limit)) x))
+
+  in-room : size (simpleAt S k) ≤ roomOf S k
+  in-room = omega (arith, fewer, claim-roomOf S k (decode-state w S d) lt)
+
+  -- never refused for the limit or the room
+  pub changeNo-simplify : changeNo S k 0 (simplifyL (listAt S k)) ≡ 0
+  unfolding changeNo
+  changeNo-simplify =
+      let n = nodesL-simplify S k in
+      rw (lt-ltb k (length (S .sets)) lt, le-leb (nodesL (listSimple k S)) (setAt S k .limit) (omega (arith, in-limit)), le-leb (nodesL (listSimple k S)) (roomOf S k) (omega (arith, in-room)))
+
+-- The returns of the call.
+changed : {w v : List ℕ} {k : ℕ} {r : Answer} → Owes w k noArgs (listSimple k) (answerAs r) v → Simplifies w k r v
+changed h = record { answer = h .0; words = h .1 }
+
+module _ {w : List ℕ} {k : ℕ} {v : Survey} (e : v ≡ surveyOf (decode w) k) where
+  pub return-damaged : v .sound ≡ false → Simplifies w k (answer.Refused Damaged) w
+  return-damaged q = changed (change-damaged noArgs (listSimple k) w k v e q)
+
+  pub return-noset : v .sound ≡ true → getD w 2 0 ≤ k → Simplifies w k (answer.Refused NoSet) w
+  return-noset q le = changed (change-noset noArgs (listSimple k) w k v e q le)
+
+module _ {w : List ℕ} {S : State} {k : ℕ} {v : Survey} (h : Seen w S k v) where
+  -- the trie of the set stands where the survey says, with the sets behind it behind it
+  seen-segment : Segment w (base (getD w 2 0)) (v .at) (v .at + v .held) (v .used + 1) (trieAt S k) (behind S k)
+  seen-segment =
+      let f = seen-figures h in
+      let a : Has w (base (length (S .sets))) (before S k ++ (enc (trieAt S k) ++ behind S k)) = rw (decode-parts w S (h .decoded) k (h .known) .0) at (decode-has w S (h .decoded)) in
+      record {
+        has = has-at (omega (arith, before-length h, seen-header h .sets)) (has-back (before S k) (enc (trieAt S k) ++ behind S k) a);
+        one = f .first;
+        end = omega (arith, trie-size w S k (h .decoded) (h .known));
+        used = omega (arith, behind-length h);
+        few = omega arith;
+        low = omega arith;
+      }
+
+  pub seen-source : {fuel : ℕ} → fuel ≡ suc (width (getD w 1 0)) → Source w (base (getD w 2 0)) (v .at) (v .at + v .held) (v .at) fuel (trieAt S k)
+  seen-source q =
+      record {
+        u = v .used + 1;
+        rest = behind S k;
+        here = seen-segment;
+        one = seen-figures h .first;
+        behind = omega arith;
+        deep = rw (q, seen-header h .family) (decode-set w S (h .decoded) k (h .known) .trie .deep);
+      }
+
+  module _ {u : List ℕ} {n : ℕ} (s : Shrunk w u (base (getD w 2 0)) (v .at) (trieAt S k) n) where
+    fits : n ≤ roomOf S k
+    fits = omega (arith, in-room w S k (h .decoded) (h .known))
+
+    pub gap-closes : Gap u (base (getD w 2 0)) v n
+    gap-closes = gap-asks h fits (ap length (s .wrote) ∙ length-put w (place (base (getD w 2 0)) (v .at)) (enc (simpleAt S k)))
+
+    module _ {x : List ℕ} (e : x ≡ put u (place (base (getD w 2 0)) (v .at + n)) (behindAt u (base (getD w 2 0)) v)) where
+      closed : x ≡ withTrie w S k v (simpleAt S k)
+      closed = behind-last h (simpleAt S k) (omega (arith, fewer w S k (h .decoded) (h .known))) (s .wrote) (rw (s .nodes) at e)
+
+      pub roots-move : Relink x k (v .held) n
+      roots-move = relink-asks h (enc (simpleAt S k) ++ behind S k) fits closed
+
+      pub return-granted : {y : List ℕ} → y ≡ relinked x k (v .at) (v .held) n → Simplifies w k (answer.Granted n) y
+      unfolding simplifyL
+      return-granted q =
+          changed (change-granted noArgs (listSimple k) h refl (sym (changeNo-simplify w S k (h .decoded) (h .known))) (simpleAt S k) refl refl (sym (s .nodes)) closed q)
+
+-- One outcome.
+pub simplify-one : {w v u : List ℕ} {k : ℕ} {r s : Answer} → Simplifies w k r v → Simplifies w k s u → (r ≡ s) × (v ≡ u)
+simplify-one g h = changed-one g h
+
+-- The outcome: damaged words and a set that is not there are refused and left as they are; any other call is granted, and leaves the state with the list simplified.
+module _ {w v : List ℕ} {k : ℕ} {r : Answer} (h : Simplifies w k r v) where
+  pub simplify-damaged : decode w ≡ damaged → (r ≡ answer.Refused Damaged) × (v ≡ w)
+  unfolding changeRule wordsAfter
+  simplify-damaged d = (answerAs-one r (answer.Refused Damaged) (h .answer ∙ rw d), h .words ∙ rw d)
+
+  module _ (S : State) (d : decode w ≡ sound S) where
+    pub simplify-noset : length (S .sets) ≤ k → (r ≡ answer.Refused NoSet) × (v ≡ w)
+    unfolding changeRule wordsAfter changeNo
+    simplify-noset le = (answerAs-one r (answer.Refused NoSet) (h .answer ∙ rw (d, le-ltb k (length (S .sets)) le)), h .words ∙ rw (d, le-ltb k (length (S .sets)) le))
+
+    pub simplify-granted : k < length (S .sets) → r ≡ answer.Granted (nodesL (simplifyL (listAt S k)))
+    unfolding changeRule
+    simplify-granted lt = answerAs-one r (answer.Granted (nodesL (simplifyL (listAt S k)))) (h .answer ∙ rw (d, changeNo-simplify w S k d lt))
+
+    pub simplify-state : k < length (S .sets) → decode v ≡ sound (withList S k (simplifyL (listAt S k)))
+    simplify-state lt =
+        let l = listAt S k in
+        let f = width (S .family) in
+        let i = isList-simplify f l (isList-within f l (isSet-list f (setAt S k) (rules w S k d lt))) in
+        ap decode (h .words) ∙ (rw (changeNo-simplify w S k d lt) at (decode-after w S k noArgs (listSimple k) d i))

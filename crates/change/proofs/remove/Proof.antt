@@ -1,0 +1,50 @@
+-- `remove` meets its contract: each return by the law for it, with what the calls on the way to it have found. Assumes nothing.
+use native.Mathlib.Omega.{arith}
+use borrow.Author.Needs.{needs}
+use Rattle.nets.specs.Lists.{removeL}
+use Rattle.nets.specs.TrieOps.{removeT}
+use Rattle.change.specs.Steps.{Ready}
+use Rattle.change.proofs.Splices.{left-root}
+use Rattle.change.proofs.Calls.{Counted, works-remove, seat-long, seat-stands, result-stands, result-few, result-many, result-refused, result-room, result-relinks, result-granted}
+use Rattle.change.proofs.remove.Statement.{statement}
+use Rattle.change.proofs.remove.Tie as tie
+
+ready : (c : tie.After-known-told2) → let a = c .before .before .before .before .before .before .args in let x = c .before .asked2 .given .0 in Ready (a .pool .now) (a .set) (a .net) (x .0) (x .1 .0)
+ready c = rw (c .before .asked2 .given .1) at (c .before .before .before .ask .ensures)
+
+counted : (c : tie.After-remove-size) → let d = c .before .before in let g = d .before .before in let a = g .before .before .before .before .before .before .args in let x = g .before .asked2 .given .0 in
+    Counted removeT removeL (a .pool .now) (a .set) (a .net) (x .0) (x .1 .0) (d .seat-of .result) (c .remove-size .result)
+counted c = let d = c .before .before in record { works = works-remove; ready = ready (d .before .before); seat = d .seat-of .ensures; counts = c .remove-size .ensures }
+
+pub remove-spec : {M : Type 1} → statement M
+remove-spec =
+    tie.close
+    (tie.spec
+    (λ c κs. search needs)
+    (λ c. search needs)
+    (λ c. search needs)
+    (λ c κs. seat-long (ready (c .before)))
+    (λ c κs. let h = ready (c .before .before .before) in (h .few, (_, _, _, seat-stands h (c .before .seat-of .ensures))))
+    (λ c. omega (arith, result-few (counted c)))
+    (λ c κs. ready (c .before .before .before .before .before) .surveyed)
+    (λ c κs. result-many (counted (c .before .before .before)) (c .before .judge .ensures) (c .if1 .taken))
+    (λ c. search needs)
+    (λ c. let j = c .before in result-refused (counted (j .before .before .before)) (j .before .judge .ensures) (j .if1 .taken) (c .too-many .ensures))
+    (λ c κs.
+    let j = c .before in
+    let h = counted (j .before .before .before) in
+    (h .ready .few, record { t = _; rest = _; here = result-stands h; one = result-stands h .one; above = omega arith; room = result-room h (j .before .judge .ensures) (j .if1 .left) }))
+    (λ c κs.
+    let i = c .before .before .before in
+    let j = i .before .before in
+    let h = counted (j .before .before .before) in
+    result-relinks h (j .before .judge .ensures) (j .if1 .left) (left-root _ (i .remove .ensures _ _ (result-stands h))))
+    (λ c. search needs)
+    (λ c. (rw (c .before .asked .given .1) at (c .before .before .before .ask .ensures)) _)
+    (λ c. search needs)
+    (λ c.
+    let l = c .before .before in
+    let i = l .before .before .before .before in
+    let j = i .before .before in
+    let h = counted (j .before .before .before) in
+    result-granted h (j .before .judge .ensures) (j .if1 .left) (left-root _ (i .remove .ensures _ _ (result-stands h))) (l .granted .ensures)))

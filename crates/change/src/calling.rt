@@ -1,0 +1,86 @@
+// The steps that the calls with a network share: what they ask first, and how they answer.
+use nets::Net;
+use nets::Prefix;
+use nets::PrefixBits;
+use nets::Refusal;
+use pool::Answer;
+use pool::Survey;
+use pool::checking::HEAD;
+use pool::checking::RECORD;
+use pool::checking::survey;
+use pool::relinking::relink;
+ghost use mathlib.Core.Path.{_≡_};
+ghost use Prim.Native.Nat.{_<_};
+ghost use lib.ListN.{length};
+ghost use Rattle.pool.specs.Rules.{answerAs};
+ghost use Rattle.pool.specs.Steps.{relinked, Relink};
+ghost use Rattle.change.specs.Steps.{Asks, seatOf};
+
+// A call goes on with what a pass over the pool found and the bits of the network, or it is refused.
+pub enum Asked {
+    Go(Survey, PrefixBits),
+    Refused(Refusal),
+}
+
+// Where the trie of a set stands: the nodes from the word `base` on, the trie from node `first` up to node `end`, the nodes in use up to node `used`.
+pub struct Seat {
+    pub base: usize,
+    pub first: usize,
+    pub end: usize,
+    pub used: usize,
+}
+
+// The pool is sound, the set is there, and the network is one of the pool's family.
+pub fn ask(pool: &[u32], set: u32, net: Net) -> Asked
+    ensures { λ r. ⌜ Asks (now (pool .entry)) set net r ⌝ }
+{
+    let found = survey(pool, set);
+    if !found.sound {
+        return Asked::Refused(Refusal::Damaged);
+    }
+    if pool[2] <= set {
+        return Asked::Refused(Refusal::NoSet);
+    }
+    if net.family as u32 != pool[1] {
+        return Asked::Refused(Refusal::WrongFamily);
+    }
+    let prefix = net.prefix_bits();
+    match prefix {
+        Prefix::Bits(s) => Asked::Go(found, s),
+        Prefix::Refused(no) => Asked::Refused(no),
+    }
+}
+
+// Where the trie of the surveyed set stands.
+pub fn seat_of(pool: &[u32], found: Survey) -> Seat
+    requires { ⌜ 2 < length (now pool) ⌝ }
+    ensures { λ r. ⌜ r ≡ seatOf (now (pool .entry)) found ⌝ }
+{
+    let first = found.at as usize;
+    Seat {
+        base: HEAD + RECORD * (pool[2] as usize),
+        first,
+        end: first + found.held as usize,
+        used: found.used as usize + 1,
+    }
+}
+
+// The answer where the nodes of the result are judged too many, by the number of the refusal.
+pub fn too_many(no: u8) -> Answer
+    requires { ⌜ ((no ≡ 9 → ⊥) → no ≡ 10) ⌝ }
+    ensures { λ r. ⌜ answerAs r ≡ (no, 0) ⌝ }
+{
+    if no == 9 {
+        return Answer::Refused(Refusal::OverLimit);
+    }
+    Answer::Refused(Refusal::NoRoom)
+}
+
+// Puts the roots right once the nodes of the result, n of them, are written; answers n.
+pub fn granted(pool: &mut [u32], set: u32, found: Survey, n: u32) -> Answer
+    requires { ⌜ Relink (now pool) set (found .held) n ⌝ }
+    ensures { λ r. ⌜ (answerAs r ≡ (0, n)) × (now (pool .exit) ≡ relinked (now (pool .entry)) set (found .at) (found .held) n) ⌝ }
+{
+    relink(pool, set, found.at, found.held, n);
+    Answer::Granted(n)
+}

@@ -1,0 +1,4 @@
+-- One call, the histories, and two histories side by side.
+pub mod Step
+pub mod Histories
+pub mod TwoHistories

@@ -1,0 +1,79 @@
+-- The calls that change a set. Four things say what a call is: the set that it writes, whether it names another, the number that its arguments get, and the list that is its
+-- result. All else is said once for every call, so a further call is one more case of each.
+--
+--   target c, namesOne c      the set that c writes;  c names no other set
+--   argsNo c S, resultOf c S  the number that the arguments of c get in the state S, 0 where they are right;  the list that c makes of the lists of S
+--   callNo S c, answerOf S c  the number of the answer, and the answer whole
+--   stateAfter S c            the state that c leaves
+--   Outcome w c r v           what the contracts allow: from the words w the call c answers r and leaves the words v
+use mathlib.Core.Bool.{Bool, true, false, cond, _&&_}
+use mathlib.Core.List.{List, [], _∷_}
+use Prim.Native.Nat.{ℕ}
+use lib.Dec.{eqb, ltb}
+use lib.ListN.{length}
+use Rattle.nets.specs.Bits.{Bits}
+use Rattle.nets.specs.Lists.{nodesL, addL, removeL, simplifyL, mergeL, intersectL, excludeL}
+use Rattle.nets.specs.Networks.{netBits}
+use Rattle.nets.specs.Refusals.{answered}
+use Rattle.nets.specs.declared.Net.{Net}
+use Rattle.pool.specs.States.{State}
+use Rattle.pool.specs.Changes.{listAt, withList, changeNo, Changed, netNo}
+use Rattle.pool.specs.declared.Answer.{Answer}
+
+-- a set and a network; a set; the set to write and the two to read
+pub data Call : Type 0 where
+  add remove : ℕ → Net → Call
+  simplify : ℕ → Call
+  merge intersect exclude : ℕ → ℕ → ℕ → Call
+
+abbrev pub target : Call → ℕ
+target (add k n) = k
+target (remove k n) = k
+target (simplify k) = k
+target (merge to a b) = to
+target (intersect to a b) = to
+target (exclude to a b) = to
+
+abbrev pub namesOne : Call → Bool
+namesOne (add k n) = true
+namesOne (remove k n) = true
+namesOne (simplify k) = true
+namesOne (merge to a b) = eqb a to && eqb b to
+namesOne (intersect to a b) = eqb a to && eqb b to
+namesOne (exclude to a b) = eqb a to && eqb b to
+
+abbrev pub isEmpty : List Bits → Bool
+isEmpty [] = true
+isEmpty (p ∷ l) = false
+
+-- 3 where a source is no set, then 8 where the destination isn't empty
+unfoldable pub combineNo : ℕ → ℕ → ℕ → State → ℕ
+combineNo to a b S = cond (ltb a (length (S .sets)) && ltb b (length (S .sets))) (cond (isEmpty (listAt S to)) 0 8) 3
+
+abbrev pub argsNo : Call → State → ℕ
+argsNo (add k n) = netNo n
+argsNo (remove k n) = netNo n
+argsNo (simplify k) = λ S. 0
+argsNo (merge to a b) = combineNo to a b
+argsNo (intersect to a b) = combineNo to a b
+argsNo (exclude to a b) = combineNo to a b
+
+abbrev pub resultOf : Call → State → List Bits
+resultOf (add k n) = λ S. addL (listAt S k) (netBits n)
+resultOf (remove k n) = λ S. removeL (listAt S k) (netBits n)
+resultOf (simplify k) = λ S. simplifyL (listAt S k)
+resultOf (merge to a b) = λ S. mergeL (listAt S a) (listAt S b)
+resultOf (intersect to a b) = λ S. intersectL (listAt S a) (listAt S b)
+resultOf (exclude to a b) = λ S. excludeL (listAt S a) (listAt S b)
+
+abbrev pub callNo : State → Call → ℕ
+callNo S c = changeNo S (target c) (argsNo c S) (resultOf c S)
+
+abbrev pub answerOf : State → Call → ℕ × ℕ
+answerOf S c = answered (callNo S c) 0 (nodesL (resultOf c S))
+
+unfoldable pub stateAfter : State → Call → State
+stateAfter S c = cond (eqb (callNo S c) 0) (withList S (target c) (resultOf c S)) S
+
+abbrev pub Outcome : List ℕ → Call → Answer → List ℕ → Type 0
+Outcome w c r v = Changed w (target c) (argsNo c) (resultOf c) r v

@@ -1,0 +1,7 @@
+-- The laws of what is listed: reading a trie, its paths as networks, its levels, counting, the rows at their places, and going on from a place.
+pub mod Reading
+pub mod Paths
+pub mod Levels
+pub mod Counting
+pub mod Placing
+pub mod Resuming
