@@ -1,6 +1,5 @@
 -- A trie in the middle of the used words: its word, its children, and the whole after a change of one of them. Assumes nothing.
 use mathlib.Core.Path.{_≡_, refl, sym, ap, _∙_}
-use mathlib.Core.Bool.{Bool, true, false}
 use mathlib.Core.List.{List, [], _∷_, _++_, append-assoc}
 use Prim.Native.Nat.{ℕ, zero, suc, _+_, _-_, _/_, _≤_, _<_}
 use native.Mathlib.Numerals.{one-add}
@@ -63,11 +62,6 @@ module _ {w : List ℕ} {b i e u : ℕ} {t : Trie} {rest : List ℕ} (g : Segmen
   -- nothing is changed
   pub spliced-same : Spliced w w b i e t rest
   spliced-same = record { wrote = sym (has-same (g .has)); end = g .end }
-
-  -- the words behind are moved to where the trie began
-  pub spliced-cut : (v : List ℕ) → v ≡ put w (b + (i - 1)) (take (u - e) (drop (b + (e - 1)) w)) → Spliced w v b i i none rest
-  unfolding enc size
-  spliced-cut v q = record { wrote = rw (q, segment-rest); end = omega arith }
 
 module _ {w : List ℕ} {b i e u : ℕ} {l r : Trie} {rest : List ℕ} (g : Segment w b i e u (node l r) rest) where
   words : Has w (place b i) (word l r ∷ (enc l ++ (enc r ++ rest)))
