@@ -1,7 +1,9 @@
--- The laws of what is listed: reading a trie, its paths as networks, its levels, counting, the rows at their places, and going on from a place.
+-- The laws of what is listed: reading a trie, its paths as networks, its levels, counting, the rows at their places, and going on from a place; then the calls on a set, and their outcomes.
 pub mod Reading
 pub mod Paths
 pub mod Levels
 pub mod Counting
 pub mod Placing
 pub mod Resuming
+pub mod Calls
+pub mod Outcomes

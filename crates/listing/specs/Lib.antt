@@ -1,5 +1,8 @@
--- A trie to be read, the rows of a list, the road on which they are written, and the network that follows a place.
-pub mod Spans
+-- The rows of a list and the calls; then what the inner functions cite: a trie to be read and where it stands, the road on which rows are written, the network that follows a place.
 pub mod Rows
+pub mod Calls
+pub mod Spans
+pub mod Seats
 pub mod Laying
 pub mod Following
+pub mod Places

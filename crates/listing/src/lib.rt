@@ -1,5 +1,78 @@
-// Lists out: the rows of a set, and the network that follows a place. Each function asks in its contract that a trie stands where it is to read one.
+// Lists out: the rows of a set, and the network that follows a place. Each public call checks the pool in one pass; who goes through a whole set uses
+// following::next_after, which asks in its contract that a trie stands where it is to read one.
+use following::Next;
+use following::next_after;
+use nets::Net;
+use nets::Refusal;
+use places::Placed;
+use places::place_of;
+use pool::Answer;
+use rows::count;
+use rows::write_rows;
+use seats::Seated;
+use seats::seat_of;
+ghost use mathlib.Core.Path.{_≡_};
+ghost use Rattle.pool.specs.Decode.{decode};
+ghost use Rattle.listing.specs.Calls.{Listed, followerAs, nextRule};
+
 pub mod following;
 mod halves;
 mod lengths;
+mod places;
 pub mod rows;
+pub mod seats;
+
+// From the first network on, or behind a network, which need not be listed.
+pub enum From {
+    Start,
+    Past(Net),
+}
+
+// What next answers.
+pub enum Follower {
+    Network(Net),
+    End,
+    Refused(Refusal),
+}
+
+// Writes the networks of a set in list order, three numbers for each: high word, low word, length. Answers how many there are. Entries past them keep what they had,
+// and a refusal writes nothing.
+pub fn list(pool: &[u32], set: u32, rows: &mut [u64]) -> Answer
+    ensures { λ r. ⌜ Listed (now (pool .entry)) set (now (rows .entry)) r (now (rows .exit)) ⌝ }
+{
+    let seated = seat_of(pool, set);
+    match seated {
+        Seated::Refused(no) => Answer::Refused(no),
+        Seated::At(s) => {
+            let n = count(pool, s.base, s.first, s.end);
+            if rows.len() < 3 * n {
+                return Answer::Refused(Refusal::ShortBuffer);
+            }
+            write_rows(pool, s.base, s.first, s.end, s.family, rows);
+            Answer::Granted(n as u32)
+        }
+    }
+}
+
+// The first network of a set in list order from there on.
+pub fn next(pool: &[u32], set: u32, from: From) -> Follower
+    ensures { λ r. ⌜ followerAs r ≡ nextRule (decode (now (pool .entry))) set from ⌝ }
+{
+    let seated = seat_of(pool, set);
+    match seated {
+        Seated::Refused(no) => Follower::Refused(no),
+        Seated::At(s) => {
+            let placed = place_of(s.family, from);
+            match placed {
+                Placed::Refused(no) => Follower::Refused(no),
+                Placed::At(place) => {
+                    let x = next_after(pool, s.base, s.first, s.end, s.family, place);
+                    match x {
+                        Next::Network(n) => Follower::Network(n),
+                        Next::End => Follower::End,
+                    }
+                }
+            }
+        }
+    }
+}

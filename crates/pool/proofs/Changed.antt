@@ -103,7 +103,7 @@ startOf-from k i [] lt = absurd (omega arith)
 startOf-from zero i (x ∷ xs) lt = omega arith
 startOf-from (suc k) i (x ∷ xs) lt = omega (arith, startOf-from k (i + held x) xs (omega arith))
 
-startOf-behind : (k s i : ℕ) (ss : List SetState) → k < s → s < length ss → startOf k i ss + held (getD ss k noSet) ≤ startOf s i ss
+pub startOf-behind : (k s i : ℕ) (ss : List SetState) → k < s → s < length ss → startOf k i ss + held (getD ss k noSet) ≤ startOf s i ss
 startOf-behind k s i [] lt le = absurd (omega arith)
 startOf-behind k zero i (x ∷ xs) lt le = absurd (omega arith)
 startOf-behind zero (suc s) i (x ∷ xs) lt le = startOf-from s (i + held x) xs (omega arith)

@@ -1,0 +1,100 @@
+-- A gap opened before a node, and a result written into it: what stands behind moves as a whole, so a source means the same trie by its moved number, and stands apart
+-- from the gap. Assumes nothing.
+use mathlib.Core.List.{List}
+use mathlib.Core.Path.{_≡_, _∙_}
+use Prim.Native.Nat.{ℕ, _+_, _-_, _≤_, _<_}
+use native.Mathlib.Decide.{decLt}
+use native.Mathlib.Omega.{arith}
+use lib.ListN.{length, take, drop, length-drop}
+use lib.Seq.{getD-take, getD-drop, length-take-le}
+use borrow.Author.Tests.{lt-ltb, le-ltb}
+use Rattle.nets.specs.Tries.{Trie, node, size}
+use Rattle.nodes.specs.Words.{put, Has, place, enc}
+use Rattle.nodes.proofs.Put.{length-put, getD-put-in}
+use Rattle.nodes.proofs.Has.{has-put, has-at}
+use Rattle.nodes.proofs.Tries.{length-enc}
+use Rattle.emit.specs.Answers.{Emits, restOf}
+use Rattle.emit.specs.Combine.{opOn, Here, Means, nothing, everything, standing, Inputs, Gap as Free}
+use Rattle.emit.specs.declared.emitting.Emitted.{Emitted}
+use Rattle.emit.specs.declared.emitting.Emitted.the-variants.{Full}
+use Rattle.emit.proofs.Answers.{full-size, settled}
+use Rattle.pool.specs.Steps.{behindAt}
+use Rattle.pool.specs.declared.Survey.{Survey}
+use Rattle.combine.specs.Steps.{movedTo, Whole, Writable, written}
+use Rattle.combine.specs.declared.asking.Sources.{Sources}
+
+-- a part of m words that move from p to q
+has-moved : {w ys : List ℕ} (p q m d : ℕ) → p + m ≤ length w → q + m ≤ length w → d + length ys ≤ m → Has w (p + d) ys → Has (put w q (take m (drop p w))) (q + d) ys
+has-moved {w} {ys} p q m d lp lq le h =
+    let xs = take m (drop p w) in
+    let n : length xs ≡ m = length-take-le m (drop p w) (omega (arith, length-drop p w)) in
+    record {
+      fits = rw (length-put w q xs) (omega arith);
+      at = λ k l.
+          let a : q + d + k ≡ q + (d + k) = omega arith in
+          let b : p + (d + k) ≡ p + d + k = omega arith in
+          rw a (getD-put-in w q xs (d + k) (omega arith) (omega arith) ∙ getD-take m (drop p w) (d + k) 0 (omega arith) ∙ getD-drop p w (d + k) 0 ∙ rw b (h .at k l));
+    }
+
+module _ {w : List ℕ} {op : ℕ} {s : Sources} {v : Survey} {n : ℕ} {t u : Trie} (h : Writable w op s v n t u) {z : List ℕ} (e : z ≡ put w (place (s .base) (v .at + n)) (behindAt w (s .base) v)) where
+  opened-length : length z ≡ length w
+  opened-length = rw e (length-put w (place (s .base) (v .at + n)) (behindAt w (s .base) v))
+
+  -- a trie before the gap stays, one behind it moves
+  here-before : {i : ℕ} (x : Trie) → Here w (s .base) 0 0 i x → i + size x ≤ v .at → Here z (s .base) (v .at) (v .at + n) i x
+  here-before x g le = record {
+    has = rw e (has-put (place (s .base) (v .at + n)) (behindAt w (s .base) v) (g .has) (λ k a b c d. omega (arith, length-enc x)));
+    one = g .one;
+    few = g .few;
+    clear = λ k a b c d. omega arith;
+  }
+
+  here-behind : {i : ℕ} (x : Trie) → Here w (s .base) 0 0 i x → v .at ≤ i → i + size x ≤ v .used + 1 → Here z (s .base) (v .at) (v .at + n) (i + n) x
+  unfolding behindAt
+  here-behind {i} x g le fit =
+      let p = place (s .base) (v .at + v .held) in
+      let q = place (s .base) (v .at + n) in
+      let m = v .used + 1 - (v .at + v .held) in
+      let a : Has w (p + (i - v .at)) (enc x) = has-at (omega arith) (g .has) in
+      record {
+        has = rw e (has-at (omega arith) (has-moved p q m (i - v .at) (omega arith) (omega arith) (omega (arith, length-enc x)) a));
+        one = omega arith;
+        few = omega arith;
+        clear = λ k a b c d. omega arith;
+      }
+
+  means-moved : (i : ℕ) (x : Trie) → Means w (s .base) 0 0 i x → Whole (v .at) (v .used + 1) i x → Means z (s .base) (v .at) (v .at + n) (movedTo (v .at) n i) x
+  means-moved i x nothing k = rw (lt-ltb 0 (v .at) (omega arith)) nothing
+  means-moved i x everything k = absurd (omega arith)
+  means-moved i x (standing {i = j} {l = l} {r = r} g) k = go (decLt j (v .at))
+    where
+      go : Dec (j < v .at) → Means z (s .base) (v .at) (v .at + n) (movedTo (v .at) n j) (node l r)
+      go (yes a) = rw (lt-ltb j (v .at) a) (standing (here-before (node l r) g (k .before a)))
+      go (no a) = rw (le-ltb j (v .at) (omega arith)) (standing (here-behind (node l r) g (omega arith) (k .within)))
+
+  -- what emission asks
+  abbrev result : Trie
+  result = opOn op (s .levels) t u
+
+  pub write-inputs : {a c : ℕ} → a ≡ movedTo (v .at) n (s .first) → c ≡ movedTo (v .at) n (s .second) → Inputs z (s .base) a c (v .at) (v .at + n) (s .levels) t u
+  write-inputs p q = record {
+    first = rw p (means-moved (s .first) t (h .inputs .first) (h .whole-t));
+    second = rw q (means-moved (s .second) u (h .inputs .second) (h .whole-u));
+    deep-t = h .inputs .deep-t;
+    deep-u = h .inputs .deep-u;
+    turn = h .inputs .turn;
+    few = omega arith;
+  }
+
+  pub write-free : Free z (s .base) (v .at) (v .at + n) result
+  write-free = record { one = h .gap .first; fits = λ m. omega arith; room = rw opened-length (omega arith); low = omega arith }
+
+  -- and what settling its answer leaves
+  module _ {y : List ℕ} {x : Emitted} (d : Emits z y (s .base) (v .at) x result) where
+    pub write-settles : (1 ≤ v .at) × (x ≡ Full → place (s .base) (v .at) < length y)
+    write-settles =
+        let k : length y ≡ length w = rw (d .wrote) (length-put z (place (s .base) (v .at)) _ ∙ opened-length) in
+        (h .gap .first, λ f. omega (arith, full-size x result (v .at) (d .answers) f))
+
+    pub write-wrote : {r : List ℕ} → r ≡ put y (place (s .base) (v .at)) (restOf x) → r ≡ written w op s v n t u
+    write-wrote q = rw (← e) (settled d q)

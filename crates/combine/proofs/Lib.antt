@@ -1,0 +1,10 @@
+-- The laws of the calls on two sets, from the bottom up.
+-- A gap opened, and a result written into it.
+pub mod Gaps
+-- The sources of a combination, and its returns.
+pub mod Sources
+pub mod Calls
+-- The comparison of two sets.
+pub mod Compared
+-- What the calls come to.
+pub mod Outcomes

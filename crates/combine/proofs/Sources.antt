@@ -1,0 +1,99 @@
+-- A set as a source: its root means its trie, which lists what the set has. The trie stands wholly before a place where another set begins, or wholly behind it, as sets stand
+-- one behind the other. Assumes nothing.
+use mathlib.Core.Bool.{true, cond}
+use mathlib.Core.List.{List, []}
+use mathlib.Core.Path.{_≡_, refl, sym, ap, _∙_}
+use Prim.Native.Nat.{ℕ, suc, _+_, _≤_, _<_}
+use native.Mathlib.Decide.{decLt}
+use native.Mathlib.Omega.{arith}
+use lib.ListN.{getD}
+use Rattle.nets.specs.Lists.{nodesL}
+use Rattle.nets.specs.Tries.{Trie, none, node, size, levels, isNone, listOf}
+use Rattle.nets.specs.Networks.{width}
+use Rattle.nets.proofs.Nodes.{nodesL-empty}
+use Rattle.nets.proofs.TrieOf.{trieOf-listOf}
+use Rattle.nodes.proofs.Segments.{none-is}
+use Rattle.nodes.proofs.Tries.{length-enc, some}
+use Rattle.emit.specs.Combine.{Here, Means}
+use Rattle.emit.proofs.Sources.{means-here}
+use Rattle.pool.specs.States.{State, isSet}
+use Rattle.pool.specs.Decode.{recordAt, base, rootAt, decode}
+use Rattle.pool.specs.Rules.{startOf, surveyOf}
+use Rattle.pool.specs.Changes.{setAt, listAt}
+use Rattle.pool.specs.declared.Survey.{Survey}
+use Rattle.pool.proofs.Holds.{set-listOf, rootAt-trie}
+use Rattle.pool.proofs.Decoded.{decode-header, decode-set, decode-root, decode-at}
+use Rattle.pool.proofs.Seen.{Seen, trieAt, survey-seen, seen-figures, own-has, own-length}
+use Rattle.pool.proofs.Changed.{startOf-behind}
+use Rattle.combine.specs.Steps.{Whole}
+
+-- A set: its trie lists what it has, and has no node exactly if the list is empty.
+module _ {w : List ℕ} {S : State} {k : ℕ} {v : Survey} (h : Seen w S k v) where
+  rules : isSet (width (S .family)) (setAt S k) ≡ true
+  rules = decode-set w S (h .decoded) k (h .known) .rules
+
+  pub seen-list : listOf (trieAt S k) ≡ listAt S k
+  seen-list = set-listOf (width (S .family)) (setAt S k) rules
+
+  pub seen-size : size (trieAt S k) ≡ v .held
+  seen-size = sym (length-enc (trieAt S k)) ∙ own-length h
+
+  pub seen-empty : v .held ≡ 0 → listAt S k ≡ []
+  unfolding listOf levels
+  seen-empty e = sym seen-list ∙ ap listOf (none-is (trieAt S k) (seen-size ∙ e))
+
+  pub seen-some : (v .held ≡ 0 → ⊥) → listAt S k ≡ [] → ⊥
+  seen-some ne e = ne (h .held ∙ ap nodesL e ∙ nodesL-empty)
+
+-- The root of a set's trie, by the trie.
+root-is : (i : ℕ) (t : Trie) → rootAt i (listOf t) ≡ cond (isNone t) 0 i
+unfolding listOf levels
+root-is i none = refl
+root-is i (node l r) = rootAt-trie i (listOf (node l r)) (λ e. some l r (sym (trieOf-listOf (node l r)) ∙ e))
+
+whole-root : (o e i : ℕ) (t : Trie) → (i < o → i + size t ≤ o) → i + size t ≤ e → Whole o e (cond (isNone t) 0 i) t
+unfolding size
+whole-root o e i none f le = record { before = λ l. omega arith; within = omega arith }
+whole-root o e i (node l r) f le = record { before = f; within = le }
+
+-- The set j as a source, beside what a pass found for another: all that an operation asks of it.
+pub record Source (w : List ℕ) (S : State) (v : Survey) (j : ℕ) : Type 0 where
+  pub means : Means w (base (getD w 2 0)) 0 0 (getD w (recordAt j) 0) (trieAt S j)
+  pub whole : Whole (v .at) (v .used + 1) (getD w (recordAt j) 0) (trieAt S j)
+  pub deep : levels (trieAt S j) ≤ suc (width (getD w 1 0))
+  pub list : listOf (trieAt S j) ≡ listAt S j
+  pub few : size (trieAt S j) ≤ 4194304
+
+module _ {w : List ℕ} {S : State} {k : ℕ} {v : Survey} (h : Seen w S k v) (j : ℕ) (lt : j < getD w 2 0) where
+  abbrev pub its : Survey
+  its = surveyOf (decode w) j
+
+  pub source-seen : Seen w S j its
+  source-seen = survey-seen w j its refl S (h .decoded) lt
+
+  pub source-root : getD w (recordAt j) 0 ≡ cond (isNone (trieAt S j)) 0 (its .at)
+  source-root =
+      let g = source-seen in
+      rw (g .at) (decode-root w S (h .decoded) j (g .known) ∙ ap (rootAt (startOf j 1 (S .sets))) (sym (seen-list g)) ∙ root-is (startOf j 1 (S .sets)) (trieAt S j))
+
+  source-before : its .at < v .at → its .at + size (trieAt S j) ≤ v .at
+  source-before l = go source-seen (decLt j k) (decLt k j)
+    where
+      go : Seen w S j its → Dec (j < k) → Dec (k < j) → its .at + size (trieAt S j) ≤ v .at
+      go g (yes a) b = omega (arith, startOf-behind j k 1 (S .sets) a (h .known), seen-size g)
+      go g (no a) (yes b) = absurd (omega (arith, startOf-behind k j 1 (S .sets) b (g .known)))
+      go g (no a) (no b) = let e : j ≡ k = omega arith in absurd (omega (arith, ap (λ n. startOf n 1 (S .sets)) e))
+
+  pub source : Source w S v j
+  source =
+      let g = source-seen in
+      let f = seen-figures g in
+      let here : Here w (base (getD w 2 0)) 0 0 (its .at) (trieAt S j) =
+      record { has = own-has g; one = f .first; few = omega (arith, seen-size g); clear = λ n a b c d. omega arith } in
+      record {
+        means = rw source-root (means-here (trieAt S j) here);
+        whole = rw source-root (whole-root (v .at) (v .used + 1) (its .at) (trieAt S j) source-before (omega (arith, seen-size g)));
+        deep = rw (decode-header w S (h .decoded) .family) (decode-at w S (h .decoded) j (g .known) .deep);
+        list = seen-list g;
+        few = omega (arith, seen-size g);
+      }

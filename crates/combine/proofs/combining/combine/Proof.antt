@@ -1,0 +1,48 @@
+-- `combining::combine` meets its contract, each return by the tests on the way to it. Assumes nothing.
+use denote.Ref.{now}
+use borrow.Author.Needs.{needs}
+use Rattle.combine.specs.Steps.{Ready}
+use Rattle.combine.proofs.Calls.{ready-records, ready-inputs, Counted, result-few, result-many, result-refused, result-writes, result-relinks, result-granted}
+use Rattle.combine.proofs.combining.combine.Statement.{statement}
+use Rattle.combine.proofs.combining.combine.Tie as tie
+
+abbrev start : tie.After-asked2 → tie.Start
+start c = c .before .before .before .before .before
+
+ready : (c : tie.After-asked2) → let a = start c .args in Ready (now (a .pool)) (a .to) (a .first) (a .second) (c .asked2 .given .0 .0)
+ready c = rw (c .asked2 .given .1) at (c .before .before .ask .ensures)
+
+abbrev asked : tie.After-op-size → tie.After-asked2
+asked c = c .before .before .before .before .before
+
+counted : (c : tie.After-op-size) → let a = start (asked c) .args in
+    Counted (a .op) (now (a .pool)) (a .to) (a .first) (a .second) (asked c .asked2 .given .0 .0) (c .before .before .sources-of .result) (c .op-size .result)
+counted c = record { operation = start (asked c) .pre; ready = ready (asked c); sources = c .before .before .sources-of .ensures; count = c .op-size .ensures }
+
+pub combine-spec : {M : Type 1} → statement M
+combine-spec =
+    tie.close
+    (tie.spec
+    (λ c κs. search needs)
+    (λ c. search needs)
+    (λ c. search needs)
+    (λ c κs. ready-records (ready (c .before .before)))
+    (λ c κs. (_, _, ready-inputs (ready (c .before .before .before .before)) (c .before .sources-of .ensures)))
+    (λ c. record { fits = result-few (counted c) })
+    (λ c κs. counted (c .before) .ready .surveyed)
+    (λ c κs. result-many (counted (c .before .before .before)) (c .before .judge .ensures) (c .if1 .taken))
+    (λ c. search needs)
+    (λ c. let j = c .before .before in result-refused (counted (j .before .before)) (j .judge .ensures) (c .before .if1 .taken) (c .too-many .ensures))
+    (λ c κs. let j = c .before .before in (_, _, result-writes (counted (j .before .before)) (j .judge .ensures) (c .before .if1 .left)))
+    (λ c κs.
+    let x = c .before .before .before in
+    let j = x .before .before .before in
+    result-relinks (counted (j .before .before)) (j .judge .ensures) (x .before .before .if1 .left) (x .write .ensures))
+    (λ c. search needs)
+    (λ c. (rw (c .before .asked .given .1) at (c .before .before .before .ask .ensures)) _)
+    (λ c. search needs)
+    (λ c.
+    let y = c .before .before in
+    let x = y .before .before .before .before in
+    let j = x .before .before .before in
+    result-granted (counted (j .before .before)) (j .judge .ensures) (x .before .before .if1 .left) (x .write .ensures) (y .relink .ensures)))

@@ -1,0 +1,81 @@
+-- The steps of a combination and of a comparison: what they ask, and what they leave.
+--
+--   Operation op, combineL op    the numbers of the operations, and what each makes of two lists
+--   Ready w to first second v    a combination can go on: v is what a pass over the pool found for its empty destination;  Asks: that, or its refusal
+--   sourcesOf w first second     what a combination reads
+--   movedTo o n i                the number of node i after n nodes were put in before node o
+--   Writable, written            what writing the result asks, and the words that it leaves
+--   Agree w p q n r              r says whether n words from p on are those from q on
+use mathlib.Core.Bool.{Bool, true, false, cond}
+use mathlib.Core.List.{List}
+use mathlib.Core.Path.{_≡_}
+use Prim.Native.Nat.{ℕ, zero, suc, _+_, _≤_, _<_}
+use lib.Dec.{ltb}
+use lib.ListN.{getD}
+use Rattle.nets.specs.Bits.{Bits}
+use Rattle.nets.specs.Lists.{mergeL, intersectL, excludeL}
+use Rattle.nets.specs.Tries.{Trie, size}
+use Rattle.nets.specs.Networks.{width}
+use Rattle.nodes.specs.Words.{put, place, enc}
+use Rattle.emit.specs.Combine.{opOn, Inputs}
+use Rattle.pool.specs.States.{State}
+use Rattle.pool.specs.Decode.{recordAt, base}
+use Rattle.pool.specs.Changes.{Changed}
+use Rattle.pool.specs.Steps.{Surveyed, behindAt, Gap}
+use Rattle.pool.specs.declared.Answer.the-variants as answer
+use Rattle.pool.specs.declared.Survey.{Survey}
+use Rattle.combine.specs.Rules.{combineNo}
+use Rattle.combine.specs.declared.asking.Asked.{Asked}
+use Rattle.combine.specs.declared.asking.Asked.the-variants.{Go, Refused}
+use Rattle.combine.specs.declared.asking.Sources.{Sources}
+
+pub data Operation : ℕ → Type 0 where
+  merging : Operation 0
+  intersecting : Operation 1
+  excluding : Operation 3
+
+abbrev pub combineL : ℕ → List Bits → List Bits → List Bits
+combineL zero l m = mergeL l m
+combineL (suc zero) l m = intersectL l m
+combineL (suc (suc n)) l m = excludeL l m
+
+pub record Ready (w : List ℕ) (to first second : ℕ) (v : Survey) : Type 0 where
+  pub surveyed : Surveyed w to v
+  pub known : (first < getD w 2 0) × (second < getD w 2 0)
+  pub empty : v .held ≡ 0
+
+-- a refusal is that of every operation
+abbrev pub Asks : List ℕ → ℕ → ℕ → ℕ → Asked → Type 0
+Asks w to first second (Go v) = Ready w to first second v
+Asks w to first second (Refused x) = (f : State → List Bits) → Changed w to (combineNo to first second) f (answer.Refused x) w
+
+abbrev pub sourcesOf : List ℕ → ℕ → ℕ → Sources
+sourcesOf w first second =
+    record { base = base (getD w 2 0); first = getD w (recordAt first) 0; second = getD w (recordAt second) 0; levels = suc (width (getD w 1 0)) }
+
+abbrev pub movedTo : ℕ → ℕ → ℕ → ℕ
+movedTo o n i = cond (ltb i o) i (i + n)
+
+-- the nodes of the trie t at node i lie all before node o or all behind it, and before node e
+pub record Whole (o e i : ℕ) (t : Trie) : Type 0 where
+  pub before : i < o → i + size t ≤ o
+  pub within : i + size t ≤ e
+
+-- the sources are the tries t and u, the result has n nodes, and there is room for them
+pub record Writable (w : List ℕ) (op : ℕ) (s : Sources) (v : Survey) (n : ℕ) (t u : Trie) : Type 0 where
+  pub inputs : Inputs w (s .base) (s .first) (s .second) 0 0 (s .levels) t u
+  pub whole-t : Whole (v .at) (v .used + 1) (s .first) t
+  pub whole-u : Whole (v .at) (v .used + 1) (s .second) u
+  pub size : size (opOn op (s .levels) t u) ≡ n
+  pub empty : v .held ≡ 0
+  pub gap : Gap w (s .base) v n
+  pub few : v .used + 1 + n ≤ 1073741824
+  pub levels : s .levels ≤ 129
+
+-- the sets behind the gap moved, and the result in it
+abbrev pub written : List ℕ → ℕ → Sources → Survey → ℕ → Trie → Trie → List ℕ
+written w op s v n t u = put (put w (place (s .base) (v .at + n)) (behindAt w (s .base) v)) (place (s .base) (v .at)) (enc (opOn op (s .levels) t u))
+
+abbrev pub Agree : List ℕ → ℕ → ℕ → ℕ → Bool → Type 0
+Agree w p q n true = (k : ℕ) → k < n → getD w (p + k) 0 ≡ getD w (q + k) 0
+Agree w p q n false = (k : ℕ) × (k < n) × (getD w (p + k) 0 ≡ getD w (q + k) 0 → ⊥)

@@ -1,0 +1,76 @@
+// The first steps of a combination, and its refusals.
+use nets::Refusal;
+use pool::Answer;
+use pool::Survey;
+use pool::checking::HEAD;
+use pool::checking::RECORD;
+use pool::checking::most_levels;
+use pool::checking::survey;
+ghost use mathlib.Core.Path.{_≡_};
+ghost use Prim.Native.Nat.{_<_};
+ghost use lib.ListN.{length};
+ghost use Rattle.pool.specs.Decode.{recordAt};
+ghost use Rattle.pool.specs.Rules.{answerAs};
+ghost use Rattle.combine.specs.Steps.{Asks, sourcesOf};
+
+// What a combination goes on with: what a pass over the pool found for its destination. Or its refusal.
+pub enum Asked {
+    Go(Survey),
+    Refused(Refusal),
+}
+
+// What a combination reads: the nodes from the word `base` on, the roots of its sources, 0 where one is empty, and the levels that a trie may have.
+pub struct Sources {
+    pub base: usize,
+    pub first: usize,
+    pub second: usize,
+    pub levels: usize,
+}
+
+// The pool is sound, the three sets are there, and the destination is empty.
+pub fn ask(pool: &[u32], to: u32, first: u32, second: u32) -> Asked
+    ensures { λ r. ⌜ Asks (now (pool .entry)) to first second r ⌝ }
+{
+    let found = survey(pool, to);
+    if !found.sound {
+        return Asked::Refused(Refusal::Damaged);
+    }
+    let sets = pool[2];
+    if sets <= to {
+        return Asked::Refused(Refusal::NoSet);
+    }
+    if sets <= first {
+        return Asked::Refused(Refusal::NoSet);
+    }
+    if sets <= second {
+        return Asked::Refused(Refusal::NoSet);
+    }
+    if found.held != 0 {
+        return Asked::Refused(Refusal::Occupied);
+    }
+    Asked::Go(found)
+}
+
+// What a combination of two sets reads.
+pub fn sources_of(pool: &[u32], first: u32, second: u32) -> Sources
+    requires { ⌜ (recordAt first < length (now pool)) × (recordAt second < length (now pool)) ⌝ }
+    ensures { λ r. ⌜ r ≡ sourcesOf (now (pool .entry)) first second ⌝ }
+{
+    Sources {
+        base: HEAD + RECORD * (pool[2] as usize),
+        first: pool[HEAD + RECORD * (first as usize)] as usize,
+        second: pool[HEAD + RECORD * (second as usize)] as usize,
+        levels: most_levels(pool[1]) as usize,
+    }
+}
+
+// The answer where the nodes of the result are judged too many, by the number of the refusal.
+pub fn too_many(no: u8) -> Answer
+    requires { ⌜ ((no ≡ 9 → ⊥) → no ≡ 10) ⌝ }
+    ensures { λ r. ⌜ answerAs r ≡ (no, 0) ⌝ }
+{
+    if no == 9 {
+        return Answer::Refused(Refusal::OverLimit);
+    }
+    Answer::Refused(Refusal::NoRoom)
+}

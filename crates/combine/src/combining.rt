@@ -1,0 +1,65 @@
+// One combination for every operation: the result is counted and judged before anything is written, and then written once, into a gap of just its nodes.
+use crate::asking::Asked;
+use crate::asking::Sources;
+use crate::asking::ask;
+use crate::asking::sources_of;
+use crate::asking::too_many;
+use emit::combining::emit;
+use emit::combining::op_size;
+use emit::emitting::settle;
+use pool::Answer;
+use pool::Survey;
+use pool::judging::judge;
+use pool::relinking::relink;
+use pool::relinking::shift_behind;
+ghost use mathlib.Core.Path.{_≡_};
+ghost use Prim.Native.Nat.{_+_, _<_};
+ghost use Rattle.nets.specs.Tries.{Trie};
+ghost use Rattle.combine.specs.Rules.{Combined};
+ghost use Rattle.combine.specs.Steps.{Operation, combineL, movedTo, Writable, written};
+
+// The number of a node after n nodes were put in before node `at`.
+fn moved(at: usize, n: u32, i: usize) -> usize
+    requires { ⌜ i < 4294967296 ⌝ }
+    ensures { λ r. ⌜ r ≡ movedTo at n i ⌝ }
+{
+    if i < at {
+        return i;
+    }
+    i + n as usize
+}
+
+// Writes the result, of n nodes, in the place of the empty destination; the sets behind it move, and with them the sources that are among them.
+fn write(pool: &mut [u32], op: usize, s: Sources, v: Survey, n: u32)
+    requires { ⌜ ((t : Trie) × (u : Trie) × Writable (now pool) op s v n t u) ⌝ }
+    ensures { λ _. ⌜ ((t u : Trie) → Writable (now (pool .entry)) op s v n t u → now (pool .exit) ≡ written (now (pool .entry)) op s v n t u) ⌝ }
+{
+    let at = v.at as usize;
+    shift_behind(pool, s.base, v, n);
+    let a = moved(at, n, s.first);
+    let c = moved(at, n, s.second);
+    let x = emit(pool, s.base, op, a, c, at, s.levels);
+    settle(pool, s.base, at, x);
+}
+
+// Writes what an operation makes of two sets into an empty one. Answers its nodes.
+pub fn combine(pool: &mut [u32], op: usize, to: u32, first: u32, second: u32) -> Answer
+    requires { ⌜ Operation op ⌝ }
+    ensures { λ r. ⌜ Combined (combineL op) (now (pool .entry)) to first second r (now (pool .exit)) ⌝ }
+{
+    let asked = ask(pool, to, first, second);
+    match asked {
+        Asked::Refused(no) => Answer::Refused(no),
+        Asked::Go(v) => {
+            let s = sources_of(pool, first, second);
+            let n = op_size(pool, s.base, op, s.first, s.second, s.levels) as u32;
+            let no = judge(pool, to, v, n);
+            if no != 0 {
+                return too_many(no);
+            }
+            write(pool, op, s, v, n);
+            relink(pool, to, v.at, v.held, n);
+            Answer::Granted(n)
+        }
+    }
+}

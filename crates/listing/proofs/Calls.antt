@@ -1,0 +1,221 @@
+-- The calls on a set: where its trie stands, by what a survey has seen, and then a law for each return of list and next, by the tests on the way to it.
+-- Assumes nothing.
+use mathlib.Core.Path.{_≡_, refl, sym, ap, _∙_}
+use mathlib.Core.Bool.{Bool, true, false, _||_}
+use mathlib.Core.List.{List}
+use Prim.Native.Nat.{ℕ, _+_, _*_, _≤_, _<_}
+use native.Mathlib.Omega.{arith}
+use lib.Dec.{eqb}
+use lib.ListN.{length, getD}
+use borrow.Author.Tests.{lt-ltb, le-ltb, le-leb, lt-leb, eq-eqb, ne-eqb, eqb-true}
+use Rattle.nets.specs.Lists.{past, Found, found, missing, nextL}
+use Rattle.nets.specs.Networks.{width, refusalOf, startOf, noBits, prefixAs}
+use Rattle.nets.specs.Refusals.{number, answered}
+use Rattle.nets.specs.Tries.{Trie, size, listOf}
+use Rattle.nets.specs.declared.Net.{Net}
+use Rattle.nets.specs.declared.Prefix.{Prefix}
+use Rattle.nets.specs.declared.Prefix.the-variants as prefix
+use Rattle.nets.specs.declared.PrefixBits.{PrefixBits}
+use Rattle.nets.specs.declared.Refusal.{Refusal}
+use Rattle.nets.specs.declared.Refusal.the-variants.{Damaged, NoSet, ShortBuffer}
+use Rattle.nets.proofs.Strings.{cond-both}
+use Rattle.nets.proofs.Numbers.{refusalOf-is, bitsLeft-start}
+use Rattle.nets.proofs.Answers.{number-some}
+use Rattle.nodes.specs.Words.{put}
+use Rattle.nodes.specs.Segments.{Segment}
+use Rattle.nodes.proofs.Has.{has-at, has-join}
+use Rattle.nodes.proofs.Tries.{length-enc}
+use Rattle.pool.specs.States.{State, isFamily}
+use Rattle.pool.specs.Decode.{Decoded, damaged, sound, base, decode}
+use Rattle.pool.specs.Rules.{surveyOf}
+use Rattle.pool.specs.Changes.{setAt, listAt, netNo}
+use Rattle.pool.specs.declared.Answer.the-variants as answer
+use Rattle.pool.specs.declared.Survey.{Survey}
+use Rattle.pool.proofs.Header.{isHeader-header}
+use Rattle.pool.proofs.Holds.{set-listOf}
+use Rattle.pool.proofs.Decoded.{decode-header, decode-set}
+use Rattle.pool.proofs.Seen.{Seen, trieAt, behind, survey-sound, survey-damaged, seen-header, seen-figures, own-length, own-has, behind-length, behind-has}
+use Rattle.listing.specs.Rows.{rowsOf}
+use Rattle.listing.specs.Spans.{Spans, Holds}
+use Rattle.listing.specs.Seats.{Sits, Refuses, Seats}
+use Rattle.listing.specs.Calls.{listNo, listRule, rowsAfter, Listed, placeFrom, nothing, foundAs, nextNo, nextRule}
+use Rattle.listing.specs.Following.{placeOf, nextAs}
+use Rattle.listing.specs.Places.{Numbers, Right}
+use Rattle.listing.specs.declared.From.{From}
+use Rattle.listing.specs.declared.From.the-variants as from
+use Rattle.listing.specs.declared.following.Place.{Place}
+use Rattle.listing.specs.declared.following.Place.the-variants as place
+use Rattle.listing.specs.declared.following.Next.{Next}
+use Rattle.listing.specs.declared.following.Next.the-variants as next
+use Rattle.listing.specs.declared.seats.Seat.{Seat}
+use Rattle.listing.specs.declared.seats.Seated.the-variants.{Refused}
+use Rattle.listing.proofs.Reading.{spans-small}
+use Rattle.listing.proofs.Counting.{listOf-size}
+
+-- Where the trie of a set stands.
+isFamily-few : (f : ℕ) → isFamily f ≡ true → f ≤ 6
+isFamily-few f e = go (eqb f 4) refl e
+  where
+    go : (b : Bool) → eqb f 4 ≡ b → (b || eqb f 6) ≡ true → f ≤ 6
+    go true q e = omega (arith, eqb-true f 4 q)
+    go false q e = omega (arith, eqb-true f 6 e)
+
+module _ (w : List ℕ) (k : ℕ) (v : Survey) (e : v ≡ surveyOf (decode w) k) where
+  pub seat-damaged : v .sound ≡ false → Seats w k (Refused Damaged)
+  seat-damaged q = rw (survey-damaged w k v e q) refl
+
+  pub seat-noset : v .sound ≡ true → getD w 2 0 ≤ k → Seats w k (Refused NoSet)
+  seat-noset q le = let x = survey-sound w k v e q in rw (x .1) (omega (arith, decode-header w (x .0) (x .1) .sets), refl)
+
+module _ {w : List ℕ} {S : State} {k : ℕ} {v : Survey} (h : Seen w S k v) where
+  seen-segment : Segment w (base (getD w 2 0)) (v .at) (v .at + v .held) (v .used + 1) (trieAt S k) (behind S k)
+  seen-segment =
+      let f = seen-figures h in
+      let n : size (trieAt S k) ≡ v .held = sym (length-enc (trieAt S k)) ∙ own-length h in
+      record {
+        has = has-join _ _ (own-has h) (has-at (omega (arith, f .first, own-length h, seen-header h .sets)) (behind-has h));
+        one = f .first;
+        end = omega (arith, n);
+        used = omega (arith, behind-length h);
+        few = omega (arith, f .used, f .claimed, f .nodes);
+        low = omega (arith, f .sets);
+      }
+
+  pub seat-family : getD w 1 0 ≤ 6
+  seat-family = isFamily-few (getD w 1 0) (isHeader-header w (seen-header h .known) .family)
+
+  pub seat-sits : Sits w k S (record { family = getD w 1 0; base = base (getD w 2 0); first = v .at; end = v .at + v .held })
+  seat-sits =
+      let d = decode-set w S (h .decoded) k (h .known) in
+      record {
+        decoded = h .decoded;
+        known = h .known;
+        family = seen-header h .family;
+        list = set-listOf (width (S .family)) (setAt S k) (d .rules);
+        holds = record { stands = record { u = v .used + 1; rest = behind S k; is = seen-segment }; deep = rw (seen-header h .family) (d .trie .deep) };
+      }
+
+-- The returns of list.
+listRule-refused : (d : Decoded) (k n x : ℕ) → Refuses d k x → (x, 0) ≡ listRule d k n
+unfolding listRule listNo
+listRule-refused damaged k n x e = ap (λ y. (y, 0)) e
+listRule-refused (sound S) k n x e = rw (e .1, le-ltb k (length (S .sets)) (e .0))
+
+rowsAfter-refused : (d : Decoded) (k x : ℕ) (v : List ℕ) → Refuses d k x → v ≡ rowsAfter v d k
+unfolding rowsAfter listNo
+rowsAfter-refused damaged k x v e = refl
+rowsAfter-refused (sound S) k x v e = rw (le-ltb k (length (S .sets)) (e .0))
+
+pub list-refused : {w v : List ℕ} {k : ℕ} (x : Refusal) → Seats w k (Refused x) → Listed w k v (answer.Refused x) v
+list-refused {w} {v} {k} x e =
+    record { answer = listRule-refused (decode w) k (length v) (number x) e; rows = rowsAfter-refused (decode w) k (number x) v e }
+
+module _ {w : List ℕ} {k : ℕ} {S : State} {s : Seat} (h : Sits w k S s) {n : ℕ} (c : (t : Trie) → Spans w (s .base) (s .first) (s .end) t → n ≡ length (listOf t)) where
+  counted : n ≡ length (listAt S k)
+  counted = c (trieAt S k) (h .holds .stands) ∙ ap length (h .list)
+
+  pub list-few : n < 1073741824
+  list-few = omega (arith, c (trieAt S k) (h .holds .stands), listOf-size (trieAt S k), h .holds .stands .is .end, spans-small (h .holds .stands))
+
+  pub list-room : {m : ℕ} → 3 * n ≤ m → 3 * length (listOf (trieAt S k)) ≤ m
+  list-room le = omega (arith, c (trieAt S k) (h .holds .stands))
+
+  pub list-short : {v : List ℕ} → length v < 3 * n → Listed w k v (answer.Refused ShortBuffer) v
+  unfolding listRule rowsAfter listNo
+  list-short {v} lt =
+      let l = lt-ltb k (length (S .sets)) (h .known) in
+      let m = lt-leb (3 * length (listAt S k)) (length v) (rw counted at lt) in
+      record { answer = rw (h .decoded, l, m); rows = rw (h .decoded, l, m) }
+
+  pub list-granted : {v u : List ℕ} → 3 * n ≤ length v
+      → ((t : Trie) → Holds w (s .base) (s .first) (s .end) (s .family) t → 3 * length (listOf t) ≤ length v → u ≡ put v 0 (rowsOf (s .family) (listOf t)))
+      → Listed w k v (answer.Granted n) u
+  unfolding listRule rowsAfter listNo
+  list-granted {v} {u} le f =
+      let l = lt-ltb k (length (S .sets)) (h .known) in
+      let r : 3 * length (listAt S k) ≤ length v = rw counted at le in
+      let m = le-leb (3 * length (listAt S k)) (length v) r in
+      let g : u ≡ put v 0 (rowsOf (S .family) (listAt S k)) = rw (h .list, h .family) at (f (trieAt S k) (h .holds) (rw (h .list) r)) in
+      record { answer = rw (h .decoded, l, m) (ap (λ x. (0, x)) counted); rows = rw (h .decoded, l, m) g }
+
+-- A place as an argument.
+netNo-own : (n : Net) (S : State) → n .family ≡ S .family → netNo n S ≡ refusalOf n
+unfolding netNo
+netNo-own n S e = rw (eq-eqb (n .family) (S .family) e)
+
+netNo-other : (n : Net) (S : State) → (n .family ≡ S .family → ⊥) → netNo n S ≡ 6
+unfolding netNo
+netNo-other n S ne = rw (ne-eqb (n .family) (S .family) ne)
+
+prefix-bits : (n : Net) (p : Prefix) (s : PrefixBits) → prefixAs p ≡ answered (refusalOf n) noBits (startOf n) → p ≡ prefix.Bits s → (refusalOf n ≡ 0) × (s ≡ startOf n)
+prefix-bits n p s e h =
+    let g = sym (ap prefixAs h) ∙ e in
+    let k : refusalOf n ≡ 0 = sym (ap (λ y. y .0) g) in
+    (k, rw k at (ap (λ y. y .1) g))
+
+width-most : (f : ℕ) → width f ≤ 128
+unfolding width
+width-most f = cond-both (λ x. x ≤ 128) (eqb f 4) 32 128 (omega arith) (omega arith)
+
+start-few : (n : Net) → refusalOf n ≡ 0 → startOf n .len ≤ 128
+unfolding startOf
+start-few n e = omega (arith, refusalOf-is n e .len, width-most (n .family))
+
+pub place-start : {f : ℕ} {x : From} → x ≡ from.Start → Right f x place.Start
+place-start e = rw e (record { right = λ S q. refl; place = refl; short = omega arith })
+
+module _ {f : ℕ} {x : From} (n : Net) (e : x ≡ from.Past n) where
+  pub place-family : (n .family ≡ f → ⊥) → Numbers f x 6
+  place-family ne S q = rw e (netNo-other n S (λ z. ne (z ∙ sym q)))
+
+  module _ (own : n .family ≡ f) (p : Prefix) (g : prefixAs p ≡ answered (refusalOf n) noBits (startOf n)) where
+    pub place-refused : (r : Refusal) → p ≡ prefix.Refused r → Numbers f x (number r)
+    place-refused r h S q = rw e (netNo-own n S (own ∙ q) ∙ ap (λ y. y .0) (sym g ∙ ap prefixAs h))
+
+    pub place-past : (s : PrefixBits) → p ≡ prefix.Bits s → Right f x (place.Past s)
+    place-past s h =
+        let y = prefix-bits n p s g h in
+        rw e
+        (record {
+          right = λ S q. netNo-own n S (own ∙ q) ∙ y .0;
+          place = rw (y .1) (ap past (bitsLeft-start n (y .0)));
+          short = rw (y .1) (start-few n (y .0));
+        })
+
+-- The returns of next.
+pub next-refused : (d : Decoded) (k x : ℕ) (y : From) → Refuses d k x → (x, nothing) ≡ nextRule d k y
+unfolding nextRule nextNo
+next-refused damaged k x y e = ap (λ z. (z, nothing)) e
+next-refused (sound S) k x y e = rw (e .1, le-ltb k (length (S .sets)) (e .0))
+
+-- what `next_after` found, as a value of the answer
+abbrev netIn : Next → Bool × Net
+netIn (next.Network n) = (true, n)
+netIn next.End = nothing
+
+foundAs-next : (f : ℕ) (x : Found) → foundAs f x ≡ netIn (nextAs f x)
+foundAs-next f (found p) = refl
+foundAs-next f missing = refl
+
+module _ {w : List ℕ} {k : ℕ} {S : State} {s : Seat} (h : Sits w k S s) (x : From) where
+  pub next-misplaced : (r : Refusal) → Numbers (s .family) x (number r) → (number r, nothing) ≡ nextRule (decode w) k x
+  unfolding nextRule nextNo
+  next-misplaced r e = rw (h .decoded, lt-ltb k (length (S .sets)) (h .known), e S (h .family), ne-eqb (number r) 0 (number-some r))
+
+  module _ {p : Place} (q : Right (s .family) x p) {z : Next}
+      (g : (t : Trie) → Holds w (s .base) (s .first) (s .end) (s .family) t → z ≡ nextAs (s .family) (nextL (listOf t) (placeOf p))) where
+    nexts : z ≡ nextAs (S .family) (nextL (listAt S k) (placeFrom x))
+    nexts = rw (h .list, h .family, q .place) at (g (trieAt S k) (h .holds))
+
+    granted : nextRule (decode w) k x ≡ (0, foundAs (S .family) (nextL (listAt S k) (placeFrom x)))
+    unfolding nextRule nextNo
+    granted = rw (h .decoded, lt-ltb k (length (S .sets)) (h .known), q .right S (h .family))
+
+    sees : foundAs (S .family) (nextL (listAt S k) (placeFrom x)) ≡ netIn z
+    sees = foundAs-next (S .family) (nextL (listAt S k) (placeFrom x)) ∙ ap netIn (sym nexts)
+
+    pub next-network : (n : Net) → z ≡ next.Network n → (0, (true, n)) ≡ nextRule (decode w) k x
+    next-network n e = sym (granted ∙ ap (λ y. (0, y)) (sees ∙ ap netIn e))
+
+    pub next-end : z ≡ next.End → (0, nothing) ≡ nextRule (decode w) k x
+    next-end e = sym (granted ∙ ap (λ y. (0, y)) (sees ∙ ap netIn e))

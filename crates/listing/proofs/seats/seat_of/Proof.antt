@@ -1,0 +1,31 @@
+-- `seats::seat_of` meets its contract, each return by the tests on the way to it. Assumes nothing.
+use denote.Ref.{now}
+use native.Mathlib.Omega.{arith}
+use borrow.Author.Needs.{needs}
+use borrow.Author.Tests.{not-true, not-false}
+use Rattle.pool.specs.States.{State}
+use Rattle.pool.proofs.Seen.{Seen, survey-long, seen, seen-figures}
+use Rattle.listing.proofs.Calls.{seat-damaged, seat-noset, seat-family, seat-sits}
+use Rattle.listing.proofs.seats.seat_of.Statement.{statement}
+use Rattle.listing.proofs.seats.seat_of.Tie as tie
+
+here : (c : tie.Else2) → let s = c .before .before .before .before in let a = s .before .before .args in (S : State) × Seen (now (a .pool)) S (a .set) (s .survey .result)
+here c = let e = c .before .before in seen (record { found = e .before .before .survey .ensures; sound = not-false _ (e .if1 .left); known = c .if2 .left })
+
+pub seat-of-spec : {M : Type 1} → statement M
+seat-of-spec =
+    tie.close
+    (tie.spec
+    (λ c κs. search needs)
+    (λ c. seat-damaged _ _ _ (c .before .before .survey .ensures) (not-true _ (c .if1 .taken)))
+    (λ c. let e = c .before in omega (arith, survey-long _ _ _ (e .before .before .survey .ensures) (not-false _ (e .if1 .left))))
+    (λ c. let e = c .before .before in seat-noset _ _ _ (e .before .before .survey .ensures) (not-false _ (e .if1 .left)) (c .if2 .taken))
+    (λ c. search needs)
+    (λ c. omega (arith, seen-figures (here (c .before .before) .1) .long))
+    (λ c. omega (arith, seat-family (here (c .before .before) .1)))
+    (λ c. omega (arith, seen-figures (here (c .before .before) .1) .sets))
+    (λ c. omega (arith, seen-figures (here (c .before .before) .1) .sets))
+    (λ c. omega (arith, seen-figures (here (c .before .before) .1) .sets))
+    (λ c. search needs)
+    (λ c. search needs)
+    (λ c. let h = here (c .before .before .before) in (h .0, seat-sits (h .1))))

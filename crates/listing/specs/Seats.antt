@@ -1,0 +1,33 @@
+-- Where the trie of a set stands.
+--
+--   Sits w k S s      the words w hold the state S, and the trie of its set k stands in the seat s
+--   Refuses d k x     x is the number of every call on set k: 2 damaged, 3 no such set
+--   Seats w k r       what `seat_of` finds
+use mathlib.Core.Path.{_≡_}
+use mathlib.Core.List.{List}
+use Prim.Native.Nat.{ℕ, _≤_, _<_}
+use lib.ListN.{length}
+use Rattle.nets.specs.Refusals.{number}
+use Rattle.nets.specs.Tries.{trieOf, listOf}
+use Rattle.pool.specs.States.{State}
+use Rattle.pool.specs.Decode.{Decoded, damaged, sound, decode}
+use Rattle.pool.specs.Changes.{listAt}
+use Rattle.listing.specs.Spans.{Holds}
+use Rattle.listing.specs.declared.seats.Seat.{Seat}
+use Rattle.listing.specs.declared.seats.Seated.{Seated}
+use Rattle.listing.specs.declared.seats.Seated.the-variants.{At, Refused}
+
+pub record Sits (w : List ℕ) (k : ℕ) (S : State) (s : Seat) : Type 0 where
+  pub decoded : decode w ≡ sound S
+  pub known : k < length (S .sets)
+  pub family : s .family ≡ S .family
+  pub list : listOf (trieOf (listAt S k)) ≡ listAt S k
+  pub holds : Holds w (s .base) (s .first) (s .end) (s .family) (trieOf (listAt S k))
+
+abbrev pub Refuses : Decoded → ℕ → ℕ → Type 0
+Refuses damaged k x = x ≡ 2
+Refuses (sound S) k x = (length (S .sets) ≤ k) × (x ≡ 3)
+
+abbrev pub Seats : List ℕ → ℕ → Seated → Type 0
+Seats w k (At s) = (S : State) × Sits w k S s
+Seats w k (Refused x) = Refuses (decode w) k (number x)
