@@ -7,80 +7,44 @@ use Prim.Native.Nat.{ℕ, _+_, _-_, _*_, _≤_, _<_}
 use native.Mathlib.Omega.{arith}
 use lib.Dec.{eqb}
 use lib.ListN.{length, getD}
-use borrow.Author.Tests.{eq-eqb, ne-eqb, eqb-true, eqb-false}
+use borrow.Author.Tests.{eqb-true, eqb-false}
 use Rattle.nets.specs.Bits.{Bits}
 use Rattle.nets.specs.Lists.{nodesL, addL, removeL}
-use Rattle.nets.specs.Tries.{Trie, size, listOf, insertT, trieOf}
+use Rattle.nets.specs.Tries.{Trie, size, listOf, insertT}
 use Rattle.nets.specs.TrieOps.{removeT}
 use Rattle.nets.specs.Refusals.{number, answered}
-use Rattle.nets.specs.Networks.{width, netBits, refusalOf, bitsLeft, startOf, noBits, prefixAs}
+use Rattle.nets.specs.Networks.{netBits, refusalOf, bitsLeft, startOf, noBits, prefixAs}
 use Rattle.nets.specs.declared.Net.{Net}
 use Rattle.nets.specs.declared.Refusal.{Refusal}
 use Rattle.nets.specs.declared.Refusal.the-variants.{Damaged, NoSet, WrongFamily}
 use Rattle.nets.specs.declared.Prefix.{Prefix}
 use Rattle.nets.specs.declared.Prefix.the-variants as prefix
 use Rattle.nets.specs.declared.PrefixBits.{PrefixBits}
-use Rattle.nets.proofs.Strings.{cond-both}
 use Rattle.nets.proofs.Nodes.{nodesL-listOf}
 use Rattle.nets.proofs.Adding.{listOf-insert}
 use Rattle.nets.proofs.Removing.{listOf-remove}
-use Rattle.nets.proofs.TrieOf.{listOf-trieOf}
-use Rattle.nets.proofs.Numbers.{refusalOf-is, bitsLeft-start}
+use Rattle.nets.proofs.Numbers.{bitsLeft-start, startOf-few}
 use Rattle.nets.proofs.Handing.{length-bitsLeft}
-use Rattle.nets.proofs.Answers.{number-some}
-use Rattle.nodes.specs.Words.{Has, enc}
+use Rattle.nets.proofs.Answers.{number-some, prefix-bits, prefix-refused}
+use Rattle.nodes.specs.Words.{enc}
 use Rattle.nodes.specs.Segments.{Segment, Spliced}
-use Rattle.nodes.proofs.Has.{has-at, has-back}
-use Rattle.pool.specs.States.{State, roomOf, isSet}
+use Rattle.pool.specs.States.{State, roomOf}
 use Rattle.pool.specs.Decode.{base, sound, decode}
 use Rattle.pool.specs.Rules.{answerAs, surveyOf}
-use Rattle.pool.specs.Changes.{setAt, listAt, changeNo, Changed, netNo}
+use Rattle.pool.specs.Changes.{listAt, changeNo, Changed, netNo}
 use Rattle.pool.specs.Steps.{relinked, Relink}
 use Rattle.pool.specs.declared.Answer.{Answer}
 use Rattle.pool.specs.declared.Survey.{Survey}
-use Rattle.pool.proofs.Claims.{isSet-list}
-use Rattle.pool.proofs.Holds.{set-size}
-use Rattle.pool.proofs.Decoded.{decode-header, decode-has, decode-set, decode-parts}
-use Rattle.pool.proofs.Seen.{Seen, before, behind, survey-sound, survey-seen, seen, seen-figures, seen-header, before-length, behind-length}
+use Rattle.pool.proofs.Decoded.{decode-header}
+use Rattle.pool.proofs.Seen.{Seen, behind, survey-sound, survey-seen, seen, seen-figures, trieAt, seen-list, seen-size, seen-segment}
 use Rattle.pool.proofs.Judged.{judge-zero, changeNo-granted}
 use Rattle.pool.proofs.Changed.{withTrie, relink-asks, gap-asks}
-use Rattle.pool.proofs.Returns.{Owes, change-damaged, change-noset, change-args, change-judged, change-granted}
+use Rattle.pool.proofs.Returns.{change-damaged, change-noset, change-args, change-judged, change-granted, changed, netNo-own, netNo-other}
 use Rattle.change.specs.Steps.{Ready, Asks, seatOf}
 use Rattle.change.specs.declared.calling.Asked.the-variants.{Go, Refused}
 use Rattle.change.specs.declared.calling.Seat.{Seat}
 use Rattle.change.proofs.Insertion.{size-insert}
 use Rattle.change.proofs.Remains.{size-removeT}
-
--- what is owed, as the contract has it
-changed : {w v : List ℕ} {k : ℕ} {a : State → ℕ} {f : State → List Bits} {r : Answer} → Owes w k a f (answerAs r) v → Changed w k a f r v
-changed h = record { answer = h .0; words = h .1 }
-
--- The number that a network gets in a pool of its family, and in another.
-netNo-own : (n : Net) (S : State) → n .family ≡ S .family → netNo n S ≡ refusalOf n
-unfolding netNo
-netNo-own n S e = rw (eq-eqb (n .family) (S .family) e)
-
-netNo-other : (n : Net) (S : State) → (n .family ≡ S .family → ⊥) → netNo n S ≡ 6
-unfolding netNo
-netNo-other n S ne = rw (ne-eqb (n .family) (S .family) ne)
-
--- The bits of a network, or its refusal.
-prefix-refused : (n : Net) (p : Prefix) (x : Refusal) → prefixAs p ≡ answered (refusalOf n) noBits (startOf n) → p ≡ prefix.Refused x → refusalOf n ≡ number x
-prefix-refused n p x e h = ap (λ y. y .0) (sym e ∙ ap prefixAs h)
-
-prefix-bits : (n : Net) (p : Prefix) (s : PrefixBits) → prefixAs p ≡ answered (refusalOf n) noBits (startOf n) → p ≡ prefix.Bits s → (refusalOf n ≡ 0) × (s ≡ startOf n)
-prefix-bits n p s e h =
-    let g = sym (ap prefixAs h) ∙ e in
-    let k : refusalOf n ≡ 0 = sym (ap (λ y. y .0) g) in
-    (k, rw k at (ap (λ y. y .1) g))
-
-width-most : (f : ℕ) → width f ≤ 128
-unfolding width
-width-most f = cond-both (λ x. x ≤ 128) (eqb f 4) 32 128 (omega arith) (omega arith)
-
-start-few : (n : Net) → refusalOf n ≡ 0 → startOf n .len ≤ 128
-unfolding startOf
-start-few n e = omega (arith, refusalOf-is n e .len, width-most (n .family))
 
 -- What `ask` finds.
 module _ {w : List ℕ} {k : ℕ} {v : Survey} (n : Net) (e : v ≡ surveyOf (decode w) k) where
@@ -110,7 +74,7 @@ module _ {w : List ℕ} {k : ℕ} {v : Survey} (n : Net) (e : v ≡ surveyOf (de
             surveyed = record { found = e; sound = q; known = lt };
             right = λ S d. netNo-own n S (own ∙ decode-header w S d .family) ∙ y .0;
             bits = rw (y .1) (bitsLeft-start n (y .0));
-            few = rw (y .1) (start-few n (y .0));
+            few = rw (y .1) (startOf-few n (y .0));
           }
 
 -- T does to tries what L does to lists, and it takes at most two nodes more for each bit of the path, and one.
@@ -130,37 +94,16 @@ module _ {w : List ℕ} {k : ℕ} {n : Net} {v : Survey} {s : PrefixBits} (h : R
   state = seen (h .surveyed) .0
 
   abbrev trie : Trie
-  trie = trieOf (listAt state k)
+  trie = trieAt state k
 
   here : Seen w state k v
   here = seen (h .surveyed) .1
-
-  rules : isSet (width (state .family)) (setAt state k) ≡ true
-  rules = decode-set w state (here .decoded) k (here .known) .rules
-
-  trie-list : listOf trie ≡ listAt state k
-  trie-list = listOf-trieOf (width (state .family)) (listAt state k) (isSet-list (width (state .family)) (setAt state k) rules)
-
-  trie-size : size trie ≡ v .held
-  trie-size = set-size (width (state .family)) (setAt state k) rules ∙ sym (here .held)
 
   pub seat-long : 2 < length w
   seat-long = omega (arith, seen-figures here .long)
 
   pub seat-stands : {t : Seat} → t ≡ seatOf w v → Segment w (t .base) (t .first) (t .end) (t .used) trie (behind state k)
-  seat-stands q =
-      let f = seen-figures here in
-      let a : Has w (base (length (state .sets))) (before state k ++ (enc trie ++ behind state k)) =
-      rw (decode-parts w state (here .decoded) k (here .known) .0) at (decode-has w state (here .decoded)) in
-      rw q
-      (record {
-        has = has-at (omega (arith, before-length here, seen-header here .sets)) (has-back (before state k) (enc trie ++ behind state k) a);
-        one = f .first;
-        end = omega (arith, trie-size);
-        used = omega (arith, behind-length here);
-        few = omega (arith, f .used, f .claimed, f .nodes);
-        low = omega (arith, f .sets);
-      })
+  seat-stands q = rw q (seen-segment here)
 
 -- what T makes of the trie in the seat t has m nodes
 pub record Counted (T : Bits → Trie → Trie) (L : List Bits → Bits → List Bits) (w : List ℕ) (k : ℕ) (n : Net) (v : Survey) (s : PrefixBits) (t : Seat) (m : ℕ) : Type 0 where
@@ -199,7 +142,7 @@ module _ {T : Bits → Trie → Trie} {L : List Bits → Bits → List Bits} {w 
   counted = sym (h .counts old (behind S k) (t .used) result-stands)
 
   new-list : listOf new ≡ after S
-  new-list = rw (h .works .list (bitsLeft s) old, trie-list (h .ready), h .ready .bits)
+  new-list = rw (h .works .list (bitsLeft s) old, seen-list (here (h .ready)), h .ready .bits)
 
   new-nodes : nodesL (after S) ≡ m
   new-nodes = ap nodesL (sym new-list) ∙ nodesL-listOf new ∙ counted
@@ -207,7 +150,7 @@ module _ {T : Bits → Trie → Trie} {L : List Bits → Bits → List Bits} {w 
   pub result-few : m < 4294967296
   result-few =
       let f = seen-figures sees in
-      omega (arith, counted, h .works .few (bitsLeft s) old, length-bitsLeft s (h .ready .few), h .ready .few, trie-size (h .ready), f .held, f .claimed, f .nodes)
+      omega (arith, counted, h .works .few (bitsLeft s) old, length-bitsLeft s (h .ready .few), h .ready .few, seen-size (here (h .ready)), f .held, f .claimed, f .nodes)
 
   module _ {r : ℕ} (j : Judges w k m r) where
     verdict : r ≡ changeNo S k 0 (after S)
@@ -231,7 +174,7 @@ module _ {T : Bits → Trie → Trie} {L : List Bits → Bits → List Bits} {w 
       fits = omega (arith, changeNo-granted S k 0 (after S) (sym z ∙ verdict) .0 .room, new-nodes)
 
       pub result-room : t .base + (t .used - 1) + size new ≤ length w + size old
-      result-room = rw (h .seat) (omega (arith, gap-asks sees {u = w} fits refl .room, counted, trie-size (h .ready)))
+      result-room = rw (h .seat) (omega (arith, gap-asks sees {u = w} fits refl .room, counted, seen-size (here (h .ready))))
 
       module _ {u : List ℕ} {y : ℕ} (d : Spliced w u (t .base) (t .first) y new (behind S k)) where
         wrote : u ≡ withTrie w S k v new

@@ -23,15 +23,12 @@ use Rattle.pool.specs.declared.Answer.{Answer}
 use Rattle.pool.proofs.Claims.{isSet-list}
 use Rattle.pool.proofs.Decoded.{decode-state, decode-set}
 use Rattle.pool.proofs.WithList.{length-withList, withList-other, withList-plan, share-roomOf}
-use Rattle.pool.proofs.Determined.{answerAs-one}
+use Rattle.pool.proofs.Determined.{changed-one}
 use Rattle.pool.proofs.Judged.{changeNo-granted}
 use Rattle.pool.proofs.Changed.{decode-granted}
 use Rattle.change.specs.Calls.{listWith, listWithout, Added, Removed}
 
 -- One outcome.
-pub changed-one : {w v u : List ℕ} {k : ℕ} {a : State → ℕ} {f : State → List Bits} {r x : Answer} → Changed w k a f r v → Changed w k a f x u → (r ≡ x) × (v ≡ u)
-changed-one {r = r} {x = x} h g = (answerAs-one r x (h .answer ∙ sym (g .answer)), h .words ∙ sym (g .words))
-
 pub add-one : {w v u : List ℕ} {k : ℕ} {r x : Answer} (n : Net) → Added w k n r v → Added w k n x u → (r ≡ x) × (v ≡ u)
 add-one n h g = changed-one h g
 

@@ -9,17 +9,15 @@ use lib.Dec.{leb}
 use lib.ListN.{length, getD}
 use borrow.Author.Tests.{lt-ltb, le-ltb, le-leb, leb-true}
 use Rattle.nets.specs.Lists.{isList, nodesL, simplifyL}
-use Rattle.nets.specs.Tries.{Trie, size, trieOf, simplifyT}
+use Rattle.nets.specs.Tries.{Trie, size, simplifyT}
 use Rattle.nets.specs.Networks.{width}
 use Rattle.nets.specs.declared.Refusal.the-variants.{Damaged, NoSet}
 use Rattle.nets.proofs.Strings.{and-right}
 use Rattle.nets.proofs.Nodes.{nodesL-listOf}
 use Rattle.nets.proofs.TrieOf.{isList-within}
 use Rattle.nets.proofs.Simplifying.{isList-simplify}
-use Rattle.nodes.specs.Words.{put, Has, place, enc}
-use Rattle.nodes.specs.Segments.{Segment}
+use Rattle.nodes.specs.Words.{put, place, enc}
 use Rattle.nodes.proofs.Put.{length-put}
-use Rattle.nodes.proofs.Has.{has-at, has-back}
 use Rattle.nodes.proofs.Segments.{segment-fit}
 use Rattle.emit.specs.Answers.{body, Emits, endOf, restOf}
 use Rattle.emit.specs.Simplify.{Source}
@@ -29,21 +27,20 @@ use Rattle.emit.proofs.Answers.{end-is, full-size, settled}
 use Rattle.emit.proofs.Simplify.{size-simplify}
 use Rattle.pool.specs.States.{State, held, roomOf, isSet}
 use Rattle.pool.specs.Decode.{base, damaged, sound, decode}
-use Rattle.pool.specs.Rules.{answerAs, surveyOf}
+use Rattle.pool.specs.Rules.{surveyOf}
 use Rattle.pool.specs.Changes.{setAt, listAt, withList, changeNo, changeRule, wordsAfter}
 use Rattle.pool.specs.Steps.{behindAt, Gap, relinked, Relink}
 use Rattle.pool.specs.declared.Answer.{Answer}
 use Rattle.pool.specs.declared.Answer.the-variants as answer
 use Rattle.pool.specs.declared.Survey.{Survey}
-use Rattle.pool.proofs.Determined.{answerAs-one}
+use Rattle.pool.proofs.Determined.{answerAs-one, changed-one}
 use Rattle.pool.proofs.WithList.{claim-roomOf}
 use Rattle.pool.proofs.Claims.{isSet-list}
 use Rattle.pool.proofs.Holds.{set-size}
-use Rattle.pool.proofs.Decoded.{decode-state, decode-has, decode-set, decode-parts}
-use Rattle.pool.proofs.Seen.{Seen, before, behind, seen-header, seen-figures, before-length, behind-length}
+use Rattle.pool.proofs.Decoded.{decode-state, decode-set}
+use Rattle.pool.proofs.Seen.{Seen, behind, seen-header, seen-figures, trieAt, seen-segment}
 use Rattle.pool.proofs.Changed.{withTrie, behind-last, relink-asks, gap-asks}
-use Rattle.pool.proofs.Returns.{Owes, change-damaged, change-noset, change-granted, decode-after}
-use Rattle.change.proofs.Outcomes.{changed-one}
+use Rattle.pool.proofs.Returns.{change-damaged, change-noset, change-granted, decode-after, changed}
 use Rattle.change.specs.Simplified.{listSimple, noArgs, Simplifies, Shrunk}
 
 -- The trie is simplified where it stands, and a leaf that the emission left is written.
@@ -64,9 +61,6 @@ module _ {w u : List ℕ} {b i e fuel : ℕ} {t : Trie} {x : Emitted} (g : Sourc
     shrunk p = record { nodes = omega (arith, end-simple); wrote = settled d p }
 
 -- The result has no more nodes than the set: it is within the limit and the room.
-abbrev trieAt : State → ℕ → Trie
-trieAt S k = trieOf (listAt S k)
-
 abbrev simpleAt : State → ℕ → Trie
 simpleAt S k = simplifyT (trieAt S k)
 
@@ -101,9 +95,6 @@ module _ (w : List ℕ) (S : State) (k : ℕ) (d : decode w ≡ sound S) (lt : k
       rw (lt-ltb k (length (S .sets)) lt, le-leb (nodesL (listSimple k S)) (setAt S k .limit) (omega (arith, in-limit)), le-leb (nodesL (listSimple k S)) (roomOf S k) (omega (arith, in-room)))
 
 -- The returns of the call.
-changed : {w v : List ℕ} {k : ℕ} {r : Answer} → Owes w k noArgs (listSimple k) (answerAs r) v → Simplifies w k r v
-changed h = record { answer = h .0; words = h .1 }
-
 module _ {w : List ℕ} {k : ℕ} {v : Survey} (e : v ≡ surveyOf (decode w) k) where
   pub return-damaged : v .sound ≡ false → Simplifies w k (answer.Refused Damaged) w
   return-damaged q = changed (change-damaged noArgs (listSimple k) w k v e q)
@@ -112,26 +103,12 @@ module _ {w : List ℕ} {k : ℕ} {v : Survey} (e : v ≡ surveyOf (decode w) k)
   return-noset q le = changed (change-noset noArgs (listSimple k) w k v e q le)
 
 module _ {w : List ℕ} {S : State} {k : ℕ} {v : Survey} (h : Seen w S k v) where
-  -- the trie of the set stands where the survey says, with the sets behind it behind it
-  seen-segment : Segment w (base (getD w 2 0)) (v .at) (v .at + v .held) (v .used + 1) (trieAt S k) (behind S k)
-  seen-segment =
-      let f = seen-figures h in
-      let a : Has w (base (length (S .sets))) (before S k ++ (enc (trieAt S k) ++ behind S k)) = rw (decode-parts w S (h .decoded) k (h .known) .0) at (decode-has w S (h .decoded)) in
-      record {
-        has = has-at (omega (arith, before-length h, seen-header h .sets)) (has-back (before S k) (enc (trieAt S k) ++ behind S k) a);
-        one = f .first;
-        end = omega (arith, trie-size w S k (h .decoded) (h .known));
-        used = omega (arith, behind-length h);
-        few = omega arith;
-        low = omega arith;
-      }
-
   pub seen-source : {fuel : ℕ} → fuel ≡ suc (width (getD w 1 0)) → Source w (base (getD w 2 0)) (v .at) (v .at + v .held) (v .at) fuel (trieAt S k)
   seen-source q =
       record {
         u = v .used + 1;
         rest = behind S k;
-        here = seen-segment;
+        here = seen-segment h;
         one = seen-figures h .first;
         behind = omega arith;
         deep = rw (q, seen-header h .family) (decode-set w S (h .decoded) k (h .known) .trie .deep);

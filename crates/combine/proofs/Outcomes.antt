@@ -19,22 +19,19 @@ use Rattle.nets.proofs.TrieOf.{isList-within}
 use Rattle.pool.specs.States.{SetState, State, areSets}
 use Rattle.pool.specs.Decode.{sound, decode}
 use Rattle.pool.specs.Rules.{noSet}
-use Rattle.pool.specs.Changes.{setAt, listAt, withList, changeNo, Changed}
+use Rattle.pool.specs.Changes.{setAt, listAt, withList, changeNo}
 use Rattle.pool.specs.declared.Answer.{Answer}
 use Rattle.pool.proofs.Claims.{isState-sets, isSet-list, areSets-head, areSets-tail}
 use Rattle.pool.proofs.WithList.{withList-list, withList-other}
 use Rattle.pool.proofs.Decoded.{decode-state}
 use Rattle.pool.proofs.Judged.{changeNo-granted}
 use Rattle.pool.proofs.Returns.{decode-after}
-use Rattle.pool.proofs.Determined.{answerAs-one}
+use Rattle.pool.proofs.Determined.{changed-one}
 use Rattle.combine.specs.Rules.{isEmpty, areKnown, combineNo, Combined, Merged, Intersected, Excluded, toldAs, equalRule}
 use Rattle.combine.specs.declared.Told.{Told}
 use Rattle.combine.specs.declared.Told.the-variants as told
 
 -- One outcome.
-changed-one : {w : List ℕ} {k : ℕ} {a : State → ℕ} {f : State → List Bits} {r s : Answer} {u v : List ℕ} → Changed w k a f r u → Changed w k a f s v → (r ≡ s) × (u ≡ v)
-changed-one {r = r} {s = s} h g = (answerAs-one r s (h .answer ∙ sym (g .answer)), h .words ∙ sym (g .words))
-
 toldAs-one : (r s : Told) → toldAs r ≡ toldAs s → r ≡ s
 toldAs-one (told.Is a) (told.Is b) e = ap told.Is (ap (λ p. p .1) e)
 toldAs-one (told.Is a) (told.Refused y) e = absurd (number-some y (sym (ap (λ p. p .0) e)))

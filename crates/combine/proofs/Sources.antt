@@ -1,6 +1,6 @@
 -- A set as a source: its root means its trie, which lists what the set has. The trie stands wholly before a place where another set begins, or wholly behind it, as sets stand
 -- one behind the other. Assumes nothing.
-use mathlib.Core.Bool.{true, cond}
+use mathlib.Core.Bool.{cond}
 use mathlib.Core.List.{List, []}
 use mathlib.Core.Path.{_≡_, refl, sym, ap, _∙_}
 use Prim.Native.Nat.{ℕ, suc, _+_, _≤_, _<_}
@@ -13,34 +13,25 @@ use Rattle.nets.specs.Networks.{width}
 use Rattle.nets.proofs.Nodes.{nodesL-empty}
 use Rattle.nets.proofs.TrieOf.{trieOf-listOf}
 use Rattle.nodes.proofs.Segments.{none-is}
-use Rattle.nodes.proofs.Tries.{length-enc, some}
+use Rattle.nodes.proofs.Tries.{some}
 use Rattle.emit.specs.Combine.{Here, Means}
 use Rattle.emit.proofs.Sources.{means-here}
-use Rattle.pool.specs.States.{State, isSet}
+use Rattle.pool.specs.States.{State}
 use Rattle.pool.specs.Decode.{recordAt, base, rootAt, decode}
 use Rattle.pool.specs.Rules.{startOf, surveyOf}
-use Rattle.pool.specs.Changes.{setAt, listAt}
+use Rattle.pool.specs.Changes.{listAt}
 use Rattle.pool.specs.declared.Survey.{Survey}
-use Rattle.pool.proofs.Holds.{set-listOf, rootAt-trie}
-use Rattle.pool.proofs.Decoded.{decode-header, decode-set, decode-root, decode-at}
-use Rattle.pool.proofs.Seen.{Seen, trieAt, survey-seen, seen-figures, own-has, own-length}
+use Rattle.pool.proofs.Holds.{rootAt-trie}
+use Rattle.pool.proofs.Decoded.{decode-header, decode-root, decode-at}
+use Rattle.pool.proofs.Seen.{Seen, trieAt, survey-seen, seen-figures, own-has, seen-list, seen-size}
 use Rattle.pool.proofs.Changed.{startOf-behind}
 use Rattle.combine.specs.Steps.{Whole}
 
 -- A set: its trie lists what it has, and has no node exactly if the list is empty.
 module _ {w : List ℕ} {S : State} {k : ℕ} {v : Survey} (h : Seen w S k v) where
-  rules : isSet (width (S .family)) (setAt S k) ≡ true
-  rules = decode-set w S (h .decoded) k (h .known) .rules
-
-  pub seen-list : listOf (trieAt S k) ≡ listAt S k
-  seen-list = set-listOf (width (S .family)) (setAt S k) rules
-
-  pub seen-size : size (trieAt S k) ≡ v .held
-  seen-size = sym (length-enc (trieAt S k)) ∙ own-length h
-
   pub seen-empty : v .held ≡ 0 → listAt S k ≡ []
   unfolding listOf levels
-  seen-empty e = sym seen-list ∙ ap listOf (none-is (trieAt S k) (seen-size ∙ e))
+  seen-empty e = sym (seen-list h) ∙ ap listOf (none-is (trieAt S k) (seen-size h ∙ e))
 
   pub seen-some : (v .held ≡ 0 → ⊥) → listAt S k ≡ [] → ⊥
   seen-some ne e = ne (h .held ∙ ap nodesL e ∙ nodesL-empty)

@@ -7,34 +7,29 @@ use Prim.Native.Nat.{ℕ, _+_, _*_, _≤_, _<_}
 use native.Mathlib.Omega.{arith}
 use lib.Dec.{eqb}
 use lib.ListN.{length, getD}
-use borrow.Author.Tests.{lt-ltb, le-ltb, le-leb, lt-leb, eq-eqb, ne-eqb, eqb-true}
+use borrow.Author.Tests.{lt-ltb, le-ltb, le-leb, lt-leb, ne-eqb, eqb-true}
 use Rattle.nets.specs.Lists.{past, Found, found, missing, nextL}
-use Rattle.nets.specs.Networks.{width, refusalOf, startOf, noBits, prefixAs}
+use Rattle.nets.specs.Networks.{refusalOf, startOf, noBits, prefixAs}
 use Rattle.nets.specs.Refusals.{number, answered}
-use Rattle.nets.specs.Tries.{Trie, size, listOf}
+use Rattle.nets.specs.Tries.{Trie, listOf}
 use Rattle.nets.specs.declared.Net.{Net}
 use Rattle.nets.specs.declared.Prefix.{Prefix}
 use Rattle.nets.specs.declared.Prefix.the-variants as prefix
 use Rattle.nets.specs.declared.PrefixBits.{PrefixBits}
 use Rattle.nets.specs.declared.Refusal.{Refusal}
 use Rattle.nets.specs.declared.Refusal.the-variants.{Damaged, NoSet, ShortBuffer}
-use Rattle.nets.proofs.Strings.{cond-both}
-use Rattle.nets.proofs.Numbers.{refusalOf-is, bitsLeft-start}
-use Rattle.nets.proofs.Answers.{number-some}
+use Rattle.nets.proofs.Numbers.{bitsLeft-start, startOf-few}
+use Rattle.nets.proofs.Answers.{number-some, prefix-bits}
 use Rattle.nodes.specs.Words.{put}
-use Rattle.nodes.specs.Segments.{Segment}
-use Rattle.nodes.proofs.Has.{has-at, has-join}
-use Rattle.nodes.proofs.Tries.{length-enc}
 use Rattle.pool.specs.States.{State, isFamily}
 use Rattle.pool.specs.Decode.{Decoded, damaged, sound, base, decode}
 use Rattle.pool.specs.Rules.{surveyOf}
-use Rattle.pool.specs.Changes.{setAt, listAt, netNo}
+use Rattle.pool.specs.Changes.{listAt}
 use Rattle.pool.specs.declared.Answer.the-variants as answer
 use Rattle.pool.specs.declared.Survey.{Survey}
 use Rattle.pool.proofs.Header.{isHeader-header}
-use Rattle.pool.proofs.Holds.{set-listOf}
 use Rattle.pool.proofs.Decoded.{decode-header, decode-set}
-use Rattle.pool.proofs.Seen.{Seen, trieAt, behind, survey-sound, survey-damaged, seen-header, seen-figures, own-length, own-has, behind-length, behind-has}
+use Rattle.pool.proofs.Seen.{Seen, trieAt, behind, survey-sound, survey-damaged, seen-header, seen-segment, seen-list}
 use Rattle.listing.specs.Rows.{rowsOf}
 use Rattle.listing.specs.Spans.{Spans, Holds}
 use Rattle.listing.specs.Seats.{Sits, Refuses, Seats}
@@ -51,6 +46,7 @@ use Rattle.listing.specs.declared.seats.Seat.{Seat}
 use Rattle.listing.specs.declared.seats.Seated.the-variants.{Refused}
 use Rattle.listing.proofs.Reading.{spans-small}
 use Rattle.listing.proofs.Counting.{listOf-size}
+use Rattle.pool.proofs.Returns.{netNo-own, netNo-other}
 
 -- Where the trie of a set stands.
 isFamily-few : (f : ℕ) → isFamily f ≡ true → f ≤ 6
@@ -68,19 +64,6 @@ module _ (w : List ℕ) (k : ℕ) (v : Survey) (e : v ≡ surveyOf (decode w) k)
   seat-noset q le = let x = survey-sound w k v e q in rw (x .1) (omega (arith, decode-header w (x .0) (x .1) .sets), refl)
 
 module _ {w : List ℕ} {S : State} {k : ℕ} {v : Survey} (h : Seen w S k v) where
-  seen-segment : Segment w (base (getD w 2 0)) (v .at) (v .at + v .held) (v .used + 1) (trieAt S k) (behind S k)
-  seen-segment =
-      let f = seen-figures h in
-      let n : size (trieAt S k) ≡ v .held = sym (length-enc (trieAt S k)) ∙ own-length h in
-      record {
-        has = has-join _ _ (own-has h) (has-at (omega (arith, f .first, own-length h, seen-header h .sets)) (behind-has h));
-        one = f .first;
-        end = omega (arith, n);
-        used = omega (arith, behind-length h);
-        few = omega (arith, f .used, f .claimed, f .nodes);
-        low = omega (arith, f .sets);
-      }
-
   pub seat-family : getD w 1 0 ≤ 6
   seat-family = isFamily-few (getD w 1 0) (isHeader-header w (seen-header h .known) .family)
 
@@ -91,8 +74,8 @@ module _ {w : List ℕ} {S : State} {k : ℕ} {v : Survey} (h : Seen w S k v) wh
         decoded = h .decoded;
         known = h .known;
         family = seen-header h .family;
-        list = set-listOf (width (S .family)) (setAt S k) (d .rules);
-        holds = record { stands = record { u = v .used + 1; rest = behind S k; is = seen-segment }; deep = rw (seen-header h .family) (d .trie .deep) };
+        list = seen-list h;
+        holds = record { stands = record { u = v .used + 1; rest = behind S k; is = seen-segment h }; deep = rw (seen-header h .family) (d .trie .deep) };
       }
 
 -- The returns of list.
@@ -139,28 +122,6 @@ module _ {w : List ℕ} {k : ℕ} {S : State} {s : Seat} (h : Sits w k S s) {n :
       record { answer = rw (h .decoded, l, m) (ap (λ x. (0, x)) counted); rows = rw (h .decoded, l, m) g }
 
 -- A place as an argument.
-netNo-own : (n : Net) (S : State) → n .family ≡ S .family → netNo n S ≡ refusalOf n
-unfolding netNo
-netNo-own n S e = rw (eq-eqb (n .family) (S .family) e)
-
-netNo-other : (n : Net) (S : State) → (n .family ≡ S .family → ⊥) → netNo n S ≡ 6
-unfolding netNo
-netNo-other n S ne = rw (ne-eqb (n .family) (S .family) ne)
-
-prefix-bits : (n : Net) (p : Prefix) (s : PrefixBits) → prefixAs p ≡ answered (refusalOf n) noBits (startOf n) → p ≡ prefix.Bits s → (refusalOf n ≡ 0) × (s ≡ startOf n)
-prefix-bits n p s e h =
-    let g = sym (ap prefixAs h) ∙ e in
-    let k : refusalOf n ≡ 0 = sym (ap (λ y. y .0) g) in
-    (k, rw k at (ap (λ y. y .1) g))
-
-width-most : (f : ℕ) → width f ≤ 128
-unfolding width
-width-most f = cond-both (λ x. x ≤ 128) (eqb f 4) 32 128 (omega arith) (omega arith)
-
-start-few : (n : Net) → refusalOf n ≡ 0 → startOf n .len ≤ 128
-unfolding startOf
-start-few n e = omega (arith, refusalOf-is n e .len, width-most (n .family))
-
 pub place-start : {f : ℕ} {x : From} → x ≡ from.Start → Right f x place.Start
 place-start e = rw e (record { right = λ S q. refl; place = refl; short = omega arith })
 
@@ -179,7 +140,7 @@ module _ {f : ℕ} {x : From} (n : Net) (e : x ≡ from.Past n) where
         (record {
           right = λ S q. netNo-own n S (own ∙ q) ∙ y .0;
           place = rw (y .1) (ap past (bitsLeft-start n (y .0)));
-          short = rw (y .1) (start-few n (y .0));
+          short = rw (y .1) (startOf-few n (y .0));
         })
 
 -- The returns of next.

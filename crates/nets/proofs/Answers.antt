@@ -7,12 +7,13 @@ use native.Mathlib.Omega.{arith}
 use lib.ListN.{getD}
 use borrow.Author.Tests.{ne-eqb}
 use Rattle.nets.specs.Refusals.{number, answered}
-use Rattle.nets.specs.Networks.{refusalOf, noNet, takenAs, judged, prefixAs}
+use Rattle.nets.specs.Networks.{refusalOf, noNet, takenAs, judged, noBits, startOf, prefixAs}
 use Rattle.nets.specs.declared.Refusal.{Refusal}
 use Rattle.nets.specs.declared.Refusal.the-variants.{BadSetup, Damaged, NoSet, BadText, BadFile, WrongFamily, BadNetwork, Occupied, OverLimit, NoRoom, ShortBuffer}
 use Rattle.nets.specs.declared.Net.{Net}
 use Rattle.nets.specs.declared.Taken.{Taken}
 use Rattle.nets.specs.declared.Taken.the-variants as taken
+use Rattle.nets.specs.declared.PrefixBits.{PrefixBits}
 use Rattle.nets.specs.declared.Prefix.{Prefix}
 use Rattle.nets.specs.declared.Prefix.the-variants as prefix
 
@@ -45,7 +46,7 @@ pub number-some : (r : Refusal) → number r ≡ 0 → ⊥
 unfolding named
 number-some r e = let h : none ≡ some r = ap named (sym e) ∙ named-number r in let z : _≡_ {A = ℕ} 0 1 = cc in omega arith
 
--- What is granted, a network that is, and a refusal, which is the same with any value.
+-- What is granted, a network or bits that are, and a refusal, which is the same with any value.
 pub answered-granted : {A : Type 0} (k : ℕ) (z v a : A) → (0, a) ≡ answered k z v → (k ≡ 0) × (a ≡ v)
 answered-granted k z v a e = let h : k ≡ 0 = sym (ap (λ p. p .0) e) in (h, rw h at (ap (λ p. p .1) e))
 
@@ -56,6 +57,12 @@ pub judged-refused : {A : Type 0} (t : Taken) (n : Net) (r : Refusal) (z v : A) 
 judged-refused t n r z v e h =
     let k : refusalOf n ≡ number r = ap (λ p. p .0) (sym e ∙ ap takenAs h) in
     rw (k, ne-eqb (number r) 0 (number-some r))
+
+pub prefix-bits : (n : Net) (p : Prefix) (s : PrefixBits) → prefixAs p ≡ answered (refusalOf n) noBits (startOf n) → p ≡ prefix.Bits s → (refusalOf n ≡ 0) × (s ≡ startOf n)
+prefix-bits n p s e h = answered-granted (refusalOf n) noBits (startOf n) s (sym (ap prefixAs h) ∙ e)
+
+pub prefix-refused : (n : Net) (p : Prefix) (x : Refusal) → prefixAs p ≡ answered (refusalOf n) noBits (startOf n) → p ≡ prefix.Refused x → refusalOf n ≡ number x
+prefix-refused n p x e h = ap (λ y. y .0) (sym e ∙ ap prefixAs h)
 
 pub takenAs-one : (r s : Taken) → takenAs r ≡ takenAs s → r ≡ s
 takenAs-one (taken.Network m) (taken.Network n) e = ap taken.Network (ap (λ p. p .1) e)

@@ -159,6 +159,10 @@ width-le f = go (eqb f 4)
     go true = omega arith
     go false = omega arith
 
+pub startOf-few : (n : Net) → refusalOf n ≡ 0 → startOf n .len ≤ 128
+unfolding startOf
+startOf-few n e = omega (arith, refusalOf-is n e .len, width-le (n .family))
+
 pub bitsLeft-start : (n : Net) → refusalOf n ≡ 0 → bitsLeft (startOf n) ≡ netBits n
 unfolding bitsLeft startOf netBits
 bitsLeft-start n e =

@@ -3,9 +3,12 @@
 use mathlib.Core.Path.{_≡_, sym, ap, _∙_}
 use mathlib.Core.List.{List}
 use Prim.Native.Nat.{ℕ}
+use Rattle.nets.specs.Bits.{Bits}
 use Rattle.nets.proofs.Answers.{number-one, number-some}
 use Rattle.pool.specs.Decode.{decode}
 use Rattle.pool.specs.Rules.{answerAs, reportAs, Laid, freeRule, heldRule, planRule}
+use Rattle.pool.specs.States.{State}
+use Rattle.pool.specs.Changes.{Changed}
 use Rattle.pool.specs.declared.Answer.{Answer}
 use Rattle.pool.specs.declared.Answer.the-variants as answer
 use Rattle.pool.specs.declared.Report.{Report}
@@ -37,3 +40,7 @@ module _ (w : List ℕ) where
 
     pub plan-determined : reportAs r ≡ planRule (decode w) k → reportAs s ≡ planRule (decode w) k → r ≡ s
     plan-determined e f = reportAs-one r s (e ∙ sym f)
+
+-- every changing call
+pub changed-one : {w v u : List ℕ} {k : ℕ} {a : State → ℕ} {f : State → List Bits} {r s : Answer} → Changed w k a f r v → Changed w k a f s u → (r ≡ s) × (v ≡ u)
+changed-one {r = r} {s = s} h g = (answerAs-one r s (h .answer ∙ sym (g .answer)), h .words ∙ sym (g .words))

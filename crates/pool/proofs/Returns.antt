@@ -6,17 +6,19 @@ use Prim.Native.Nat.{ℕ, _≤_}
 use native.Mathlib.Omega.{arith}
 use lib.Dec.{eqb}
 use lib.ListN.{length, getD}
-use borrow.Author.Tests.{lt-ltb, le-ltb, ne-eqb, eqb-true}
+use borrow.Author.Tests.{lt-ltb, le-ltb, eq-eqb, ne-eqb, eqb-true}
 use Rattle.nets.specs.Bits.{Bits}
 use Rattle.nets.specs.Lists.{isList, nodesL}
 use Rattle.nets.specs.Tries.{Trie, size, listOf}
-use Rattle.nets.specs.Networks.{width}
+use Rattle.nets.specs.Networks.{width, refusalOf}
+use Rattle.nets.specs.declared.Net.{Net}
 use Rattle.nets.proofs.Nodes.{nodesL-listOf}
 use Rattle.pool.specs.States.{State}
 use Rattle.pool.specs.Decode.{over, sound, decode}
-use Rattle.pool.specs.Rules.{surveyOf}
-use Rattle.pool.specs.Changes.{withList, changeNo, changeRule, wordsAfter}
+use Rattle.pool.specs.Rules.{answerAs, surveyOf}
+use Rattle.pool.specs.Changes.{withList, changeNo, changeRule, wordsAfter, Changed, netNo}
 use Rattle.pool.specs.Steps.{relinked}
+use Rattle.pool.specs.declared.Answer.{Answer}
 use Rattle.pool.specs.declared.Survey.{Survey}
 use Rattle.pool.proofs.Decoded.{decode-header}
 use Rattle.pool.proofs.Seen.{Seen, survey-sound, survey-damaged}
@@ -26,6 +28,18 @@ use Rattle.pool.proofs.Changed.{withTrie, decode-granted, over-change}
 -- what a changing call on set k owes: its answer r, and the words u that it leaves
 abbrev pub Owes : List ℕ → ℕ → (State → ℕ) → (State → List Bits) → ℕ × ℕ → List ℕ → Type 0
 Owes w k a f r u = (r ≡ changeRule (decode w) k a f) × (u ≡ wordsAfter w (decode w) k a f)
+
+pub changed : {w v : List ℕ} {k : ℕ} {a : State → ℕ} {f : State → List Bits} {r : Answer} → Owes w k a f (answerAs r) v → Changed w k a f r v
+changed h = record { answer = h .0; words = h .1 }
+
+-- the number that a network gets in a pool of its family, and in another
+pub netNo-own : (n : Net) (S : State) → n .family ≡ S .family → netNo n S ≡ refusalOf n
+unfolding netNo
+netNo-own n S e = rw (eq-eqb (n .family) (S .family) e)
+
+pub netNo-other : (n : Net) (S : State) → (n .family ≡ S .family → ⊥) → netNo n S ≡ 6
+unfolding netNo
+netNo-other n S ne = rw (ne-eqb (n .family) (S .family) ne)
 
 module _ (a : State → ℕ) (f : State → List Bits) where
   refused : (w : List ℕ) (S : State) (k x : ℕ) → decode w ≡ sound S → changeNo S k (a S) (f S) ≡ x → (x ≡ 0 → ⊥) → Owes w k a f (x, 0) w

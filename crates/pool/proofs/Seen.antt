@@ -6,7 +6,7 @@ use mathlib.Core.List.{List, _++_}
 use Prim.Native.Nat.{ℕ, suc, _+_, _-_, _≤_, _<_}
 use native.Mathlib.Omega.{arith}
 use lib.ListN.{length, getD, take, drop, length-append}
-use Rattle.nets.specs.Tries.{Trie, trieOf}
+use Rattle.nets.specs.Tries.{Trie, size, listOf, trieOf}
 use Rattle.nets.specs.Networks.{width}
 use Rattle.nodes.specs.Words.{Has, enc, place}
 use Rattle.pool.specs.States.{State, held, used, claimed, isState}
@@ -15,11 +15,12 @@ use Rattle.pool.specs.Rules.{startOf, surveyOf}
 use Rattle.pool.specs.Changes.{setAt}
 use Rattle.pool.specs.Steps.{Surveyed, behindAt}
 use Rattle.pool.specs.declared.Survey.{Survey}
-use Rattle.nodes.proofs.Has.{has-front, has-back, has-at, has-seg}
+use Rattle.nodes.specs.Segments.{Segment}
+use Rattle.nodes.proofs.Has.{has-front, has-back, has-at, has-seg, has-join}
 use Rattle.nodes.proofs.Tries.{length-enc}
 use Rattle.pool.proofs.Claims.{isState-claimed, used-claimed, claimedBut-is}
 use Rattle.pool.proofs.Header.{IsHeader, isHeader-header}
-use Rattle.pool.proofs.Holds.{set-size}
+use Rattle.pool.proofs.Holds.{set-listOf, set-size}
 use Rattle.pool.proofs.Encoded.{HeaderOf}
 use Rattle.pool.proofs.Decoded.{decode-header, decode-state, decode-has, decode-used, decode-set, decode-share, decode-at, decode-parts}
 
@@ -162,6 +163,25 @@ module _ {w : List ℕ} {S : State} {k : ℕ} {v : Survey} (h : Seen w S k v) wh
         claimed = omega (arith, h .claimed, seen-header .nodes);
         share = omega (arith, h .claimed, decode-share w S (h .decoded) k (h .known));
         held = omega (arith, h .held, h .claimed);
+      }
+
+  -- the trie of the set: it lists the set's networks, and stands where the survey says with the sets behind it behind it
+  pub seen-list : listOf (trieAt S k) ≡ setAt S k .list
+  seen-list = set-listOf (width (S .family)) (setAt S k) (decode-set w S (h .decoded) k (h .known) .rules)
+
+  pub seen-size : size (trieAt S k) ≡ v .held
+  seen-size = sym (length-enc (trieAt S k)) ∙ own-length
+
+  pub seen-segment : Segment w (base (getD w 2 0)) (v .at) (v .at + v .held) (v .used + 1) (trieAt S k) (behind S k)
+  seen-segment =
+      let f = seen-figures in
+      record {
+        has = has-join _ _ own-has (has-at (omega (arith, f .first, own-length, seen-header .sets)) behind-has);
+        one = f .first;
+        end = omega (arith, seen-size);
+        used = omega (arith, behind-length);
+        few = omega (arith, f .used, f .claimed, f .nodes);
+        low = omega (arith, f .sets);
       }
 
 pub figures : {w : List ℕ} {k : ℕ} {v : Survey} → Surveyed w k v → Figures w k v
