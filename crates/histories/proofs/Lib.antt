@@ -2,3 +2,4 @@
 pub mod Step
 pub mod Histories
 pub mod TwoHistories
+pub mod Contracts

@@ -28,7 +28,8 @@ use Rattle.pool.proofs.WithList.{length-withList, withList-at, withList-other, 
 use Rattle.pool.proofs.Decoded.{decode-state}
 use Rattle.pool.proofs.Judged.{Granted, changeNo-granted}
 use Rattle.pool.proofs.Changed.{decode-granted}
-use Rattle.histories.specs.Calls.{Call, add, remove, simplify, merge, intersect, exclude, target, namesOne, isEmpty, combineNo, argsNo, resultOf, callNo, answerOf, stateAfter, Outcome}
+use Rattle.combine.specs.Rules.{isEmpty, combineNo}
+use Rattle.histories.specs.Calls.{Call, add, remove, simplify, merge, intersect, exclude, target, namesOne, argsNo, resultOf, callNo, answerOf, stateAfter, Outcome}
 
 -- Every set of a state keeps the rules; a number that is no set's has an empty one.
 areSets-at : (w k : ℕ) (ss : List SetState) → areSets w ss ≡ true → isSet w (getD ss k noSet) ≡ true

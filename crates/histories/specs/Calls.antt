@@ -6,11 +6,10 @@
 --   callNo S c, answerOf S c  the number of the answer, and the answer whole
 --   stateAfter S c            the state that c leaves
 --   Outcome w c r v           what the contracts allow: from the words w the call c answers r and leaves the words v
-use mathlib.Core.Bool.{Bool, true, false, cond, _&&_}
-use mathlib.Core.List.{List, [], _∷_}
+use mathlib.Core.Bool.{Bool, true, cond, _&&_}
+use mathlib.Core.List.{List}
 use Prim.Native.Nat.{ℕ}
-use lib.Dec.{eqb, ltb}
-use lib.ListN.{length}
+use lib.Dec.{eqb}
 use Rattle.nets.specs.Bits.{Bits}
 use Rattle.nets.specs.Lists.{nodesL, addL, removeL, simplifyL, mergeL, intersectL, excludeL}
 use Rattle.nets.specs.Networks.{netBits}
@@ -19,6 +18,7 @@ use Rattle.nets.specs.declared.Net.{Net}
 use Rattle.pool.specs.States.{State}
 use Rattle.pool.specs.Changes.{listAt, withList, changeNo, Changed, netNo}
 use Rattle.pool.specs.declared.Answer.{Answer}
+use Rattle.combine.specs.Rules.{combineNo}
 
 -- a set and a network; a set; the set to write and the two to read
 pub data Call : Type 0 where
@@ -41,14 +41,6 @@ namesOne (simplify k) = true
 namesOne (merge to a b) = eqb a to && eqb b to
 namesOne (intersect to a b) = eqb a to && eqb b to
 namesOne (exclude to a b) = eqb a to && eqb b to
-
-abbrev pub isEmpty : List Bits → Bool
-isEmpty [] = true
-isEmpty (p ∷ l) = false
-
--- 3 where a source is no set, then 8 where the destination isn't empty
-unfoldable pub combineNo : ℕ → ℕ → ℕ → State → ℕ
-combineNo to a b S = cond (ltb a (length (S .sets)) && ltb b (length (S .sets))) (cond (isEmpty (listAt S to)) 0 8) 3
 
 abbrev pub argsNo : Call → State → ℕ
 argsNo (add k n) = netNo n

@@ -1,0 +1,28 @@
+-- The contract of each changing call is the outcome that a history is made of. Assumes nothing.
+use mathlib.Core.List.{List}
+use Prim.Native.Nat.{ℕ}
+use Rattle.nets.specs.declared.Net.{Net}
+use Rattle.pool.specs.declared.Answer.{Answer}
+use Rattle.change.specs.Calls.{Added, Removed}
+use Rattle.change.specs.Simplified.{Simplifies}
+use Rattle.combine.specs.Rules.{Merged, Intersected, Excluded}
+use Rattle.histories.specs.Calls.{add, remove, simplify, merge, intersect, exclude, Outcome}
+
+module _ {w v : List ℕ} {r : Answer} (k : ℕ) where
+  pub added : (n : Net) → Added w k n r v → Outcome w (add k n) r v
+  added n h = h
+
+  pub removed : (n : Net) → Removed w k n r v → Outcome w (remove k n) r v
+  removed n h = h
+
+  pub simplified : Simplifies w k r v → Outcome w (simplify k) r v
+  simplified h = h
+
+  pub merged : (a b : ℕ) → Merged w k a b r v → Outcome w (merge k a b) r v
+  merged a b h = h
+
+  pub intersected : (a b : ℕ) → Intersected w k a b r v → Outcome w (intersect k a b) r v
+  intersected a b h = h
+
+  pub excluded : (a b : ℕ) → Excluded w k a b r v → Outcome w (exclude k a b) r v
+  excluded a b h = h
