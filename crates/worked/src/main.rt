@@ -1,0 +1,41 @@
+// Runs the scope document's worked networks that are not proved as a table through the public calls, with cases at full pools, at the ends of the address words and at
+// refusals, and counts the answers that come out otherwise.
+use tally::Tally;
+
+mod full;
+mod lengths;
+mod made;
+mod refusals;
+mod tables;
+mod tally;
+
+fn at_full_pools(t: Tally) -> Tally {
+    let mut t = full::halved(t);
+    t = full::simplified(t);
+    t = full::swallowed(t);
+    t = full::reopened(t);
+    t = full::path(t);
+    t = full::split(t);
+    t = full::unsplit(t);
+    full::traded(t)
+}
+
+fn at_refusals(t: Tally) -> Tally {
+    let mut t = refusals::damaged(t);
+    t = refusals::absent(t);
+    t = refusals::networks(t);
+    refusals::results(t)
+}
+
+fn main() {
+    let mut t = tables::removed(tally::none());
+    t = tables::refused(t);
+    t = tables::beside(t);
+    t = at_full_pools(t);
+    t = lengths::ends(t);
+    t = at_refusals(t);
+    io::print_decimal(1, t.cases as u64);
+    io::write_all(1, b" cases, ");
+    io::print_decimal(1, t.wrong as u64);
+    io::write_all(1, b" wrong\n");
+}

@@ -1,0 +1,68 @@
+// What is counted, and how each kind of answer is held to what it must be.
+use pool::Answer;
+use pool::Report;
+
+pub struct Tally {
+    pub cases: u32,
+    pub wrong: u32,
+}
+
+pub fn none() -> Tally {
+    Tally { cases: 0, wrong: 0 }
+}
+
+fn count(t: Tally, right: bool) -> Tally {
+    let cases = std::num::wrapping_add_u32(t.cases, 1);
+    if right {
+        return Tally {
+            cases,
+            wrong: t.wrong,
+        };
+    }
+    Tally {
+        cases,
+        wrong: std::num::wrapping_add_u32(t.wrong, 1),
+    }
+}
+
+// The call is granted and answers this number.
+pub fn gives(t: Tally, a: Answer, n: u32) -> Tally {
+    let Answer::Granted(m) = a else {
+        return count(t, false);
+    };
+    count(t, m == n)
+}
+
+// The call is refused with this number of the table.
+pub fn gets(t: Tally, a: Answer, no: u8) -> Tally {
+    let Answer::Refused(y) = a else {
+        return count(t, false);
+    };
+    count(t, y.number() == no)
+}
+
+// The report says these nodes and networks.
+pub fn holds(t: Tally, r: Report, nodes: u32, networks: u32) -> Tally {
+    let Report::Numbers(n, k) = r else {
+        return count(t, false);
+    };
+    count(t, n == nodes && k == networks)
+}
+
+// The refused call left every word.
+pub fn keeps(t: Tally, was: &[u32], pool: &[u32]) -> Tally {
+    count(t, same(was, pool))
+}
+
+// Whether two rows of words are equal.
+fn same(a: &[u32], b: &[u32]) -> bool {
+    if a.len() != b.len() {
+        return false;
+    }
+    for i in 0..a.len() {
+        if a[i] != b[i] {
+            return false;
+        }
+    }
+    true
+}
