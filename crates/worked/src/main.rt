@@ -6,6 +6,7 @@ mod full;
 mod lengths;
 mod made;
 mod refusals;
+mod sets;
 mod tables;
 mod tally;
 
@@ -18,6 +19,16 @@ fn at_full_pools(t: Tally) -> Tally {
     t = full::split(t);
     t = full::unsplit(t);
     full::traded(t)
+}
+
+fn of_sets(t: Tally) -> Tally {
+    let mut t = sets::merged(t);
+    t = sets::intersected(t);
+    t = sets::excluded(t);
+    t = sets::unexcluded(t);
+    t = sets::copied(t);
+    t = sets::selves(t);
+    sets::refused(t)
 }
 
 fn at_refusals(t: Tally) -> Tally {
@@ -34,6 +45,7 @@ fn main() {
     t = at_full_pools(t);
     t = lengths::ends(t);
     t = at_refusals(t);
+    t = of_sets(t);
     io::print_decimal(1, t.cases as u64);
     io::write_all(1, b" cases, ");
     io::print_decimal(1, t.wrong as u64);

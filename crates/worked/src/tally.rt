@@ -1,4 +1,5 @@
 // What is counted, and how each kind of answer is held to what it must be.
+use combine::Told;
 use pool::Answer;
 use pool::Report;
 
@@ -47,6 +48,14 @@ pub fn holds(t: Tally, r: Report, nodes: u32, networks: u32) -> Tally {
         return count(t, false);
     };
     count(t, n == nodes && k == networks)
+}
+
+// The two sets are equal, or are not.
+pub fn tells(t: Tally, a: Told, is: bool) -> Tally {
+    let Told::Is(b) = a else {
+        return count(t, false);
+    };
+    count(t, b == is)
 }
 
 // The refused call left every word.
