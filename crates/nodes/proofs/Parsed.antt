@@ -1,6 +1,6 @@
 -- The decoder and the encodings: `parse` gives a trie exactly where the words hold its encoding. Assumes nothing.
 use mathlib.Core.Path.{_≡_, refl, sym, _∙_, subst}
-use mathlib.Core.Bool.{Bool, true, false}
+use mathlib.Core.Bool.{Bool, true, false, cond}
 use mathlib.Core.List.{List}
 use Prim.Native.Nat.{ℕ, zero, suc, _+_, _-_, _/_, _%_, _≤_}
 use native.Mathlib.Omega.{arith}
@@ -8,9 +8,7 @@ use lib.Dec.{leb, eqb}
 use lib.ListN.{length}
 use borrow.Author.Tests.{le-leb, eq-eqb, ne-eqb, leb-true, eqb-true, eqb-false}
 use Rattle.nets.specs.Tries.{Trie, none, node, size, levels}
-use Rattle.nodes.specs.Words.{link0, link1, enc}
-use mathlib.Core.Bool.{cond}
-use Rattle.nodes.specs.Words.{place, wordAt}
+use Rattle.nodes.specs.Words.{link0, link1, enc, place, wordAt}
 use Rattle.nodes.specs.Parse.{Room, Read, bad, ok, bind, first, second, parse, Stands}
 use Rattle.nodes.proofs.Tries.{some, word-first, word-second, word-is, apart, joined}
 
@@ -71,7 +69,7 @@ module _ (w : List ℕ) (b n f : ℕ) where
         go false false q r h = absurd (never u h)
 
 module _ (w : List ℕ) (b n : ℕ) where
-  -- LAW 1: where the words hold a trie, it is what is read
+  -- where the words hold a trie, it is what is read
   pub parse-of : (f : ℕ) (t : Trie) (i : ℕ) → 1 ≤ i → (t ≡ none → ⊥) → Stands w b n f i t → parse w b n f i ≡ ok t
   unfolding parse size levels
   parse-of zero none i pos ne s = absurd (ne refl)
@@ -96,7 +94,7 @@ module _ (w : List ℕ) (b n : ℕ) where
       has = joined l r pos (record { root = word-is l r (wordAt w b i) (x .0) (y .0); left = x .1 .has; right = y .1 .has });
     }
 
-    -- LAW 2: what is read stands there
+    -- what is read stands there
     pub stands : (f i : ℕ) (t : Trie) → 1 ≤ i → parse w b n f i ≡ ok t → Stands w b n f i t × (t ≡ none → ⊥)
     unfolding parse
     stands zero i t pos e = absurd (never t e)

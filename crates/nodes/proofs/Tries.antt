@@ -8,8 +8,7 @@ use borrow.Author.Tests.{ne-eqb}
 use lib.Dec.{eqb}
 use lib.ListN.{length, length-append}
 use Rattle.nets.specs.Tries.{Trie, none, node, leaf, size, isNone, isLeaf}
-use Rattle.nodes.specs.Words.{link0, link1, word, enc}
-use Rattle.nodes.specs.Words.{Has, place, wordAt}
+use Rattle.nodes.specs.Words.{link0, link1, word, enc, Has, place, wordAt}
 use Rattle.nodes.proofs.Has.{has-front, has-back, has-head, has-tail, has-at, has-cons, has-join}
 
 pub length-enc : (t : Trie) → length (enc t) ≡ size t

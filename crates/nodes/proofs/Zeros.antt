@@ -10,8 +10,7 @@ use lib.ListN.{length, getD, take, drop, length-append, length-map}
 use lib.Seq.{drop-cons}
 use Rattle.nets.specs.Bits.{Bits}
 use Rattle.nets.specs.Tries.{Trie, none, node, bare, levels, level, below, listOf}
-use Rattle.nodes.specs.Words.{word, enc}
-use Rattle.nodes.specs.Words.{zeros}
+use Rattle.nodes.specs.Words.{word, enc, zeros}
 use Rattle.nodes.proofs.Tries.{word-leaf}
 
 zeros-append : (xs ys : List ℕ) → zeros (xs ++ ys) ≡ zeros xs + zeros ys
