@@ -65,17 +65,6 @@ pub fn seat_of(pool: &[u32], found: Survey) -> Seat
     }
 }
 
-// The answer where the nodes of the result are judged too many, by the number of the refusal.
-pub fn too_many(no: u8) -> Answer
-    requires { ⌜ ((no ≡ 9 → ⊥) → no ≡ 10) ⌝ }
-    ensures { λ r. ⌜ answerAs r ≡ (no, 0) ⌝ }
-{
-    if no == 9 {
-        return Answer::Refused(Refusal::OverLimit);
-    }
-    Answer::Refused(Refusal::NoRoom)
-}
-
 // Puts the roots right once the nodes of the result, n of them, are written; answers n.
 pub fn granted(pool: &mut [u32], set: u32, found: Survey, n: u32) -> Answer
     requires { ⌜ Relink (now pool) set (found .held) n ⌝ }

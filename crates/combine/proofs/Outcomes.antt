@@ -2,7 +2,7 @@
 -- empty, has the list that the call makes of the two lists, and every other set is as it was. Assumes nothing.
 use mathlib.Core.Bool.{Bool, true, false, cond}
 use mathlib.Core.List.{List, [], _∷_}
-use mathlib.Core.Path.{_≡_, refl, sym, ap, _∙_}
+use mathlib.Core.Path.{_≡_, refl, sym, _∙_}
 use Prim.Native.Nat.{ℕ, zero, suc}
 use native.Mathlib.Omega.{arith}
 use lib.Dec.{eqb}
@@ -11,33 +11,25 @@ use borrow.Author.Tests.{eq-eqb}
 use Rattle.nets.specs.Bits.{Bits}
 use Rattle.nets.specs.Lists.{isList, mergeL, intersectL, excludeL}
 use Rattle.nets.specs.Networks.{width}
-use Rattle.nets.proofs.Answers.{number-one, number-some}
 use Rattle.nets.proofs.Combining.{isList-merge, isList-intersect}
 use Rattle.nets.proofs.Laws.{isList-exclude}
 use Rattle.nets.proofs.Strings.{cond-both}
 use Rattle.nets.proofs.TrieOf.{isList-within}
 use Rattle.pool.specs.States.{SetState, State, areSets}
 use Rattle.pool.specs.Decode.{sound, decode}
-use Rattle.pool.specs.Rules.{noSet}
+use Rattle.pool.specs.Rules.{noSet, toldAs}
 use Rattle.pool.specs.Changes.{setAt, listAt, withList, changeNo}
 use Rattle.pool.specs.declared.Answer.{Answer}
+use Rattle.pool.specs.declared.Told.{Told}
 use Rattle.pool.proofs.Claims.{isState-sets, isSet-list, areSets-head, areSets-tail}
 use Rattle.pool.proofs.WithList.{withList-list, withList-other}
 use Rattle.pool.proofs.Decoded.{decode-state}
 use Rattle.pool.proofs.Judged.{changeNo-granted}
 use Rattle.pool.proofs.Returns.{decode-after}
-use Rattle.pool.proofs.Determined.{changed-one}
-use Rattle.combine.specs.Rules.{isEmpty, areKnown, combineNo, Combined, Merged, Intersected, Excluded, toldAs, equalRule}
-use Rattle.combine.specs.declared.Told.{Told}
-use Rattle.combine.specs.declared.Told.the-variants as told
+use Rattle.pool.proofs.Determined.{toldAs-one, changed-one}
+use Rattle.combine.specs.Rules.{isEmpty, areKnown, combineNo, Combined, Merged, Intersected, Excluded, equalRule}
 
 -- One outcome.
-toldAs-one : (r s : Told) → toldAs r ≡ toldAs s → r ≡ s
-toldAs-one (told.Is a) (told.Is b) e = ap told.Is (ap (λ p. p .1) e)
-toldAs-one (told.Is a) (told.Refused y) e = absurd (number-some y (sym (ap (λ p. p .0) e)))
-toldAs-one (told.Refused x) (told.Is b) e = absurd (number-some x (ap (λ p. p .0) e))
-toldAs-one (told.Refused x) (told.Refused y) e = ap told.Refused (number-one x y (ap (λ p. p .0) e))
-
 module _ (w : List ℕ) (to first second : ℕ) {r s : Answer} {u v : List ℕ} where
   pub merge-determined : Merged w to first second r u → Merged w to first second s v → (r ≡ s) × (u ≡ v)
   merge-determined h g = changed-one h g

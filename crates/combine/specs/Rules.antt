@@ -11,13 +11,10 @@ use lib.Dec.{ltb}
 use lib.ListN.{length}
 use Rattle.nets.specs.Bits.{Bits, equal}
 use Rattle.nets.specs.Lists.{mergeL, intersectL, excludeL}
-use Rattle.nets.specs.Refusals.{number}
 use Rattle.pool.specs.States.{State}
 use Rattle.pool.specs.Decode.{Decoded, damaged, sound}
 use Rattle.pool.specs.Changes.{listAt, Changed}
 use Rattle.pool.specs.declared.Answer.{Answer}
-use Rattle.combine.specs.declared.Told.{Told}
-use Rattle.combine.specs.declared.Told.the-variants as told
 
 -- both numbers are those of sets
 abbrev pub areKnown : State → ℕ → ℕ → Bool
@@ -49,11 +46,6 @@ sameList [] [] = true
 sameList [] (q ∷ m) = false
 sameList (p ∷ l) [] = false
 sameList (p ∷ l) (q ∷ m) = equal p q && sameList l m
-
--- the number and the value of an answer: a refusal has its number and false
-abbrev pub toldAs : Told → ℕ × Bool
-toldAs (told.Is b) = (0, b)
-toldAs (told.Refused r) = (number r, false)
 
 unfoldable pub equalRule : Decoded → ℕ → ℕ → ℕ × Bool
 equalRule damaged first second = (2, false)

@@ -1,6 +1,5 @@
 // The first steps of a combination, and its refusals.
 use nets::Refusal;
-use pool::Answer;
 use pool::Survey;
 use pool::checking::HEAD;
 use pool::checking::RECORD;
@@ -10,7 +9,6 @@ ghost use mathlib.Core.Path.{_≡_};
 ghost use Prim.Native.Nat.{_<_};
 ghost use lib.ListN.{length};
 ghost use Rattle.pool.specs.Decode.{recordAt};
-ghost use Rattle.pool.specs.Rules.{answerAs};
 ghost use Rattle.combine.specs.Steps.{Asks, sourcesOf};
 
 // What a combination goes on with: what a pass over the pool found for its destination. Or its refusal.
@@ -62,15 +60,4 @@ pub fn sources_of(pool: &[u32], first: u32, second: u32) -> Sources
         second: pool[HEAD + RECORD * (second as usize)] as usize,
         levels: most_levels(pool[1]) as usize,
     }
-}
-
-// The answer where the nodes of the result are judged too many, by the number of the refusal.
-pub fn too_many(no: u8) -> Answer
-    requires { ⌜ ((no ≡ 9 → ⊥) → no ≡ 10) ⌝ }
-    ensures { λ r. ⌜ answerAs r ≡ (no, 0) ⌝ }
-{
-    if no == 9 {
-        return Answer::Refused(Refusal::OverLimit);
-    }
-    Answer::Refused(Refusal::NoRoom)
 }

@@ -3,12 +3,14 @@ use combining::combine;
 use comparing::same_words;
 use nets::Refusal;
 use pool::Answer;
+use pool::Told;
 use pool::checking::HEAD;
 use pool::checking::RECORD;
 use pool::checking::survey;
 ghost use mathlib.Core.Path.{_≡_};
 ghost use Rattle.pool.specs.Decode.{decode};
-ghost use Rattle.combine.specs.Rules.{Merged, Intersected, Excluded, toldAs, equalRule};
+ghost use Rattle.pool.specs.Rules.{toldAs};
+ghost use Rattle.combine.specs.Rules.{Merged, Intersected, Excluded, equalRule};
 
 mod asking;
 mod combining;
@@ -20,12 +22,6 @@ const MERGE: usize = 0;
 const INTERSECT: usize = 1;
 
 const EXCLUDE: usize = 3;
-
-// What a comparison answers.
-pub enum Told {
-    Is(bool),
-    Refused(Refusal),
-}
 
 // Writes the union of two sets, simplified, into an empty one. Answers its nodes.
 pub fn merge(pool: &mut [u32], to: u32, first: u32, second: u32) -> Answer

@@ -5,13 +5,14 @@ use mathlib.Core.Path.{_≡_, refl, ap, sym, _∙_}
 use Prim.Native.Nat.{ℕ}
 use Rattle.nets.specs.declared.Net.{Net}
 use Rattle.nets.proofs.Answers.{number-one, number-some}
-use Rattle.lookup.specs.Rules.{lookup, supernetAs, toldAs, memberOf, isMember, supernetRule, containsRule, emptyRule}
+use Rattle.pool.specs.Rules.{toldAs}
+use Rattle.pool.specs.declared.Told.{Told}
+use Rattle.pool.proofs.Determined.{toldAs-one}
+use Rattle.lookup.specs.Rules.{lookup, supernetAs, memberOf, isMember, supernetRule, containsRule, emptyRule}
 use Rattle.lookup.specs.declared.walking.Shown.{Shown}
 use Rattle.lookup.specs.declared.walking.Shown.the-variants.{Member, Nothing, Refused}
 use Rattle.lookup.specs.declared.Covering.{Covering}
 use Rattle.lookup.specs.declared.Covering.the-variants as covering
-use Rattle.lookup.specs.declared.Told.{Told}
-use Rattle.lookup.specs.declared.Told.the-variants as told
 
 pub supernetAs-one : (r s : Covering) → supernetAs r ≡ supernetAs s → r ≡ s
 supernetAs-one (covering.Member m) (covering.Member n) e = ap covering.Member (ap (λ p. p .1 .1) e)
@@ -23,12 +24,6 @@ supernetAs-one covering.Nothing (covering.Refused y) e = absurd (number-some y (
 supernetAs-one (covering.Refused x) (covering.Member n) e = absurd (false≢true (ap (λ p. p .1 .0) e))
 supernetAs-one (covering.Refused x) covering.Nothing e = absurd (number-some x (ap (λ p. p .0) e))
 supernetAs-one (covering.Refused x) (covering.Refused y) e = ap covering.Refused (number-one x y (ap (λ p. p .0) e))
-
-pub toldAs-one : (r s : Told) → toldAs r ≡ toldAs s → r ≡ s
-toldAs-one (told.Is a) (told.Is b) e = ap told.Is (ap (λ p. p .1) e)
-toldAs-one (told.Is a) (told.Refused y) e = absurd (number-some y (sym (ap (λ p. p .0) e)))
-toldAs-one (told.Refused x) (told.Is b) e = absurd (number-some x (ap (λ p. p .0) e))
-toldAs-one (told.Refused x) (told.Refused y) e = ap told.Refused (number-one x y (ap (λ p. p .0) e))
 
 -- Two answers that a contract allows are one.
 module _ (w : List ℕ) (k : ℕ) (n : Net) where

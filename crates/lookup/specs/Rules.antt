@@ -23,8 +23,6 @@ use Rattle.lookup.specs.declared.walking.Shown.{Shown}
 use Rattle.lookup.specs.declared.walking.Shown.the-variants.{Member, Nothing, Refused}
 use Rattle.lookup.specs.declared.Covering.{Covering}
 use Rattle.lookup.specs.declared.Covering.the-variants as covering
-use Rattle.lookup.specs.declared.Told.{Told}
-use Rattle.lookup.specs.declared.Told.the-variants as told
 
 unfoldable pub onRoot : {A : Type 0} → List ℕ → ℕ → (Refusal → A) → (ℕ → A) → A
 onRoot w k refuse f = cond (isHeader w) (cond (ltb k (getD w 2 0)) (f (getD w (recordAt k) 0)) (refuse NoSet)) (refuse Damaged)
@@ -43,10 +41,6 @@ abbrev pub supernetAs : Covering → ℕ × (Bool × Net)
 supernetAs (covering.Member m) = (0, (true, m))
 supernetAs covering.Nothing = (0, (false, noNet))
 supernetAs (covering.Refused r) = (number r, (false, noNet))
-
-abbrev pub toldAs : Told → ℕ × Bool
-toldAs (told.Is b) = (0, b)
-toldAs (told.Refused r) = (number r, false)
 
 -- the member that a path shows is the query, cut to the member's length
 abbrev pub memberOf : Net → Shown → ℕ × (Bool × Net)

@@ -3,13 +3,15 @@ use nets::Net;
 use nets::Refusal;
 use nets::Taken;
 use pool::Answer;
+use pool::Told;
 use walking::Shown;
 use walking::lookup;
 use walking::root;
 ghost use mathlib.Core.Bool.{true};
 ghost use mathlib.Core.Path.{_≡_};
 ghost use Rattle.nets.specs.Networks.{refusalOf, withLen, cleared};
-ghost use Rattle.lookup.specs.Rules.{supernetAs, toldAs, supernetRule, containsRule, emptyRule};
+ghost use Rattle.pool.specs.Rules.{toldAs};
+ghost use Rattle.lookup.specs.Rules.{supernetAs, supernetRule, containsRule, emptyRule};
 
 mod walking;
 
@@ -17,12 +19,6 @@ mod walking;
 pub enum Covering {
     Member(Net),
     Nothing,
-    Refused(Refusal),
-}
-
-// What contains and is_empty answer.
-pub enum Told {
-    Is(bool),
     Refused(Refusal),
 }
 

@@ -6,13 +6,15 @@ use Prim.Native.Nat.{ℕ}
 use Rattle.nets.specs.Bits.{Bits}
 use Rattle.nets.proofs.Answers.{number-one, number-some}
 use Rattle.pool.specs.Decode.{decode}
-use Rattle.pool.specs.Rules.{answerAs, reportAs, Laid, freeRule, heldRule, planRule}
+use Rattle.pool.specs.Rules.{answerAs, reportAs, toldAs, Laid, freeRule, heldRule, planRule}
 use Rattle.pool.specs.States.{State}
 use Rattle.pool.specs.Changes.{Changed}
 use Rattle.pool.specs.declared.Answer.{Answer}
 use Rattle.pool.specs.declared.Answer.the-variants as answer
 use Rattle.pool.specs.declared.Report.{Report}
 use Rattle.pool.specs.declared.Report.the-variants as report
+use Rattle.pool.specs.declared.Told.{Told}
+use Rattle.pool.specs.declared.Told.the-variants as told
 
 pub answerAs-one : (r s : Answer) → answerAs r ≡ answerAs s → r ≡ s
 answerAs-one (answer.Granted m) (answer.Granted n) e = ap answer.Granted (ap (λ p. p .1) e)
@@ -25,6 +27,12 @@ reportAs-one (report.Numbers a b) (report.Numbers c d) e = let p : a ≡ c = ap 
 reportAs-one (report.Numbers a b) (report.Refused y) e = absurd (number-some y (sym (ap (λ p. p .0) e)))
 reportAs-one (report.Refused x) (report.Numbers a b) e = absurd (number-some x (ap (λ p. p .0) e))
 reportAs-one (report.Refused x) (report.Refused y) e = ap report.Refused (number-one x y (ap (λ p. p .0) e))
+
+pub toldAs-one : (r s : Told) → toldAs r ≡ toldAs s → r ≡ s
+toldAs-one (told.Is a) (told.Is b) e = ap told.Is (ap (λ p. p .1) e)
+toldAs-one (told.Is a) (told.Refused y) e = absurd (number-some y (sym (ap (λ p. p .0) e)))
+toldAs-one (told.Refused x) (told.Is b) e = absurd (number-some x (ap (λ p. p .0) e))
+toldAs-one (told.Refused x) (told.Refused y) e = ap told.Refused (number-one x y (ap (λ p. p .0) e))
 
 pub layout-determined : {w : List ℕ} {family sets nodes : ℕ} {shares limits : List ℕ} {r s : Answer} {u v : List ℕ}
     → Laid w family sets nodes shares limits r u → Laid w family sets nodes shares limits s v → (r ≡ s) × (u ≡ v)

@@ -18,6 +18,8 @@ use Rattle.pool.specs.declared.Answer.the-variants as answer
 use Rattle.pool.specs.declared.Report.{Report}
 use Rattle.pool.specs.declared.Report.the-variants as report
 use Rattle.pool.specs.declared.Survey.{Survey}
+use Rattle.pool.specs.declared.Told.{Told}
+use Rattle.pool.specs.declared.Told.the-variants as told
 
 -- the number and the value of an answer: a refusal has its number and zeros
 abbrev pub answerAs : Answer → ℕ × ℕ
@@ -27,6 +29,10 @@ answerAs (answer.Refused r) = (number r, 0)
 abbrev pub reportAs : Report → ℕ × (ℕ × ℕ)
 reportAs (report.Numbers a b) = (0, (a, b))
 reportAs (report.Refused r) = (number r, (0, 0))
+
+abbrev pub toldAs : Told → ℕ × Bool
+toldAs (told.Is b) = (0, b)
+toldAs (told.Refused r) = (number r, false)
 
 -- each share is at most its limit
 abbrev pub withinLimits : List ℕ → List ℕ → Bool

@@ -1,11 +1,14 @@
 // Judging a result by its nodes, before anything is written: the limit of its set, and the room that the other sets leave.
+use super::Answer;
 use super::Survey;
+use nets::Refusal;
 ghost use mathlib.Core.Path.{_≡_};
 ghost use mathlib.Core.List.{List};
 ghost use Rattle.nets.specs.Bits.{Bits};
 ghost use Rattle.nets.specs.Lists.{nodesL};
 ghost use Rattle.pool.specs.States.{State, roomOf};
 ghost use Rattle.pool.specs.Decode.{decode, sound};
+ghost use Rattle.pool.specs.Rules.{answerAs};
 ghost use Rattle.pool.specs.Changes.{changeNo};
 ghost use Rattle.pool.specs.Steps.{Surveyed};
 
@@ -33,4 +36,15 @@ pub fn judge(w: &[u32], set: u32, v: Survey, n: u32) -> u8
         return 10;
     }
     0
+}
+
+// The answer where the nodes of the result are judged too many, by the number of the refusal.
+pub fn too_many(no: u8) -> Answer
+    requires { ⌜ ((no ≡ 9 → ⊥) → no ≡ 10) ⌝ }
+    ensures { λ r. ⌜ answerAs r ≡ (no, 0) ⌝ }
+{
+    if no == 9 {
+        return Answer::Refused(Refusal::OverLimit);
+    }
+    Answer::Refused(Refusal::NoRoom)
 }

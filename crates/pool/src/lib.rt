@@ -19,6 +19,12 @@ pub enum Answer {
     Refused(Refusal),
 }
 
+// What a question about sets is answered.
+pub enum Told {
+    Is(bool),
+    Refused(Refusal),
+}
+
 // Two numbers of a set: its nodes and its networks, or its share and its limit.
 pub enum Report {
     Numbers(u32, u32),

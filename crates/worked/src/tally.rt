@@ -1,7 +1,7 @@
 // What is counted, and how each kind of answer is held to what it must be.
-use combine::Told;
 use pool::Answer;
 use pool::Report;
+use pool::Told;
 
 pub struct Tally {
     pub cases: u32,
