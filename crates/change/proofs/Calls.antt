@@ -1,15 +1,13 @@
--- The calls with a network, a law for each return: what `ask` finds, and then what becomes of a result whose nodes are counted and judged. A change of lists is
--- done on tries (`Works`), so one law serves add and remove. Assumes nothing.
-use mathlib.Core.Path.{_≡_, refl, sym, ap, _∙_}
-use mathlib.Core.Bool.{Bool, true, false}
-use mathlib.Core.List.{List, _++_}
+-- The calls with a network: what `ask` finds, a law for each return, and then the result, counted and written (`Result` of pool's proofs/Returns.antt says what becomes of it).
+-- A change of lists is done on tries (`Works`), so one law serves add and remove. Assumes nothing.
+use mathlib.Core.Path.{_≡_, refl, sym, _∙_}
+use mathlib.Core.Bool.{true, false}
+use mathlib.Core.List.{List}
 use Prim.Native.Nat.{ℕ, _+_, _-_, _*_, _≤_, _<_}
 use native.Mathlib.Omega.{arith}
-use lib.Dec.{eqb}
 use lib.ListN.{length, getD}
-use borrow.Author.Tests.{eqb-true, eqb-false}
 use Rattle.nets.specs.Bits.{Bits}
-use Rattle.nets.specs.Lists.{nodesL, addL, removeL}
+use Rattle.nets.specs.Lists.{addL, removeL}
 use Rattle.nets.specs.Tries.{Trie, size, listOf, insertT}
 use Rattle.nets.specs.TrieOps.{removeT}
 use Rattle.nets.specs.Refusals.{number, answered}
@@ -20,26 +18,21 @@ use Rattle.nets.specs.declared.Refusal.the-variants.{Damaged, NoSet, WrongFamil
 use Rattle.nets.specs.declared.Prefix.{Prefix}
 use Rattle.nets.specs.declared.Prefix.the-variants as prefix
 use Rattle.nets.specs.declared.PrefixBits.{PrefixBits}
-use Rattle.nets.proofs.Nodes.{nodesL-listOf}
 use Rattle.nets.proofs.Adding.{listOf-insert}
 use Rattle.nets.proofs.Removing.{listOf-remove}
 use Rattle.nets.proofs.Numbers.{bitsLeft-start, startOf-few}
 use Rattle.nets.proofs.Handing.{length-bitsLeft}
 use Rattle.nets.proofs.Answers.{number-some, prefix-bits, prefix-refused}
-use Rattle.nodes.specs.Words.{enc}
 use Rattle.nodes.specs.Segments.{Segment, Spliced}
 use Rattle.pool.specs.States.{State, roomOf}
 use Rattle.pool.specs.Decode.{base, sound, decode}
-use Rattle.pool.specs.Rules.{answerAs, surveyOf}
-use Rattle.pool.specs.Changes.{listAt, changeNo, Changed, netNo}
-use Rattle.pool.specs.Steps.{relinked, Relink}
-use Rattle.pool.specs.declared.Answer.{Answer}
+use Rattle.pool.specs.Rules.{surveyOf}
+use Rattle.pool.specs.Changes.{listAt, netNo}
 use Rattle.pool.specs.declared.Survey.{Survey}
 use Rattle.pool.proofs.Decoded.{decode-header}
 use Rattle.pool.proofs.Seen.{Seen, behind, survey-sound, survey-seen, seen, seen-figures, trieAt, seen-list, seen-size, seen-segment}
-use Rattle.pool.proofs.Judged.{judge-zero, changeNo-granted}
-use Rattle.pool.proofs.Changed.{withTrie, relink-asks, gap-asks}
-use Rattle.pool.proofs.Returns.{change-damaged, change-noset, change-args, change-judged, change-granted, changed, netNo-own, netNo-other}
+use Rattle.pool.proofs.Changed.{withTrie, gap-asks}
+use Rattle.pool.proofs.Returns.{Result, change-damaged, change-noset, change-args, changed, netNo-own, netNo-other}
 use Rattle.change.specs.Steps.{Ready, Asks, seatOf}
 use Rattle.change.specs.declared.calling.Asked.the-variants.{Go, Refused}
 use Rattle.change.specs.declared.calling.Seat.{Seat}
@@ -112,10 +105,6 @@ pub record Counted (T : Bits → Trie → Trie) (L : List Bits → Bits → List
   pub seat : t ≡ seatOf w v
   pub counts : (x : Trie) (rest : List ℕ) (u : ℕ) → Segment w (t .base) (t .first) (t .end) u x rest → m ≡ size (T (bitsLeft s) x)
 
--- r judges m nodes
-abbrev Judges : List ℕ → ℕ → ℕ → ℕ → Type 0
-Judges w k m r = (S : State) (l : List Bits) → decode w ≡ sound S → nodesL l ≡ m → r ≡ changeNo S k 0 l
-
 module _ {T : Bits → Trie → Trie} {L : List Bits → Bits → List Bits} {w : List ℕ} {k : ℕ} {n : Net} {v : Survey} {s : PrefixBits} {t : Seat} {m : ℕ} (h : Counted T L w k n v s t m) where
   abbrev S : State
   S = state (h .ready)
@@ -132,56 +121,24 @@ module _ {T : Bits → Trie → Trie} {L : List Bits → Bits → List Bits} {w 
   sees : Seen w S k v
   sees = here (h .ready)
 
-  right : netNo n S ≡ 0
-  right = h .ready .right S (sees .decoded)
-
   pub result-stands : Segment w (t .base) (t .first) (t .end) (t .used) old (behind S k)
   result-stands = seat-stands (h .ready) (h .seat)
 
   counted : size new ≡ m
   counted = sym (h .counts old (behind S k) (t .used) result-stands)
 
-  new-list : listOf new ≡ after S
-  new-list = rw (h .works .list (bitsLeft s) old, seen-list (here (h .ready)), h .ready .bits)
-
-  new-nodes : nodesL (after S) ≡ m
-  new-nodes = ap nodesL (sym new-list) ∙ nodesL-listOf new ∙ counted
+  pub result : Result w S k v (netNo n) after new m
+  result =
+      record { seen = sees; right = h .ready .right S (sees .decoded); list = rw (h .works .list (bitsLeft s) old, seen-list sees, h .ready .bits); size = counted }
 
   pub result-few : m < 4294967296
   result-few =
       let f = seen-figures sees in
-      omega (arith, counted, h .works .few (bitsLeft s) old, length-bitsLeft s (h .ready .few), h .ready .few, seen-size (here (h .ready)), f .held, f .claimed, f .nodes)
+      omega (arith, counted, h .works .few (bitsLeft s) old, length-bitsLeft s (h .ready .few), h .ready .few, seen-size sees, f .held, f .claimed, f .nodes)
 
-  module _ {r : ℕ} (j : Judges w k m r) where
-    verdict : r ≡ changeNo S k 0 (after S)
-    verdict = j S (after S) (sees .decoded) new-nodes
+  -- it is granted, and written
+  pub result-room : m ≤ roomOf S k → t .base + (t .used - 1) + size new ≤ length w + size old
+  result-room le = rw (h .seat) (omega (arith, gap-asks sees {u = w} le refl .room, counted, seen-size sees))
 
-    -- it is refused
-    module _ (ne : r ≡ 0 → ⊥) where
-      pub result-many : (r ≡ 9 → ⊥) → r ≡ 10
-      result-many n9 = go (eqb r 10) refl
-        where
-          go : (b : Bool) → eqb r 10 ≡ b → r ≡ 10
-          go true e = eqb-true r 10 e
-          go false e = absurd (ne (judge-zero sees (after S) verdict n9 (eqb-false r 10 e)))
-
-      pub result-refused : {x : Answer} → answerAs x ≡ (r, 0) → Changed w k (netNo n) after x w
-      result-refused e = changed (rw e (change-judged (netNo n) after sees right verdict ne))
-
-    -- it is granted
-    module _ (z : r ≡ 0) where
-      fits : m ≤ roomOf S k
-      fits = omega (arith, changeNo-granted S k 0 (after S) (sym z ∙ verdict) .0 .room, new-nodes)
-
-      pub result-room : t .base + (t .used - 1) + size new ≤ length w + size old
-      result-room = rw (h .seat) (omega (arith, gap-asks sees {u = w} fits refl .room, counted, seen-size (here (h .ready))))
-
-      module _ {u : List ℕ} {y : ℕ} (d : Spliced w u (t .base) (t .first) y new (behind S k)) where
-        wrote : u ≡ withTrie w S k v new
-        wrote = rw (h .seat) at (d .wrote)
-
-        pub result-relinks : Relink u k (v .held) m
-        result-relinks = relink-asks sees (enc new ++ behind S k) fits wrote
-
-        pub result-granted : {x : Answer} {p : List ℕ} → (answerAs x ≡ (0, m)) × (p ≡ relinked u k (v .at) (v .held) m) → Changed w k (netNo n) after x p
-        result-granted e = changed (rw (e .0) (change-granted (netNo n) after sees right verdict new z new-list counted wrote (e .1)))
+  pub result-wrote : {u : List ℕ} {y : ℕ} → Spliced w u (t .base) (t .first) y new (behind S k) → u ≡ withTrie w S k v new
+  result-wrote d = rw (h .seat) at (d .wrote)

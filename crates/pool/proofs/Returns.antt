@@ -1,29 +1,31 @@
--- The returns of a changing call, one law for each, by the tests on the way to it; and the words that it leaves are sound. Assumes nothing.
+-- The returns of a changing call, one law for each, by the tests on the way to it; what becomes of a result that is counted and judged (`Result`); and the words that a call
+-- leaves are sound. Assumes nothing.
 use mathlib.Core.Path.{_≡_, refl, sym, ap, _∙_}
 use mathlib.Core.Bool.{Bool, true, false, cond}
-use mathlib.Core.List.{List}
+use mathlib.Core.List.{List, _++_}
 use Prim.Native.Nat.{ℕ, _≤_}
 use native.Mathlib.Omega.{arith}
 use lib.Dec.{eqb}
 use lib.ListN.{length, getD}
-use borrow.Author.Tests.{lt-ltb, le-ltb, eq-eqb, ne-eqb, eqb-true}
+use borrow.Author.Tests.{lt-ltb, le-ltb, eq-eqb, ne-eqb, eqb-true, eqb-false}
 use Rattle.nets.specs.Bits.{Bits}
 use Rattle.nets.specs.Lists.{isList, nodesL}
 use Rattle.nets.specs.Tries.{Trie, size, listOf}
 use Rattle.nets.specs.Networks.{width, refusalOf}
 use Rattle.nets.specs.declared.Net.{Net}
 use Rattle.nets.proofs.Nodes.{nodesL-listOf}
-use Rattle.pool.specs.States.{State}
+use Rattle.nodes.specs.Words.{enc}
+use Rattle.pool.specs.States.{State, roomOf}
 use Rattle.pool.specs.Decode.{over, sound, decode}
 use Rattle.pool.specs.Rules.{answerAs, surveyOf}
 use Rattle.pool.specs.Changes.{withList, changeNo, changeRule, wordsAfter, Changed, netNo}
-use Rattle.pool.specs.Steps.{relinked}
+use Rattle.pool.specs.Steps.{relinked, Relink}
 use Rattle.pool.specs.declared.Answer.{Answer}
 use Rattle.pool.specs.declared.Survey.{Survey}
 use Rattle.pool.proofs.Decoded.{decode-header}
-use Rattle.pool.proofs.Seen.{Seen, survey-sound, survey-damaged}
-use Rattle.pool.proofs.Judged.{changeNo-granted}
-use Rattle.pool.proofs.Changed.{withTrie, decode-granted, over-change}
+use Rattle.pool.proofs.Seen.{Seen, behind, survey-sound, survey-damaged}
+use Rattle.pool.proofs.Judged.{changeNo-granted, judge-zero}
+use Rattle.pool.proofs.Changed.{withTrie, decode-granted, over-change, relink-asks}
 
 -- what a changing call on set k owes: its answer r, and the words u that it leaves
 abbrev pub Owes : List ℕ → ℕ → (State → ℕ) → (State → List Bits) → ℕ × ℕ → List ℕ → Type 0
@@ -81,6 +83,43 @@ module _ (a : State → ℕ) (f : State → List Bits) where
       change-granted {n} {u} {x} t q l e p g =
           let y : x ≡ over w (withList S k (f S)) = g ∙ (rw (l, e) at (over-change h t p)) in
           rw (h .decoded, judged ∙ q) (ap (λ m. (0, m)) (sym e ∙ sym (nodesL-listOf t) ∙ ap nodesL l), y)
+
+-- r judges a result of m nodes
+abbrev pub Judges : List ℕ → ℕ → ℕ → ℕ → Type 0
+Judges w k m r = (S : State) (l : List Bits) → decode w ≡ sound S → nodesL l ≡ m → r ≡ changeNo S k 0 l
+
+-- a call whose arguments are right, and whose result is the trie t, counted: it has m nodes
+pub record Result (w : List ℕ) (S : State) (k : ℕ) (v : Survey) (a : State → ℕ) (f : State → List Bits) (t : Trie) (m : ℕ) : Type 0 where
+  pub seen : Seen w S k v
+  pub right : a S ≡ 0
+  pub list : listOf t ≡ f S
+  pub size : size t ≡ m
+
+module _ {w : List ℕ} {S : State} {k : ℕ} {v : Survey} {a : State → ℕ} {f : State → List Bits} {t : Trie} {m r : ℕ} (h : Result w S k v a f t m) (j : Judges w k m r) where
+  verdict : r ≡ changeNo S k 0 (f S)
+  verdict = j S (f S) (h .seen .decoded) (ap nodesL (sym (h .list)) ∙ nodesL-listOf t ∙ h .size)
+
+  pub result-many : (r ≡ 0 → ⊥) → (r ≡ 9 → ⊥) → r ≡ 10
+  result-many ne n9 = go (eqb r 10) refl
+    where
+      go : (b : Bool) → eqb r 10 ≡ b → r ≡ 10
+      go true e = eqb-true r 10 e
+      go false e = absurd (ne (judge-zero (h .seen) (f S) verdict n9 (eqb-false r 10 e)))
+
+  pub result-refused : {x : Answer} → (r ≡ 0 → ⊥) → answerAs x ≡ (r, 0) → Changed w k a f x w
+  result-refused ne e = changed (rw e (change-judged a f (h .seen) (h .right) verdict ne))
+
+  -- it is granted, and written
+  module _ (z : r ≡ 0) where
+    pub result-fits : m ≤ roomOf S k
+    result-fits = let g = changeNo-granted S k 0 (f S) (sym z ∙ verdict) .0 .room in omega (arith, ap nodesL (sym (h .list)) ∙ nodesL-listOf t ∙ h .size)
+
+    module _ {u : List ℕ} (e : u ≡ withTrie w S k v t) where
+      pub result-relinks : Relink u k (v .held) m
+      result-relinks = relink-asks (h .seen) (enc t ++ behind S k) result-fits e
+
+      pub result-granted : {x : Answer} {y : List ℕ} → answerAs x ≡ (0, m) → y ≡ relinked u k (v .at) (v .held) m → Changed w k a f x y
+      result-granted q p = changed (rw q (change-granted a f (h .seen) (h .right) verdict t z (h .list) (h .size) e p))
 
 -- What a changing call leaves is sound, and of the state that it says.
 pub decode-after : (w : List ℕ) (S : State) (k : ℕ) (a : State → ℕ) (f : State → List Bits) → decode w ≡ sound S → isList (width (S .family)) (f S) ≡ true
