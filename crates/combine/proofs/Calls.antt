@@ -1,15 +1,14 @@
--- A combination, a law for each return: what `ask` finds, what the sources mean, and then what becomes of a result that is counted and judged. An operation on lists is done
--- on tries, so one law serves all three. Assumes nothing.
+-- A combination: what `ask` finds, a law for each return, what the sources mean, and then the result, counted and written (`Result` of pool's proofs/Returns.antt says what
+-- becomes of it). An operation on lists is done on tries, so one law serves all three. Assumes nothing.
 use mathlib.Core.Bool.{Bool, true, false, cond}
-use mathlib.Core.List.{List, [], _∷_, _++_}
+use mathlib.Core.List.{List, [], _∷_}
 use mathlib.Core.Path.{_≡_, refl, sym, ap, _∙_}
 use Prim.Native.Nat.{ℕ, suc, _+_, _*_, _≤_, _<_}
 use native.Mathlib.Omega.{arith}
 use lib.Dec.{eqb}
 use lib.ListN.{length, getD}
-use borrow.Author.Tests.{lt-ltb, le-ltb, eqb-true, eqb-false}
+use borrow.Author.Tests.{lt-ltb, le-ltb}
 use Rattle.nets.specs.Bits.{Bits}
-use Rattle.nets.specs.Lists.{nodesL}
 use Rattle.nets.specs.Tries.{Trie, size, levels, listOf}
 use Rattle.nets.specs.Networks.{width}
 use Rattle.nets.specs.Refusals.{number}
@@ -18,32 +17,23 @@ use Rattle.nets.specs.declared.Refusal.the-variants.{Damaged, NoSet, Occupied}
 use Rattle.nets.proofs.Answers.{number-some}
 use Rattle.nets.proofs.Combining.{listOf-union, listOf-common}
 use Rattle.nets.proofs.Excluding.{listOf-except}
-use Rattle.nets.proofs.Nodes.{nodesL-listOf}
-use Rattle.nodes.specs.Words.{enc}
-use Rattle.emit.specs.Combine.{opOf, joined, opOn, Inputs}
+use Rattle.emit.specs.Combine.{opOf, joined, opOn}
 use Rattle.emit.proofs.Answers.{length-body}
 use Rattle.emit.proofs.Combine.{opOn-union, opOn-common, opOn-except, size-op}
 use Rattle.pool.specs.States.{State, roomOf}
 use Rattle.pool.specs.Decode.{recordAt, sound, decode}
-use Rattle.pool.specs.Rules.{answerAs, surveyOf}
-use Rattle.pool.specs.Changes.{listAt, changeNo, Changed}
-use Rattle.pool.specs.Steps.{relinked, Relink}
-use Rattle.pool.specs.declared.Answer.{Answer}
-use Rattle.pool.specs.declared.Answer.the-variants as answer
+use Rattle.pool.specs.Rules.{surveyOf}
+use Rattle.pool.specs.Changes.{listAt}
 use Rattle.pool.specs.declared.Survey.{Survey}
 use Rattle.pool.proofs.Decoded.{decode-header}
-use Rattle.pool.proofs.Seen.{Seen, trieAt, behind, survey-sound, survey-seen, seen, seen-figures}
-use Rattle.pool.proofs.Judged.{judge-zero, changeNo-granted}
-use Rattle.pool.proofs.Changed.{withTrie, behind-first, relink-asks, gap-asks}
-use Rattle.pool.proofs.Returns.{Owes, change-damaged, change-noset, change-args, change-judged, change-granted}
-use Rattle.combine.specs.Rules.{isEmpty, combineNo, Combined}
-use Rattle.combine.specs.Steps.{Operation, merging, intersecting, excluding, combineL, Ready, Asks, sourcesOf, Writable, written}
+use Rattle.pool.proofs.Seen.{Seen, trieAt, survey-sound, survey-seen, seen, seen-figures}
+use Rattle.pool.proofs.Changed.{withTrie, behind-first, gap-asks}
+use Rattle.pool.proofs.Returns.{Result, change-damaged, change-noset, change-args, changed}
+use Rattle.combine.specs.Rules.{isEmpty, combineNo}
+use Rattle.combine.specs.Steps.{Operation, merging, intersecting, excluding, combineL, Ready, Asks, sourcesOf, Reads, Writable, written}
 use Rattle.combine.specs.declared.asking.Asked.the-variants.{Go, Refused}
 use Rattle.combine.specs.declared.asking.Sources.{Sources}
 use Rattle.combine.proofs.Sources.{seen-empty, seen-some, Source, source}
-
-changed : {w v : List ℕ} {k : ℕ} {a : State → ℕ} {f : State → List Bits} {r : Answer} → Owes w k a f (answerAs r) v → Changed w k a f r v
-changed h = record { answer = h .0; words = h .1 }
 
 -- The number that the three sets get.
 isEmpty-some : (l : List Bits) → (l ≡ [] → ⊥) → isEmpty l ≡ false
@@ -137,16 +127,25 @@ module _ {w : List ℕ} {to first second : ℕ} {v : Survey} (h : Ready w to fir
   pub ready-records : (recordAt first < length w) × (recordAt second < length w)
   ready-records = let f = seen-figures here in (omega arith, omega arith)
 
-  pub ready-inputs : {s : Sources} → s ≡ sourcesOf w first second → Inputs w (s .base) (s .first) (s .second) 0 0 (s .levels) (trieAt state first) (trieAt state second)
-  ready-inputs q =
-      rw q (record { first = one .means; second = two .means; deep-t = one .deep; deep-u = two .deep; turn = omega arith; few = omega (arith, few-levels (getD w 1 0)) })
+  pub ready-reads : {s : Sources} → s ≡ sourcesOf w first second → Reads w s v (trieAt state first) (trieAt state second)
+  ready-reads q =
+      let f = seen-figures here in
+      let l = few-levels (getD w 1 0) in
+      rw q
+      (record {
+        inputs = record { first = one .means; second = two .means; deep-t = one .deep; deep-u = two .deep; turn = omega arith; few = omega arith };
+        whole-t = one .whole;
+        whole-u = two .whole;
+        room = record { low = omega arith; few = omega arith; long = omega arith };
+        levels = l;
+      })
 
 -- A combination whose result is counted: it has m nodes.
 pub record Counted (op : ℕ) (w : List ℕ) (to first second : ℕ) (v : Survey) (s : Sources) (m : ℕ) : Type 0 where
   pub operation : Operation op
   pub ready : Ready w to first second v
   pub sources : s ≡ sourcesOf w first second
-  pub count : (t u : Trie) → Inputs w (s .base) (s .first) (s .second) 0 0 (s .levels) t u → m ≡ size (opOn op (s .levels) t u)
+  pub count : (t u : Trie) → Reads w s v t u → m ≡ size (opOn op (s .levels) t u)
 
 module _ {op : ℕ} {w : List ℕ} {to first second : ℕ} {v : Survey} {s : Sources} {m : ℕ} (c : Counted op w to first second v s m) where
   abbrev S : State
@@ -155,69 +154,40 @@ module _ {op : ℕ} {w : List ℕ} {to first second : ℕ} {v : Survey} {s : Sou
   abbrev after : State → List Bits
   after T = combineL op (listAt T first) (listAt T second)
 
-  abbrev result : Trie
-  result = opOn op (suc (width (getD w 1 0))) (trieAt S first) (trieAt S second)
+  abbrev made : Trie
+  made = opOn op (suc (width (getD w 1 0))) (trieAt S first) (trieAt S second)
 
-  known : Seen w S to v
-  known = here (c .ready)
+  made-size : size made ≡ m
+  made-size = sym (rw (c .sources) at (c .count (trieAt S first) (trieAt S second) (ready-reads (c .ready) (c .sources))))
 
-  result-size : size result ≡ m
-  result-size = sym (rw (c .sources) at (c .count (trieAt S first) (trieAt S second) (ready-inputs (c .ready) (c .sources))))
-
-  result-list : listOf result ≡ after S
-  result-list =
+  pub result : Result w S to v (combineNo to first second) after made m
+  result =
       let a = one (c .ready) in
       let b = two (c .ready) in
-      listOf-op (width (getD w 1 0)) (trieAt S first) (trieAt S second) (c .operation) (a .deep) (b .deep) ∙ rw (a .list, b .list)
-
-  result-nodes : nodesL (after S) ≡ m
-  result-nodes = ap nodesL (sym result-list) ∙ nodesL-listOf result ∙ result-size
+      record {
+        seen = here (c .ready);
+        right = right (c .ready);
+        list = listOf-op (width (getD w 1 0)) (trieAt S first) (trieAt S second) (c .operation) (a .deep) (b .deep) ∙ rw (a .list, b .list);
+        size = made-size;
+      }
 
   pub result-few : m < 4294967296
-  result-few = omega (arith, result-size, size-opOn op (suc (width (getD w 1 0))) (trieAt S first) (trieAt S second), one (c .ready) .few, two (c .ready) .few)
+  result-few = omega (arith, made-size, size-opOn op (suc (width (getD w 1 0))) (trieAt S first) (trieAt S second), one (c .ready) .few, two (c .ready) .few)
 
-  -- r judges it
-  module _ {r : ℕ} (j : (T : State) (l : List Bits) → decode w ≡ sound T → nodesL l ≡ m → r ≡ changeNo T to 0 l) where
-    verdict : r ≡ changeNo S to 0 (after S)
-    verdict = j S (after S) (known .decoded) result-nodes
+  -- it is granted, and written
+  module _ (fits : m ≤ roomOf S to) where
+    pub result-writes : Writable w op s v m (trieAt S first) (trieAt S second)
+    result-writes =
+        let h = here (c .ready) in
+        let f = seen-figures h in
+        rw (c .sources)
+        (record {
+          reads = ready-reads (c .ready) refl;
+          size = made-size;
+          empty = c .ready .empty;
+          gap = gap-asks h fits refl;
+          few = omega (arith, fits, decode-header w S (h .decoded) .nodes);
+        })
 
-    pub result-many : (r ≡ 0 → ⊥) → (r ≡ 9 → ⊥) → r ≡ 10
-    result-many ne n9 = go (eqb r 10) refl
-      where
-        go : (b : Bool) → eqb r 10 ≡ b → r ≡ 10
-        go true e = eqb-true r 10 e
-        go false e = absurd (ne (judge-zero known (after S) verdict n9 (eqb-false r 10 e)))
-
-    pub result-refused : {x : Answer} → (r ≡ 0 → ⊥) → answerAs x ≡ (r, 0) → Combined (combineL op) w to first second x w
-    result-refused ne e = changed (rw e (change-judged (combineNo to first second) after known (right (c .ready)) verdict ne))
-
-    -- it is granted
-    module _ (z : r ≡ 0) where
-      fits : m ≤ roomOf S to
-      fits = rw result-nodes at (changeNo-granted S to 0 (after S) (sym z ∙ verdict) .0 .room)
-
-      pub result-writes : Writable w op s v m (trieAt S first) (trieAt S second)
-      result-writes =
-          let f = seen-figures known in
-          rw (c .sources)
-          (record {
-            inputs = ready-inputs (c .ready) refl;
-            whole-t = one (c .ready) .whole;
-            whole-u = two (c .ready) .whole;
-            size = result-size;
-            empty = c .ready .empty;
-            gap = gap-asks known fits refl;
-            few = omega (arith, fits, decode-header w S (known .decoded) .nodes);
-            levels = few-levels (getD w 1 0);
-          })
-
-      -- and written
-      module _ {y : List ℕ} (d : (t u : Trie) → Writable w op s v m t u → y ≡ written w op s v m t u) where
-        wrote : y ≡ withTrie w S to v result
-        wrote = behind-first known result refl (rw result-size (rw (c .sources) at (d (trieAt S first) (trieAt S second) result-writes)))
-
-        pub result-relinks : Relink y to (v .held) m
-        result-relinks = relink-asks known (enc result ++ behind S to) fits wrote
-
-        pub result-granted : {x : List ℕ} → x ≡ relinked y to (v .at) (v .held) m → Combined (combineL op) w to first second (answer.Granted m) x
-        result-granted e = changed (change-granted (combineNo to first second) after known (right (c .ready)) verdict result z result-list result-size wrote e)
+    pub result-wrote : {y : List ℕ} → ((t u : Trie) → Writable w op s v m t u → y ≡ written w op s v m t u) → y ≡ withTrie w S to v made
+    result-wrote d = behind-first (here (c .ready)) made refl (rw made-size (rw (c .sources) at (d (trieAt S first) (trieAt S second) result-writes)))

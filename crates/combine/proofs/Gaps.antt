@@ -37,7 +37,7 @@ has-moved {w} {ys} p q m d lp lq le h =
     }
 
 module _ {w : List ℕ} {op : ℕ} {s : Sources} {v : Survey} {n : ℕ} {t u : Trie} (h : Writable w op s v n t u) {z : List ℕ} (e : z ≡ put w (place (s .base) (v .at + n)) (behindAt w (s .base) v)) where
-  opened-length : length z ≡ length w
+  pub opened-length : length z ≡ length w
   opened-length = rw e (length-put w (place (s .base) (v .at + n)) (behindAt w (s .base) v))
 
   -- a trie before the gap stays, one behind it moves
@@ -63,7 +63,7 @@ module _ {w : List ℕ} {op : ℕ} {s : Sources} {v : Survey} {n : ℕ} {t u : T
         clear = λ k a b c d. omega arith;
       }
 
-  means-moved : (i : ℕ) (x : Trie) → Means w (s .base) 0 0 i x → Whole (v .at) (v .used + 1) i x → Means z (s .base) (v .at) (v .at + n) (movedTo (v .at) n i) x
+  pub means-moved : (i : ℕ) (x : Trie) → Means w (s .base) 0 0 i x → Whole (v .at) (v .used + 1) i x → Means z (s .base) (v .at) (v .at + n) (movedTo (v .at) n i) x
   means-moved i x nothing k = rw (lt-ltb 0 (v .at) (omega arith)) nothing
   means-moved i x everything k = absurd (omega arith)
   means-moved i x (standing {i = j} {l = l} {r = r} g) k = go (decLt j (v .at))
@@ -78,11 +78,11 @@ module _ {w : List ℕ} {op : ℕ} {s : Sources} {v : Survey} {n : ℕ} {t u : T
 
   pub write-inputs : {a c : ℕ} → a ≡ movedTo (v .at) n (s .first) → c ≡ movedTo (v .at) n (s .second) → Inputs z (s .base) a c (v .at) (v .at + n) (s .levels) t u
   write-inputs p q = record {
-    first = rw p (means-moved (s .first) t (h .inputs .first) (h .whole-t));
-    second = rw q (means-moved (s .second) u (h .inputs .second) (h .whole-u));
-    deep-t = h .inputs .deep-t;
-    deep-u = h .inputs .deep-u;
-    turn = h .inputs .turn;
+    first = rw p (means-moved (s .first) t (h .reads .inputs .first) (h .reads .whole-t));
+    second = rw q (means-moved (s .second) u (h .reads .inputs .second) (h .reads .whole-u));
+    deep-t = h .reads .inputs .deep-t;
+    deep-u = h .reads .inputs .deep-u;
+    turn = h .reads .inputs .turn;
     few = omega arith;
   }
 

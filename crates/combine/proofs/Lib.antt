@@ -1,6 +1,7 @@
 -- The laws of the calls on two sets, from the bottom up.
--- A gap opened, and a result written into it.
+-- A gap opened, and a result written into it; or a source copied.
 pub mod Gaps
+pub mod Copied
 -- The sources of a combination, and its returns.
 pub mod Sources
 pub mod Calls

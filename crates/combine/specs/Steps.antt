@@ -2,21 +2,23 @@
 --
 --   Operation op, combineL op    the numbers of the operations, and what each makes of two lists
 --   Ready w to first second v    a combination can go on: v is what a pass over the pool found for its empty destination;  Asks: that, or its refusal
---   sourcesOf w first second     what a combination reads
+--   sourcesOf w first second     what a combination reads;  Reads w s v t u: its sources are the tries t and u
+--   isCopy op s                  the operation leaves its first source as it is
 --   movedTo o n i                the number of node i after n nodes were put in before node o
 --   Writable, written            what writing the result asks, and the words that it leaves
 --   Agree w p q n r              r says whether n words from p on are those from q on
-use mathlib.Core.Bool.{Bool, true, false, cond}
+use mathlib.Core.Bool.{Bool, true, false, cond, _&&_}
 use mathlib.Core.List.{List}
 use mathlib.Core.Path.{_≡_}
 use Prim.Native.Nat.{ℕ, zero, suc, _+_, _≤_, _<_}
-use lib.Dec.{ltb}
+use lib.Dec.{eqb, ltb}
 use lib.ListN.{getD}
 use Rattle.nets.specs.Bits.{Bits}
 use Rattle.nets.specs.Lists.{mergeL, intersectL, excludeL}
 use Rattle.nets.specs.Tries.{Trie, size}
 use Rattle.nets.specs.Networks.{width}
 use Rattle.nodes.specs.Words.{put, place, enc}
+use Rattle.nodes.specs.Parse.{Room}
 use Rattle.emit.specs.Combine.{opOn, Inputs}
 use Rattle.pool.specs.States.{State}
 use Rattle.pool.specs.Decode.{recordAt, base}
@@ -61,16 +63,25 @@ pub record Whole (o e i : ℕ) (t : Trie) : Type 0 where
   pub before : i < o → i + size t ≤ o
   pub within : i + size t ≤ e
 
--- the sources are the tries t and u, the result has n nodes, and there is room for them
-pub record Writable (w : List ℕ) (op : ℕ) (s : Sources) (v : Survey) (n : ℕ) (t u : Trie) : Type 0 where
+-- the sources are the tries t and u, which stand in the nodes in use
+pub record Reads (w : List ℕ) (s : Sources) (v : Survey) (t u : Trie) : Type 0 where
   pub inputs : Inputs w (s .base) (s .first) (s .second) 0 0 (s .levels) t u
   pub whole-t : Whole (v .at) (v .used + 1) (s .first) t
   pub whole-u : Whole (v .at) (v .used + 1) (s .second) u
+  pub room : Room w (s .base) (v .used)
+  pub levels : s .levels ≤ 129
+
+-- nothing is excluded
+abbrev pub isCopy : ℕ → Sources → Bool
+isCopy op s = eqb op 3 && eqb (s .second) 0
+
+-- the result has n nodes, and there is room for them
+pub record Writable (w : List ℕ) (op : ℕ) (s : Sources) (v : Survey) (n : ℕ) (t u : Trie) : Type 0 where
+  pub reads : Reads w s v t u
   pub size : size (opOn op (s .levels) t u) ≡ n
   pub empty : v .held ≡ 0
   pub gap : Gap w (s .base) v n
   pub few : v .used + 1 + n ≤ 1073741824
-  pub levels : s .levels ≤ 129
 
 -- the sets behind the gap moved, and the result in it
 abbrev pub written : List ℕ → ℕ → Sources → Survey → ℕ → Trie → Trie → List ℕ

@@ -3,6 +3,9 @@ use crate::asking::Asked;
 use crate::asking::Sources;
 use crate::asking::ask;
 use crate::asking::sources_of;
+use crate::copying::copy;
+use crate::copying::copy_size;
+use crate::copying::is_copy;
 use emit::combining::emit;
 use emit::combining::op_size;
 use emit::emitting::settle;
@@ -14,9 +17,10 @@ use pool::relinking::relink;
 use pool::relinking::shift_behind;
 ghost use mathlib.Core.Path.{_≡_};
 ghost use Prim.Native.Nat.{_+_, _<_};
-ghost use Rattle.nets.specs.Tries.{Trie};
+ghost use Rattle.nets.specs.Tries.{Trie, size};
+ghost use Rattle.emit.specs.Combine.{opOn};
 ghost use Rattle.combine.specs.Rules.{Combined};
-ghost use Rattle.combine.specs.Steps.{Operation, combineL, movedTo, Writable, written};
+ghost use Rattle.combine.specs.Steps.{Operation, combineL, Reads, movedTo, Writable, written};
 
 // The number of a node after n nodes were put in before node `at`.
 fn moved(at: usize, n: u32, i: usize) -> usize
@@ -29,6 +33,17 @@ fn moved(at: usize, n: u32, i: usize) -> usize
     i + n as usize
 }
 
+// The nodes of the result.
+fn count(pool: &[u32], op: usize, s: Sources, v: Survey) -> usize
+    requires { ⌜ ((t : Trie) × (u : Trie) × Reads (now pool) s v t u) ⌝ }
+    ensures { λ r. ⌜ ((t u : Trie) → Reads (now (pool .entry)) s v t u → r ≡ size (opOn op (s .levels) t u)) ⌝ }
+{
+    if is_copy(op, s) {
+        return copy_size(pool, s, v);
+    }
+    op_size(pool, s.base, op, s.first, s.second, s.levels)
+}
+
 // Writes the result, of n nodes, in the place of the empty destination; the sets behind it move, and with them the sources that are among them.
 fn write(pool: &mut [u32], op: usize, s: Sources, v: Survey, n: u32)
     requires { ⌜ ((t : Trie) × (u : Trie) × Writable (now pool) op s v n t u) ⌝ }
@@ -37,6 +52,10 @@ fn write(pool: &mut [u32], op: usize, s: Sources, v: Survey, n: u32)
     let at = v.at as usize;
     shift_behind(pool, s.base, v, n);
     let a = moved(at, n, s.first);
+    if is_copy(op, s) {
+        copy(pool, s.base, a, at, n);
+        return;
+    }
     let c = moved(at, n, s.second);
     let x = emit(pool, s.base, op, a, c, at, s.levels);
     settle(pool, s.base, at, x);
@@ -52,7 +71,7 @@ pub fn combine(pool: &mut [u32], op: usize, to: u32, first: u32, second: u32) ->
         Asked::Refused(no) => Answer::Refused(no),
         Asked::Go(v) => {
             let s = sources_of(pool, first, second);
-            let n = op_size(pool, s.base, op, s.first, s.second, s.levels) as u32;
+            let n = count(pool, op, s, v) as u32;
             let no = judge(pool, to, v, n);
             if no != 0 {
                 return too_many(no);

@@ -15,6 +15,7 @@ ghost use Rattle.combine.specs.Rules.{Merged, Intersected, Excluded, equ
 mod asking;
 mod combining;
 mod comparing;
+mod copying;
 
 // The operations, by the numbers that emission knows them by.
 const MERGE: usize = 0;

@@ -1,8 +1,10 @@
 -- `combining::combine` meets its contract, each return by the tests on the way to it. Assumes nothing.
 use denote.Ref.{now}
+use mathlib.Core.Path.{refl}
 use borrow.Author.Needs.{needs}
+use Rattle.pool.proofs.Returns.{result-many, result-refused, result-fits, result-relinks, result-granted}
 use Rattle.combine.specs.Steps.{Ready}
-use Rattle.combine.proofs.Calls.{ready-records, ready-inputs, Counted, result-few, result-many, result-refused, result-writes, result-relinks, result-granted}
+use Rattle.combine.proofs.Calls.{ready-records, ready-reads, Counted, result, result-few, result-writes, result-wrote}
 use Rattle.combine.proofs.combining.combine.Statement.{statement}
 use Rattle.combine.proofs.combining.combine.Tie as tie
 
@@ -12,12 +14,12 @@ start c = c .before .before .before .before .before
 ready : (c : tie.After-asked2) → let a = start c .args in Ready (now (a .pool)) (a .to) (a .first) (a .second) (c .asked2 .given .0 .0)
 ready c = rw (c .asked2 .given .1) at (c .before .before .ask .ensures)
 
-abbrev asked : tie.After-op-size → tie.After-asked2
+abbrev asked : tie.After-count → tie.After-asked2
 asked c = c .before .before .before .before .before
 
-counted : (c : tie.After-op-size) → let a = start (asked c) .args in
-    Counted (a .op) (now (a .pool)) (a .to) (a .first) (a .second) (asked c .asked2 .given .0 .0) (c .before .before .sources-of .result) (c .op-size .result)
-counted c = record { operation = start (asked c) .pre; ready = ready (asked c); sources = c .before .before .sources-of .ensures; count = c .op-size .ensures }
+counted : (c : tie.After-count) → let a = start (asked c) .args in
+    Counted (a .op) (now (a .pool)) (a .to) (a .first) (a .second) (asked c .asked2 .given .0 .0) (c .before .before .sources-of .result) (c .count .result)
+counted c = record { operation = start (asked c) .pre; ready = ready (asked c); sources = c .before .before .sources-of .ensures; count = c .count .ensures }
 
 pub combine-spec : {M : Type 1} → statement M
 combine-spec =
@@ -27,17 +29,19 @@ combine-spec =
     (λ c. search needs)
     (λ c. search needs)
     (λ c κs. ready-records (ready (c .before .before)))
-    (λ c κs. (_, _, ready-inputs (ready (c .before .before .before .before)) (c .before .sources-of .ensures)))
+    (λ c κs. (_, _, ready-reads (ready (c .before .before .before .before)) (c .before .sources-of .ensures)))
     (λ c. record { fits = result-few (counted c) })
     (λ c κs. counted (c .before) .ready .surveyed)
-    (λ c κs. result-many (counted (c .before .before .before)) (c .before .judge .ensures) (c .if1 .taken))
+    (λ c κs. result-many (result (counted (c .before .before .before))) (c .before .judge .ensures) (c .if1 .taken))
     (λ c. search needs)
-    (λ c. let j = c .before .before in result-refused (counted (j .before .before)) (j .judge .ensures) (c .before .if1 .taken) (c .too-many .ensures))
-    (λ c κs. let j = c .before .before in (_, _, result-writes (counted (j .before .before)) (j .judge .ensures) (c .before .if1 .left)))
+    (λ c. let j = c .before .before in result-refused (result (counted (j .before .before))) (j .judge .ensures) (c .before .if1 .taken) (c .too-many .ensures))
+    (λ c κs. let j = c .before .before in let h = counted (j .before .before) in (_, _, result-writes h (result-fits (result h) (j .judge .ensures) (c .before .if1 .left))))
     (λ c κs.
     let x = c .before .before .before in
     let j = x .before .before .before in
-    result-relinks (counted (j .before .before)) (j .judge .ensures) (x .before .before .if1 .left) (x .write .ensures))
+    let h = counted (j .before .before) in
+    let z = x .before .before .if1 .left in
+    result-relinks (result h) (j .judge .ensures) z (result-wrote h (result-fits (result h) (j .judge .ensures) z) (x .write .ensures)))
     (λ c. search needs)
     (λ c. (rw (c .before .asked .given .1) at (c .before .before .before .ask .ensures)) _)
     (λ c. search needs)
@@ -45,4 +49,6 @@ combine-spec =
     let y = c .before .before in
     let x = y .before .before .before .before in
     let j = x .before .before .before in
-    result-granted (counted (j .before .before)) (j .judge .ensures) (x .before .before .if1 .left) (x .write .ensures) (y .relink .ensures)))
+    let h = counted (j .before .before) in
+    let z = x .before .before .if1 .left in
+    result-granted (result h) (j .judge .ensures) z (result-wrote h (result-fits (result h) (j .judge .ensures) z) (x .write .ensures)) refl (y .relink .ensures)))

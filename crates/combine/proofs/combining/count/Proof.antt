@@ -1,0 +1,17 @@
+-- `combining::count` meets its contract: a copy has the nodes of its source. Assumes nothing.
+use mathlib.Core.Path.{sym, ap, _∙_}
+use borrow.Author.Needs.{needs}
+use Rattle.nets.specs.Tries.{size}
+use Rattle.combine.proofs.Copied.{copied}
+use Rattle.combine.proofs.combining.count.Statement.{statement}
+use Rattle.combine.proofs.combining.count.Tie as tie
+
+pub count-spec : {M : Type 1} → statement M
+count-spec =
+    tie.close
+    (tie.spec
+    (λ c κs. search needs)
+    (λ c κs. search needs)
+    (λ c t u h. let i = c .before in c .copy-size .ensures t u h ∙ ap size (sym (copied h (i .before .before .before .args .op) (sym (i .before .is-copy .ensures) ∙ i .if1 .taken))))
+    (λ c κs. let (t, u, h) = c .before .before .before .pre in (t, u, h .inputs))
+    (λ c t u h. c .op-size .ensures t u (h .inputs)))
