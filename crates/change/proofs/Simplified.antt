@@ -1,18 +1,16 @@
 -- Simplifying a set: the steps of the call, a law for each return, and what the contract says of every buffer. The result has no more nodes than the set, so it is never refused, it is written
 -- where the set stands, and the sets behind it close up. Assumes nothing.
 use mathlib.Core.Path.{_≡_, refl, sym, ap, _∙_}
-use mathlib.Core.Bool.{true, false, _&&_}
+use mathlib.Core.Bool.{true, false}
 use mathlib.Core.List.{List, _++_}
 use Prim.Native.Nat.{ℕ, suc, _+_, _-_, _≤_, _<_}
 use native.Mathlib.Omega.{arith}
-use lib.Dec.{leb}
 use lib.ListN.{length, getD}
-use borrow.Author.Tests.{lt-ltb, le-ltb, le-leb, leb-true}
-use Rattle.nets.specs.Lists.{isList, nodesL, simplifyL}
+use borrow.Author.Tests.{lt-ltb, le-ltb, le-leb}
+use Rattle.nets.specs.Lists.{nodesL, simplifyL}
 use Rattle.nets.specs.Tries.{Trie, size, simplifyT}
 use Rattle.nets.specs.Networks.{width}
 use Rattle.nets.specs.declared.Refusal.the-variants.{Damaged, NoSet}
-use Rattle.nets.proofs.Strings.{and-right}
 use Rattle.nets.proofs.Nodes.{nodesL-listOf}
 use Rattle.nets.proofs.TrieOf.{isList-within}
 use Rattle.nets.proofs.Simplifying.{isList-simplify}
@@ -25,7 +23,7 @@ use Rattle.emit.specs.declared.emitting.Emitted.{Emitted}
 use Rattle.emit.specs.declared.emitting.Emitted.the-variants.{Full}
 use Rattle.emit.proofs.Answers.{end-is, full-size, settled}
 use Rattle.emit.proofs.Simplify.{size-simplify}
-use Rattle.pool.specs.States.{State, held, roomOf, isSet}
+use Rattle.pool.specs.States.{State, held, roomOf}
 use Rattle.pool.specs.Decode.{base, damaged, sound, decode}
 use Rattle.pool.specs.Rules.{surveyOf}
 use Rattle.pool.specs.Changes.{setAt, listAt, withList, changeNo, changeRule, wordsAfter}
@@ -34,13 +32,14 @@ use Rattle.pool.specs.declared.Answer.{Answer}
 use Rattle.pool.specs.declared.Answer.the-variants as answer
 use Rattle.pool.specs.declared.Survey.{Survey}
 use Rattle.pool.proofs.Determined.{answerAs-one, changed-one}
+use Rattle.pool.proofs.Leaves.{Leaves, changed-leaves}
 use Rattle.pool.proofs.WithList.{claim-roomOf}
-use Rattle.pool.proofs.Claims.{isSet-list}
+use Rattle.pool.proofs.Claims.{isList-listAt, held-limit}
 use Rattle.pool.proofs.Holds.{set-size}
 use Rattle.pool.proofs.Decoded.{decode-state, decode-set}
 use Rattle.pool.proofs.Seen.{Seen, behind, seen-header, seen-figures, trieAt, seen-segment}
 use Rattle.pool.proofs.Changed.{withTrie, behind-last, relink-asks, gap-asks}
-use Rattle.pool.proofs.Returns.{change-damaged, change-noset, change-granted, decode-after, changed}
+use Rattle.pool.proofs.Returns.{change-damaged, change-noset, change-granted, changed}
 use Rattle.change.specs.Simplified.{listSimple, noArgs, Simplifies, Shrunk}
 
 -- The trie is simplified where it stands, and a leaf that the emission left is written.
@@ -69,20 +68,14 @@ unfolding simplifyL
 nodesL-simplify S k = nodesL-listOf (simpleAt S k)
 
 module _ (w : List ℕ) (S : State) (k : ℕ) (d : decode w ≡ sound S) (lt : k < length (S .sets)) where
-  rules : isSet (width (S .family)) (setAt S k) ≡ true
-  rules = decode-set w S d k lt .rules
-
   trie-size : size (trieAt S k) ≡ held (setAt S k)
-  trie-size = set-size (width (S .family)) (setAt S k) rules
+  trie-size = set-size (width (S .family)) (setAt S k) (decode-set w S d k lt .rules)
 
   fewer : size (simpleAt S k) ≤ held (setAt S k)
   fewer = omega (arith, size-simplify (trieAt S k), trie-size)
 
   in-limit : size (simpleAt S k) ≤ setAt S k .limit
-  in-limit =
-      let s = setAt S k in
-      let x = and-right (isList (width (S .family)) (s .list)) (leb (s .share) (s .limit) && leb (held s) (s .limit)) rules in
-      omega (arith, fewer, leb-true (held s) (s .limit) (and-right (leb (s .share) (s .limit)) (leb (held s) (s .limit)) x))
+  in-limit = omega (arith, fewer, held-limit S k (decode-state w S d))
 
   in-room : size (simpleAt S k) ≤ roomOf S k
   in-room = omega (arith, fewer, claim-roomOf S k (decode-state w S d) lt)
@@ -152,9 +145,10 @@ module _ {w v : List ℕ} {k : ℕ} {r : Answer} (h : Simplifies w k r v) where
     unfolding changeRule
     simplify-granted lt = answerAs-one r (answer.Granted (nodesL (simplifyL (listAt S k)))) (h .answer ∙ rw (d, changeNo-simplify w S k d lt))
 
-    pub simplify-state : k < length (S .sets) → decode v ≡ sound (withList S k (simplifyL (listAt S k)))
-    simplify-state lt =
-        let l = listAt S k in
+    pub simplify-leaves : Leaves S k 0 (simplifyL (listAt S k)) r v
+    simplify-leaves =
         let f = width (S .family) in
-        let i = isList-simplify f l (isList-within f l (isSet-list f (setAt S k) (rules w S k d lt))) in
-        ap decode (h .words) ∙ (rw (changeNo-simplify w S k d lt) at (decode-after w S k noArgs (listSimple k) d i))
+        changed-leaves d (λ z. isList-simplify f (listAt S k) (isList-within f (listAt S k) (isList-listAt S k (decode-state w S d)))) h
+
+    pub simplify-state : k < length (S .sets) → decode v ≡ sound (withList S k (simplifyL (listAt S k)))
+    simplify-state lt = rw (changeNo-simplify w S k d lt) at (simplify-leaves .holds)

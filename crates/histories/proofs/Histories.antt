@@ -19,12 +19,12 @@ use Rattle.pool.specs.Rules.{answerAs, layoutNo, freeRule}
 use Rattle.pool.specs.Changes.{setAt, listAt, withList, changeNo, netNo, changeRule, wordsAfter}
 use Rattle.pool.specs.declared.Answer.{Answer}
 use Rattle.pool.specs.declared.Answer.the-variants as answer
-use Rattle.pool.proofs.Claims.{freeOf-is}
+use Rattle.pool.proofs.Claims.{isList-listAt, held-limit, freeOf-is}
 use Rattle.pool.proofs.Decoded.{decode-state, decode-laid}
 use Rattle.pool.proofs.Determined.{answerAs-one}
 use Rattle.histories.specs.Calls.{Call, add, target, argsNo, resultOf, callNo, answerOf, stateAfter, Outcome}
 use Rattle.histories.specs.Histories.{Setup, stateOf, answersOf, History, begin, step}
-use Rattle.histories.proofs.Step.{isList-listAt, held-limit, callNo-share, callNo-room, answerAs-outcome, stateAfter-numbers, stateAfter-plan, stateAfter-other, decode-outcome}
+use Rattle.histories.proofs.Step.{callNo-share, callNo-room, answerAs-outcome, stateAfter-numbers, stateAfter-plan, stateAfter-other, decode-outcome}
 
 -- One call from any words.
 

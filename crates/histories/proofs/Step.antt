@@ -2,12 +2,12 @@
 -- and the room (argsNo-few), its result is a list (isList-resultOf), and where it names one set it depends on that set alone (call-same). Assumes nothing.
 use mathlib.Core.Path.{_≡_, refl, sym, ap}
 use mathlib.Core.Bool.{Bool, true, false, cond, _&&_, _||_}
-use mathlib.Core.List.{List, [], _∷_}
-use Prim.Native.Nat.{ℕ, zero, suc, _≤_, _<_}
+use mathlib.Core.List.{List}
+use Prim.Native.Nat.{ℕ, _≤_, _<_}
 use native.Mathlib.Omega.{arith}
 use lib.Dec.{eqb, leb, ltb}
-use lib.ListN.{length, getD}
-use borrow.Author.Tests.{ltb-true, leb-true, le-leb, lt-ltb, eqb-true}
+use lib.ListN.{length}
+use borrow.Author.Tests.{ltb-true, le-leb, lt-ltb, eqb-true}
 use Rattle.nets.specs.Bits.{Bits}
 use Rattle.nets.specs.Lists.{within, isList, nodesL, mergeL, intersectL, excludeL}
 use Rattle.nets.specs.Networks.{width, netBits, inRange, refusalOf}
@@ -17,39 +17,21 @@ use Rattle.nets.proofs.TrieOf.{isList-within, isList-add}
 use Rattle.nets.proofs.Simplifying.{isList-simplify}
 use Rattle.nets.proofs.Combining.{isList-merge, isList-intersect}
 use Rattle.nets.proofs.Laws.{isList-remove, isList-exclude}
-use Rattle.nets.proofs.Numbers.{refusalOf-is, length-netBits}
-use Rattle.pool.specs.States.{SetState, State, held, roomOf, isSet, areSets, isState}
+use Rattle.pool.specs.States.{SetState, State, roomOf, isState}
 use Rattle.pool.specs.Decode.{sound, decode}
-use Rattle.pool.specs.Rules.{noSet, answerAs}
-use Rattle.pool.specs.Changes.{setAt, listAt, setWith, withList, changeNo, changeRule, wordsAfter, netNo}
+use Rattle.pool.specs.Rules.{answerAs}
+use Rattle.pool.specs.Changes.{setAt, listAt, setWith, withList, changeNo, changeRule, netNo}
 use Rattle.pool.specs.declared.Answer.{Answer}
-use Rattle.pool.proofs.Claims.{isState-sets, isSet-list, isSet-limited, areSets-head, areSets-tail}
-use Rattle.pool.proofs.WithList.{length-withList, withList-at, withList-other, withList-plan, share-roomOf, isState-withList}
+use Rattle.pool.proofs.Claims.{isList-listAt}
+use Rattle.pool.proofs.WithList.{length-withList, withList-at, share-roomOf, isState-withList}
 use Rattle.pool.proofs.Decoded.{decode-state}
 use Rattle.pool.proofs.Judged.{Granted, changeNo-granted}
-use Rattle.pool.proofs.Changed.{decode-granted}
+use Rattle.pool.proofs.Leaves.{after-cases, after-other, after-plan, changed-leaves, netNo-within}
 use Rattle.combine.specs.Rules.{isEmpty, combineNo}
 use Rattle.histories.specs.Calls.{Call, add, remove, simplify, merge, intersect, exclude, target, namesOne, argsNo, resultOf, callNo, answerOf, stateAfter, Outcome}
 
--- Every set of a state keeps the rules; a number that is no set's has an empty one.
-areSets-at : (w k : ℕ) (ss : List SetState) → areSets w ss ≡ true → isSet w (getD ss k noSet) ≡ true
-unfolding isList nodesL
-areSets-at w k [] e = refl
-areSets-at w zero (s ∷ ss) e = areSets-head w s ss e
-areSets-at w (suc k) (s ∷ ss) e = areSets-at w k ss (areSets-tail w s ss e)
-
-module _ (S : State) (k : ℕ) (e : isState S ≡ true) where
-  pub isList-listAt : isList (width (S .family)) (listAt S k) ≡ true
-  isList-listAt = isSet-list (width (S .family)) (setAt S k) (areSets-at (width (S .family)) k (S .sets) (isState-sets S e))
-
-  pub held-limit : held (setAt S k) ≤ setAt S k .limit
-  held-limit =
-      let s = setAt S k in
-      leb-true (held s) (s .limit)
-      (and-right (leb (s .share) (s .limit)) (leb (held s) (s .limit)) (isSet-limited (width (S .family)) s (areSets-at (width (S .family)) k (S .sets) (isState-sets S e))))
-
-  within-listAt : within (width (S .family)) (listAt S k) ≡ true
-  within-listAt = isList-within (width (S .family)) (listAt S k) isList-listAt
+within-listAt : (S : State) (k : ℕ) → isState S ≡ true → within (width (S .family)) (listAt S k) ≡ true
+within-listAt S k e = isList-within (width (S .family)) (listAt S k) (isList-listAt S k e)
 
 -- The number of a call's arguments.
 cond-few : (m : ℕ) (x : Bool) (a b : ℕ) → a ≤ m → b ≤ m → cond x a b ≤ m
@@ -77,14 +59,6 @@ argsNo-few (intersect to a b) S = combineNo-few to a b S
 argsNo-few (exclude to a b) S = combineNo-few to a b S
 
 -- Its result.
-netNo-within : (n : Net) (S : State) → netNo n S ≡ 0 → length (netBits n) ≤ width (S .family)
-unfolding netNo
-netNo-within n S e = go (eqb (n .family) (S .family)) refl e
-  where
-    go : (x : Bool) → eqb (n .family) (S .family) ≡ x → cond x (refusalOf n) 6 ≡ 0 → length (netBits n) ≤ width (S .family)
-    go true q f = rw (← eqb-true (n .family) (S .family) q, length-netBits n f) (refusalOf-is n f .len)
-    go false q f = absurd (omega arith)
-
 isList-resultOf : (c : Call) (S : State) → isState S ≡ true → argsNo c S ≡ 0 → isList (width (S .family)) (resultOf c S) ≡ true
 isList-resultOf (add k n) S e a = isList-add (width (S .family)) (listAt S k) (netBits n) (isList-listAt S k e) (netNo-within n S a)
 isList-resultOf (remove k n) S e a = isList-remove (width (S .family)) (listAt S k) (netBits n) (isList-listAt S k e) (netNo-within n S a)
@@ -158,11 +132,7 @@ module _ (S : State) (c : Call) where
 module _ (S : State) (c : Call) where
   stateAfter-cases : (P : State → Type 0) → (eqb (callNo S c) 0 ≡ true → P (withList S (target c) (resultOf c S))) → (eqb (callNo S c) 0 ≡ false → P S) → P (stateAfter S c)
   unfolding stateAfter
-  stateAfter-cases P h k = go (eqb (callNo S c) 0) refl
-    where
-      go : (x : Bool) → eqb (callNo S c) 0 ≡ x → P (cond x (withList S (target c) (resultOf c S)) S)
-      go true q = h q
-      go false q = k q
+  stateAfter-cases = after-cases S (target c) (argsNo c S) (resultOf c S)
 
   pub stateAfter-numbers : (stateAfter S c .family ≡ S .family) × (stateAfter S c .nodes ≡ S .nodes) × (length (stateAfter S c .sets) ≡ length (S .sets))
   unfolding withList
@@ -172,13 +142,12 @@ module _ (S : State) (c : Call) where
       (λ q. (refl, refl, refl))
 
   pub stateAfter-plan : (j : ℕ) → (setAt (stateAfter S c) j .share ≡ setAt S j .share) × (setAt (stateAfter S c) j .limit ≡ setAt S j .limit)
-  stateAfter-plan j =
-      stateAfter-cases (λ T. (setAt T j .share ≡ setAt S j .share) × (setAt T j .limit ≡ setAt S j .limit))
-      (λ q. withList-plan S (target c) (resultOf c S) j)
-      (λ q. (refl, refl))
+  unfolding stateAfter
+  stateAfter-plan = after-plan S (target c) (argsNo c S) (resultOf c S)
 
   pub stateAfter-other : (j : ℕ) → (j ≡ target c → ⊥) → setAt (stateAfter S c) j ≡ setAt S j
-  stateAfter-other j ne = stateAfter-cases (λ T. setAt T j ≡ setAt S j) (λ q. withList-other S (target c) (resultOf c S) j ne) (λ q. refl)
+  unfolding stateAfter
+  stateAfter-other = after-other S (target c) (argsNo c S) (resultOf c S)
 
   pub stateAfter-own : setAt (stateAfter S c) (target c) ≡ cond (eqb (callNo S c) 0) (setWith (setAt S (target c)) (resultOf c S)) (setAt S (target c))
   stateAfter-own =
@@ -194,8 +163,5 @@ module _ (S : State) (c : Call) where
       (λ q. e)
 
   pub decode-outcome : {w v : List ℕ} {r : Answer} → decode w ≡ sound S → Outcome w c r v → decode v ≡ sound (stateAfter S c)
-  unfolding wordsAfter
-  decode-outcome {w} {v} d o =
-      stateAfter-cases (λ T. decode v ≡ sound T)
-      (λ q. let (g, a) = callNo-granted S c q in rw (o .words, d, q) (decode-granted w S (target c) (resultOf c S) d g (isList-resultOf c S (decode-state w S d) a)))
-      (λ q. rw (o .words, d, q) d)
+  unfolding stateAfter
+  decode-outcome {w} d o = changed-leaves d (isList-resultOf c S (decode-state w S d)) o .holds

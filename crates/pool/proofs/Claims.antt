@@ -72,6 +72,29 @@ module _ (v : ℕ) (x : SetState) (xs : List SetState) (e : areSets v (x ∷ xs)
   pub areSets-tail : areSets v xs ≡ true
   areSets-tail = and-right (isSet v x) (areSets v xs) e
 
+-- So every set of a state keeps them; a number that is no set's has an empty one, which does too.
+areSets-at : (v k : ℕ) (xs : List SetState) → areSets v xs ≡ true → isSet v (getD xs k noSet) ≡ true
+unfolding isList nodesL
+areSets-at v k [] e = refl
+areSets-at v zero (x ∷ xs) e = areSets-head v x xs e
+areSets-at v (suc k) (x ∷ xs) e = areSets-at v k xs (areSets-tail v x xs e)
+
+module _ (S : State) (k : ℕ) (e : isState S ≡ true) where
+  abbrev set : SetState
+  set = getD (S .sets) k noSet
+
+  rules : isSet (width (S .family)) set ≡ true
+  rules = areSets-at (width (S .family)) k (S .sets) (isState-sets S e)
+
+  pub isList-listAt : isList (width (S .family)) (set .list) ≡ true
+  isList-listAt = isSet-list (width (S .family)) set rules
+
+  pub share-limit : set .share ≤ set .limit
+  share-limit = leb-true (set .share) (set .limit) (and-left (leb (set .share) (set .limit)) (leb (held set) (set .limit)) (isSet-limited (width (S .family)) set rules))
+
+  pub held-limit : held set ≤ set .limit
+  held-limit = leb-true (held set) (set .limit) (and-right (leb (set .share) (set .limit)) (leb (held set) (set .limit)) (isSet-limited (width (S .family)) set rules))
+
 -- The claims.
 pub used-claimed : (ss : List SetState) → used ss ≤ claimed ss
 unfolding used claimed

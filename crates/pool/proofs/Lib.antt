@@ -19,5 +19,6 @@ pub mod Judged
 pub mod Relinked
 pub mod Changed
 pub mod Returns
--- Each call has one outcome.
+-- What each call comes to: one outcome, and what it leaves.
 pub mod Determined
+pub mod Leaves

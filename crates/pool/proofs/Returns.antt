@@ -1,7 +1,7 @@
--- The returns of a changing call, one law for each, by the tests on the way to it; what becomes of a result that is counted and judged (`Result`); and the words that a call
--- leaves are sound. Assumes nothing.
+-- The returns of a changing call, one law for each, by the tests on the way to it; and what becomes of a result that is counted and judged (`Result`).
+-- Assumes nothing.
 use mathlib.Core.Path.{_≡_, refl, sym, ap, _∙_}
-use mathlib.Core.Bool.{Bool, true, false, cond}
+use mathlib.Core.Bool.{Bool, true, false}
 use mathlib.Core.List.{List, _++_}
 use Prim.Native.Nat.{ℕ, _≤_}
 use native.Mathlib.Omega.{arith}
@@ -9,9 +9,9 @@ use lib.Dec.{eqb}
 use lib.ListN.{length, getD}
 use borrow.Author.Tests.{lt-ltb, le-ltb, eq-eqb, ne-eqb, eqb-true, eqb-false}
 use Rattle.nets.specs.Bits.{Bits}
-use Rattle.nets.specs.Lists.{isList, nodesL}
+use Rattle.nets.specs.Lists.{nodesL}
 use Rattle.nets.specs.Tries.{Trie, size, listOf}
-use Rattle.nets.specs.Networks.{width, refusalOf}
+use Rattle.nets.specs.Networks.{refusalOf}
 use Rattle.nets.specs.declared.Net.{Net}
 use Rattle.nets.proofs.Nodes.{nodesL-listOf}
 use Rattle.nodes.specs.Words.{enc}
@@ -25,7 +25,7 @@ use Rattle.pool.specs.declared.Survey.{Survey}
 use Rattle.pool.proofs.Decoded.{decode-header}
 use Rattle.pool.proofs.Seen.{Seen, behind, survey-sound, survey-damaged}
 use Rattle.pool.proofs.Judged.{changeNo-granted, judge-zero}
-use Rattle.pool.proofs.Changed.{withTrie, decode-granted, over-change, relink-asks}
+use Rattle.pool.proofs.Changed.{withTrie, over-change, relink-asks}
 
 -- what a changing call on set k owes: its answer r, and the words u that it leaves
 abbrev pub Owes : List ℕ → ℕ → (State → ℕ) → (State → List Bits) → ℕ × ℕ → List ℕ → Type 0
@@ -120,13 +120,3 @@ module _ {w : List ℕ} {S : State} {k : ℕ} {v : Survey} {a : State → ℕ} {
 
       pub result-granted : {x : Answer} {y : List ℕ} → answerAs x ≡ (0, m) → y ≡ relinked u k (v .at) (v .held) m → Changed w k a f x y
       result-granted q p = changed (rw q (change-granted a f (h .seen) (h .right) verdict t z (h .list) (h .size) e p))
-
--- What a changing call leaves is sound, and of the state that it says.
-pub decode-after : (w : List ℕ) (S : State) (k : ℕ) (a : State → ℕ) (f : State → List Bits) → decode w ≡ sound S → isList (width (S .family)) (f S) ≡ true
-    → decode (wordsAfter w (decode w) k a f) ≡ sound (cond (eqb (changeNo S k (a S) (f S)) 0) (withList S k (f S)) S)
-unfolding wordsAfter
-decode-after w S k a f d i = rw d (go (eqb (changeNo S k (a S) (f S)) 0) refl)
-  where
-    go : (b : Bool) → eqb (changeNo S k (a S) (f S)) 0 ≡ b → decode (cond b (over w (withList S k (f S))) w) ≡ sound (cond b (withList S k (f S)) S)
-    go true q = decode-granted w S k (f S) d (changeNo-granted S k (a S) (f S) (sym (eqb-true (changeNo S k (a S) (f S)) 0 q)) .0) i
-    go false q = d
