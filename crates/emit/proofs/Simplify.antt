@@ -124,18 +124,6 @@ module _ {w : List ℕ} {b i e o fuel m : ℕ} {l r : Trie} (d : Fork w b i e o 
     both-said : (y : Emitted) → y ≡ answer k (simplifyT r) → Both o x y (simplifyT l) (simplifyT r)
     both-said y said-r = record { first = said-l; second = rw second at said-r; small = omega (arith, small, d .src .here .few, d .src .here .used) }
 
-  -- with nothing written
-  module _ (x : Emitted) (k : ℕ) (hl : (t : Trie) → Source w b (i + 1) m (o + 1) (fuel - 1) t → x ≡ answer (o + 1) (simplifyT t)) (end : k ≡ endOf x (o + 1)) where
-    pub right-source : Source w b m e k (fuel - 1) r
-    right-source = next-source x k (hl l left-source) end w right
-
-    module _ (y : Emitted) (hr : (t : Trie) → Source w b m e k (fuel - 1) t → y ≡ answer k (simplifyT t)) where
-      pub foreseen-both : Both o x y (simplifyT l) (simplifyT r)
-      foreseen-both = both-said x k (hl l left-source) end y (hr r right-source)
-
-      pub foreseen : (z : Emitted) → ((t u : Trie) → Both o x y t u → z ≡ answer o (glue true t u)) → z ≡ answer o (simplifyT (node l r))
-      foreseen z f = rw over-is (f (simplifyT l) (simplifyT r) foreseen-both)
-
   -- with what is written of the first child, which ends before the second
   module _ (w₁ : List ℕ) (x : Emitted) (k : ℕ) (hl : (t : Trie) → Source w b (i + 1) m (o + 1) (fuel - 1) t → Emits w w₁ b (o + 1) x (simplifyT t)) (end : k ≡ endOf x (o + 1)) where
     done : Emits w w₁ b (o + 1) x (simplifyT l)

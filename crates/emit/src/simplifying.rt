@@ -2,9 +2,9 @@
 ghost use mathlib.Core.Path.{_≡_};
 ghost use mathlib.Core.List.{List};
 ghost use Prim.Native.Nat.{ℕ};
-ghost use Rattle.nets.specs.Tries.{Trie, size, simplifyT};
+ghost use Rattle.nets.specs.Tries.{Trie, simplifyT};
 ghost use Rattle.nodes.specs.Segments.{Segment};
-ghost use Rattle.emit.specs.Answers.{answer, Emits};
+ghost use Rattle.emit.specs.Answers.{Emits};
 ghost use Rattle.emit.specs.Simplify.{seenAs, Source};
 use crate::emitting;
 use crate::emitting::Emitted;
@@ -30,33 +30,6 @@ fn look(w: &[u32], b: usize, i: usize, e: usize) -> Seen
         return Seen::Leaf;
     }
     Seen::Inner(steps::middle(x / 2, i, e))
-}
-
-// What simplify answers, with nothing written.
-fn foresee(w: &[u32], b: usize, i: usize, e: usize, o: usize, fuel: usize) -> Emitted
-    requires { ⌜ ((t : Trie) × Source (now w) b i e o fuel t) ⌝ }
-    ensures { λ x. ⌜ ((t : Trie) → Source (now (w .entry)) b i e o fuel t → x ≡ answer o (simplifyT t)) ⌝ }
-{
-    let s = look(w, b, i, e);
-    match s {
-        Seen::Nothing => Emitted::Empty,
-        Seen::Leaf => Emitted::Full,
-        Seen::Inner(m) => {
-            let l = foresee(w, b, i + 1, m, o + 1, fuel - 1);
-            let k = emitting::end_of(l, o + 1);
-            let r = foresee(w, b, m, e, k, fuel - 1);
-            emitting::over(true, o, l, r)
-        }
-    }
-}
-
-// The nodes of the simplified trie.
-pub fn simplify_size(w: &[u32], b: usize, i: usize, e: usize, fuel: usize) -> usize
-    requires { ⌜ ((t : Trie) × Source (now w) b i e i fuel t) ⌝ }
-    ensures { λ r. ⌜ ((t : Trie) → Source (now (w .entry)) b i e i fuel t → r ≡ size (simplifyT t)) ⌝ }
-{
-    let x = foresee(w, b, i, e, i, fuel);
-    emitting::end_of(x, i) - i
 }
 
 // Reads the trie that stands from node i up to node e and writes what it is simplified to from node o on.
