@@ -6,7 +6,7 @@ use mathlib.Core.List.{List, _++_}
 use Prim.Native.Nat.{ℕ, suc, _+_, _-_, _≤_, _<_}
 use native.Mathlib.Omega.{arith}
 use lib.ListN.{length, getD}
-use borrow.Author.Tests.{lt-ltb, le-ltb, le-leb}
+use borrow.Author.Tests.{lt-ltb, le-leb}
 use Rattle.nets.specs.Lists.{nodesL, simplifyL}
 use Rattle.nets.specs.Tries.{Trie, size, simplifyT}
 use Rattle.nets.specs.Networks.{width}
@@ -24,9 +24,9 @@ use Rattle.emit.specs.declared.emitting.Emitted.the-variants.{Full}
 use Rattle.emit.proofs.Answers.{end-is, full-size, settled}
 use Rattle.emit.proofs.Simplify.{size-simplify}
 use Rattle.pool.specs.States.{State, held, roomOf}
-use Rattle.pool.specs.Decode.{base, damaged, sound, decode}
-use Rattle.pool.specs.Rules.{surveyOf}
-use Rattle.pool.specs.Changes.{setAt, listAt, withList, changeNo, changeRule, wordsAfter}
+use Rattle.pool.specs.Decode.{base, sound, decode}
+use Rattle.pool.specs.Rules.{answerAs, surveyOf}
+use Rattle.pool.specs.Changes.{setAt, listAt, withList, changeNo, changeRule}
 use Rattle.pool.specs.Steps.{behindAt, Gap, relinked, Relink}
 use Rattle.pool.specs.declared.Answer.{Answer}
 use Rattle.pool.specs.declared.Answer.the-variants as answer
@@ -121,26 +121,18 @@ module _ {w : List ℕ} {S : State} {k : ℕ} {v : Survey} (h : Seen w S k v) wh
       pub roots-move : Relink x k (v .held) n
       roots-move = relink-asks h (enc (simpleAt S k) ++ behind S k) fits closed
 
-      pub return-granted : {y : List ℕ} → y ≡ relinked x k (v .at) (v .held) n → Simplifies w k (answer.Granted n) y
+      pub return-granted : {a : Answer} {y : List ℕ} → (answerAs a ≡ (0, n)) × (y ≡ relinked x k (v .at) (v .held) n) → Simplifies w k a y
       unfolding simplifyL
       return-granted q =
-          changed (change-granted noArgs (listSimple k) h refl (sym (changeNo-simplify w S k (h .decoded) (h .known))) (simpleAt S k) refl refl (sym (s .nodes)) closed q)
+          changed (rw (q .0) (change-granted noArgs (listSimple k) h refl (sym (changeNo-simplify w S k (h .decoded) (h .known))) (simpleAt S k) refl refl (sym (s .nodes)) closed (q .1)))
 
 -- One outcome.
 pub simplify-one : {w v u : List ℕ} {k : ℕ} {r s : Answer} → Simplifies w k r v → Simplifies w k s u → (r ≡ s) × (v ≡ u)
 simplify-one g h = changed-one g h
 
--- The outcome: damaged words and a set that is not there are refused and left as they are; any other call is granted, and leaves the state with the list simplified.
+-- What is left of a sound pool: a call on a set that is there is granted, and leaves the state with the list simplified.
 module _ {w v : List ℕ} {k : ℕ} {r : Answer} (h : Simplifies w k r v) where
-  pub simplify-damaged : decode w ≡ damaged → (r ≡ answer.Refused Damaged) × (v ≡ w)
-  unfolding changeRule wordsAfter
-  simplify-damaged d = (answerAs-one r (answer.Refused Damaged) (h .answer ∙ rw d), h .words ∙ rw d)
-
   module _ (S : State) (d : decode w ≡ sound S) where
-    pub simplify-noset : length (S .sets) ≤ k → (r ≡ answer.Refused NoSet) × (v ≡ w)
-    unfolding changeRule wordsAfter changeNo
-    simplify-noset le = (answerAs-one r (answer.Refused NoSet) (h .answer ∙ rw (d, le-ltb k (length (S .sets)) le)), h .words ∙ rw (d, le-ltb k (length (S .sets)) le))
-
     pub simplify-granted : k < length (S .sets) → r ≡ answer.Granted (nodesL (simplifyL (listAt S k)))
     unfolding changeRule
     simplify-granted lt = answerAs-one r (answer.Granted (nodesL (simplifyL (listAt S k)))) (h .answer ∙ rw (d, changeNo-simplify w S k d lt))

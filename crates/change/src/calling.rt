@@ -1,19 +1,15 @@
-// The steps that the calls with a network share: what they ask first, and how they answer.
+// The steps that the calls with a network share: what they ask first, and where the trie of their set stands.
 use nets::Net;
 use nets::Prefix;
 use nets::PrefixBits;
 use nets::Refusal;
-use pool::Answer;
 use pool::Survey;
 use pool::checking::HEAD;
 use pool::checking::RECORD;
 use pool::checking::survey;
-use pool::relinking::relink;
 ghost use mathlib.Core.Path.{_≡_};
 ghost use Prim.Native.Nat.{_<_};
 ghost use lib.ListN.{length};
-ghost use Rattle.pool.specs.Rules.{answerAs};
-ghost use Rattle.pool.specs.Steps.{relinked, Relink};
 ghost use Rattle.change.specs.Steps.{Asks, seatOf};
 
 // A call goes on with what a pass over the pool found and the bits of the network, or it is refused.
@@ -63,13 +59,4 @@ pub fn seat_of(pool: &[u32], found: Survey) -> Seat
         end: first + found.held as usize,
         used: found.used as usize + 1,
     }
-}
-
-// Puts the roots right once the nodes of the result, n of them, are written; answers n.
-pub fn granted(pool: &mut [u32], set: u32, found: Survey, n: u32) -> Answer
-    requires { ⌜ Relink (now pool) set (found .held) n ⌝ }
-    ensures { λ r. ⌜ (answerAs r ≡ (0, n)) × (now (pool .exit) ≡ relinked (now (pool .entry)) set (found .at) (found .held) n) ⌝ }
-{
-    relink(pool, set, found.at, found.held, n);
-    Answer::Granted(n)
 }

@@ -1,7 +1,6 @@
 // Changing one set: adding a network, removing one, simplifying. Where a call is refused, no word changes.
 use calling::Asked;
 use calling::ask;
-use calling::granted;
 use calling::seat_of;
 use nets::Net;
 use nets::Refusal;
@@ -12,7 +11,7 @@ use pool::checking::most_levels;
 use pool::checking::survey;
 use pool::judging::judge;
 use pool::judging::too_many;
-use pool::relinking::relink;
+use pool::relinking::granted;
 use pool::relinking::shift_behind;
 use shrinking::shrink;
 ghost use Rattle.change.specs.Calls.{Added, Removed};
@@ -78,8 +77,7 @@ pub fn simplify(pool: &mut [u32], set: u32) -> Answer
     }
     let b = HEAD + RECORD * (sets as usize);
     let levels = most_levels(pool[1]);
-    let n = shrink(pool, b, found, levels);
-    shift_behind(pool, b, found, n);
-    relink(pool, set, found.at, found.held, n);
-    Answer::Granted(n)
+    let nodes = shrink(pool, b, found, levels);
+    shift_behind(pool, b, found, nodes);
+    granted(pool, set, found, nodes)
 }

@@ -23,17 +23,17 @@ use Rattle.emit.proofs.Combine.{opOn-union, opOn-common, opOn-except, size-op}
 use Rattle.pool.specs.States.{State, roomOf}
 use Rattle.pool.specs.Decode.{recordAt, sound, decode}
 use Rattle.pool.specs.Rules.{surveyOf}
-use Rattle.pool.specs.Changes.{listAt}
+use Rattle.pool.specs.Changes.{listAt, isEmpty}
 use Rattle.pool.specs.declared.Survey.{Survey}
 use Rattle.pool.proofs.Decoded.{decode-header}
-use Rattle.pool.proofs.Seen.{Seen, trieAt, survey-sound, survey-seen, seen, seen-figures}
+use Rattle.pool.proofs.Seen.{Seen, trieAt, survey-sound, survey-seen, seen, seen-figures, seen-empty, seen-some}
 use Rattle.pool.proofs.Changed.{withTrie, behind-first, gap-asks}
 use Rattle.pool.proofs.Returns.{Result, change-damaged, change-noset, change-args, changed}
-use Rattle.combine.specs.Rules.{isEmpty, combineNo}
+use Rattle.combine.specs.Rules.{combineNo}
 use Rattle.combine.specs.Steps.{Operation, merging, intersecting, excluding, combineL, Ready, Asks, sourcesOf, Reads, Writable, written}
 use Rattle.combine.specs.declared.asking.Asked.the-variants.{Go, Refused}
 use Rattle.combine.specs.declared.asking.Sources.{Sources}
-use Rattle.combine.proofs.Sources.{seen-empty, seen-some, Source, source}
+use Rattle.combine.proofs.Sources.{Source, source}
 
 -- The number that the three sets get.
 isEmpty-some : (l : List Bits) → (l ≡ [] → ⊥) → isEmpty l ≡ false

@@ -22,10 +22,10 @@ use Rattle.pool.specs.Changes.{listAt}
 use Rattle.pool.specs.Steps.{Surveyed}
 use Rattle.pool.specs.declared.Survey.{Survey}
 use Rattle.pool.proofs.Decoded.{decode-header, decode-root}
-use Rattle.pool.proofs.Seen.{Seen, trieAt, survey-sound, survey-damaged, seen, seen-figures, own-has, own-length, seen-list, seen-size}
+use Rattle.pool.proofs.Seen.{Seen, trieAt, survey-sound, survey-damaged, seen, seen-figures, own-has, own-length, seen-list, seen-size, seen-empty, seen-some}
 use Rattle.combine.specs.Rules.{sameList, equalRule}
 use Rattle.combine.specs.Steps.{Agree}
-use Rattle.combine.proofs.Sources.{seen-empty, seen-some, its, source-seen, source-root}
+use Rattle.combine.proofs.Sources.{its, source-seen, source-root}
 
 -- Two lists are one.
 pub sameList-refl : (l : List Bits) → sameList l l ≡ true

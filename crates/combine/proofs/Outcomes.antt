@@ -14,7 +14,7 @@ use Rattle.nets.proofs.TrieOf.{isList-within}
 use Rattle.pool.specs.States.{State}
 use Rattle.pool.specs.Decode.{sound, decode}
 use Rattle.pool.specs.Rules.{toldAs}
-use Rattle.pool.specs.Changes.{listAt, changeNo}
+use Rattle.pool.specs.Changes.{listAt, changeNo, isEmpty}
 use Rattle.pool.specs.declared.Answer.{Answer}
 use Rattle.pool.specs.declared.Told.{Told}
 use Rattle.pool.proofs.Claims.{isList-listAt}
@@ -22,7 +22,7 @@ use Rattle.pool.proofs.Decoded.{decode-state}
 use Rattle.pool.proofs.Judged.{changeNo-granted}
 use Rattle.pool.proofs.Determined.{toldAs-one, changed-one}
 use Rattle.pool.proofs.Leaves.{Leaves, changed-leaves}
-use Rattle.combine.specs.Rules.{isEmpty, areKnown, combineNo, Combined, Merged, Intersected, Excluded, equalRule}
+use Rattle.combine.specs.Rules.{areKnown, combineNo, Combined, Merged, Intersected, Excluded, equalRule}
 
 -- One outcome.
 module _ (w : List ℕ) (to first second : ℕ) {r s : Answer} {u v : List ℕ} where

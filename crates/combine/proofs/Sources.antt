@@ -1,18 +1,15 @@
 -- A set as a source: its root means its trie, which lists what the set has. The trie stands wholly before a place where another set begins, or wholly behind it, as sets stand
 -- one behind the other. Assumes nothing.
 use mathlib.Core.Bool.{cond}
-use mathlib.Core.List.{List, []}
+use mathlib.Core.List.{List}
 use mathlib.Core.Path.{_≡_, refl, sym, ap, _∙_}
 use Prim.Native.Nat.{ℕ, suc, _+_, _≤_, _<_}
 use native.Mathlib.Decide.{decLt}
 use native.Mathlib.Omega.{arith}
 use lib.ListN.{getD}
-use Rattle.nets.specs.Lists.{nodesL}
 use Rattle.nets.specs.Tries.{Trie, none, node, size, levels, isNone, listOf}
 use Rattle.nets.specs.Networks.{width}
-use Rattle.nets.proofs.Nodes.{nodesL-empty}
 use Rattle.nets.proofs.TrieOf.{trieOf-listOf}
-use Rattle.nodes.proofs.Segments.{none-is}
 use Rattle.nodes.proofs.Tries.{some}
 use Rattle.emit.specs.Combine.{Here, Means}
 use Rattle.emit.proofs.Sources.{means-here}
@@ -26,15 +23,6 @@ use Rattle.pool.proofs.Decoded.{decode-header, decode-root, decode-at}
 use Rattle.pool.proofs.Seen.{Seen, trieAt, survey-seen, seen-figures, own-has, seen-list, seen-size}
 use Rattle.pool.proofs.Changed.{startOf-behind}
 use Rattle.combine.specs.Steps.{Whole}
-
--- A set: its trie lists what it has, and has no node exactly if the list is empty.
-module _ {w : List ℕ} {S : State} {k : ℕ} {v : Survey} (h : Seen w S k v) where
-  pub seen-empty : v .held ≡ 0 → listAt S k ≡ []
-  unfolding listOf levels
-  seen-empty e = sym (seen-list h) ∙ ap listOf (none-is (trieAt S k) (seen-size h ∙ e))
-
-  pub seen-some : (v .held ≡ 0 → ⊥) → listAt S k ≡ [] → ⊥
-  seen-some ne e = ne (h .held ∙ ap nodesL e ∙ nodesL-empty)
 
 -- The root of a set's trie, by the trie.
 root-is : (i : ℕ) (t : Trie) → rootAt i (listOf t) ≡ cond (isNone t) 0 i

@@ -13,16 +13,12 @@ use Rattle.nets.specs.Bits.{Bits, equal}
 use Rattle.nets.specs.Lists.{mergeL, intersectL, excludeL}
 use Rattle.pool.specs.States.{State}
 use Rattle.pool.specs.Decode.{Decoded, damaged, sound}
-use Rattle.pool.specs.Changes.{listAt, Changed}
+use Rattle.pool.specs.Changes.{listAt, isEmpty, Changed}
 use Rattle.pool.specs.declared.Answer.{Answer}
 
 -- both numbers are those of sets
 abbrev pub areKnown : State → ℕ → ℕ → Bool
 areKnown S first second = ltb first (length (S .sets)) && ltb second (length (S .sets))
-
-abbrev pub isEmpty : List Bits → Bool
-isEmpty [] = true
-isEmpty (p ∷ l) = false
 
 unfoldable pub combineNo : ℕ → ℕ → ℕ → State → ℕ
 combineNo to first second S = cond (areKnown S first second) (cond (isEmpty (listAt S to)) 0 8) 3

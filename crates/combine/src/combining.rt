@@ -13,7 +13,7 @@ use pool::Answer;
 use pool::Survey;
 use pool::judging::judge;
 use pool::judging::too_many;
-use pool::relinking::relink;
+use pool::relinking::granted;
 use pool::relinking::shift_behind;
 ghost use mathlib.Core.Path.{_≡_};
 ghost use Prim.Native.Nat.{_+_, _<_};
@@ -77,8 +77,7 @@ pub fn combine(pool: &mut [u32], op: usize, to: u32, first: u32, second: u32) ->
                 return too_many(no);
             }
             write(pool, op, s, v, n);
-            relink(pool, to, v.at, v.held, n);
-            Answer::Granted(n)
+            granted(pool, to, v, n)
         }
     }
 }

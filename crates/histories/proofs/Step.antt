@@ -20,14 +20,14 @@ use Rattle.nets.proofs.Laws.{isList-remove, isList-exclude}
 use Rattle.pool.specs.States.{SetState, State, roomOf, isState}
 use Rattle.pool.specs.Decode.{sound, decode}
 use Rattle.pool.specs.Rules.{answerAs}
-use Rattle.pool.specs.Changes.{setAt, listAt, setWith, withList, changeNo, changeRule, netNo}
+use Rattle.pool.specs.Changes.{setAt, listAt, setWith, withList, changeNo, changeRule, netNo, isEmpty}
 use Rattle.pool.specs.declared.Answer.{Answer}
 use Rattle.pool.proofs.Claims.{isList-listAt}
 use Rattle.pool.proofs.WithList.{length-withList, withList-at, share-roomOf, isState-withList}
 use Rattle.pool.proofs.Decoded.{decode-state}
 use Rattle.pool.proofs.Judged.{Granted, changeNo-granted}
 use Rattle.pool.proofs.Leaves.{after-cases, after-other, after-plan, changed-leaves, netNo-within}
-use Rattle.combine.specs.Rules.{isEmpty, combineNo}
+use Rattle.combine.specs.Rules.{combineNo}
 use Rattle.histories.specs.Calls.{Call, add, remove, simplify, merge, intersect, exclude, target, namesOne, argsNo, resultOf, callNo, answerOf, stateAfter, Outcome}
 
 within-listAt : (S : State) (k : ℕ) → isState S ≡ true → within (width (S .family)) (listAt S k) ≡ true

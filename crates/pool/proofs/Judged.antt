@@ -1,6 +1,6 @@
 -- Judging a result by its nodes, by the tests of the code: the room is what the claims of the other sets leave, and what is above neither the limit nor the room is
 -- granted. Assumes nothing.
-use mathlib.Core.Path.{_≡_, refl, sym, _∙_}
+use mathlib.Core.Path.{_≡_, refl, sym}
 use mathlib.Core.Bool.{Bool, true, false, cond}
 use mathlib.Core.List.{List}
 use Prim.Native.Nat.{ℕ, _+_, _-_, _≤_, _<_}
@@ -79,6 +79,3 @@ module _ {w : List ℕ} {S : State} {k : ℕ} {v : Survey} (h : Seen w S k v) (l
       go true true q = q
       go true false q = absurd (n10 q)
       go false y q = absurd (n9 q)
-
-  pub judge-granted : Granted S k (nodesL l)
-  judge-granted = changeNo-granted S k 0 l (sym judge-zero ∙ j) .0

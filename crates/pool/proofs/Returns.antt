@@ -71,12 +71,6 @@ module _ (a : State → ℕ) (f : State → List Bits) where
       pub change-judged : (r ≡ 0 → ⊥) → Owes w k a f (r, 0) w
       change-judged ne = refused w S k r (h .decoded) judged ne
 
-      pub change-limit : r ≡ 9 → Owes w k a f (9, 0) w
-      change-limit q = refused w S k 9 (h .decoded) (judged ∙ q) (λ y. omega arith)
-
-      pub change-room : r ≡ 10 → Owes w k a f (10, 0) w
-      change-room q = refused w S k 10 (h .decoded) (judged ∙ q) (λ y. omega arith)
-
       pub change-granted : {n : ℕ} {u x : List ℕ} (t : Trie) → r ≡ 0 → listOf t ≡ f S → size t ≡ n
           → u ≡ withTrie w S k v t → x ≡ relinked u k (v .at) (v .held) n → Owes w k a f (0, n) x
       unfolding changeRule wordsAfter

@@ -2,12 +2,14 @@
 -- its set, and those before and behind it, stand where they say. Assumes nothing.
 use mathlib.Core.Path.{_≡_, refl, sym, ap, _∙_}
 use mathlib.Core.Bool.{true, false, false≢true, true≢false}
-use mathlib.Core.List.{List, _++_}
+use mathlib.Core.List.{List, [], _++_}
 use Prim.Native.Nat.{ℕ, suc, _+_, _-_, _≤_, _<_}
 use native.Mathlib.Omega.{arith}
 use lib.ListN.{length, getD, take, drop, length-append}
-use Rattle.nets.specs.Tries.{Trie, size, listOf, trieOf}
+use Rattle.nets.specs.Lists.{nodesL}
+use Rattle.nets.specs.Tries.{Trie, size, levels, listOf, trieOf}
 use Rattle.nets.specs.Networks.{width}
+use Rattle.nets.proofs.Nodes.{nodesL-empty}
 use Rattle.nodes.specs.Words.{Has, enc, place}
 use Rattle.pool.specs.States.{State, held, used, claimed, isState}
 use Rattle.pool.specs.Decode.{recordAt, base, leastWords, nodeWords, Decoded, damaged, sound, decode}
@@ -17,6 +19,7 @@ use Rattle.pool.specs.Steps.{Surveyed, behindAt}
 use Rattle.pool.specs.declared.Survey.{Survey}
 use Rattle.nodes.specs.Segments.{Segment}
 use Rattle.nodes.proofs.Has.{has-front, has-back, has-at, has-seg, has-join}
+use Rattle.nodes.proofs.Segments.{none-is}
 use Rattle.nodes.proofs.Tries.{length-enc}
 use Rattle.pool.proofs.Claims.{isState-claimed, used-claimed, claimedBut-is}
 use Rattle.pool.proofs.Header.{IsHeader, isHeader-header}
@@ -171,6 +174,14 @@ module _ {w : List ℕ} {S : State} {k : ℕ} {v : Survey} (h : Seen w S k v) wh
 
   pub seen-size : size (trieAt S k) ≡ v .held
   seen-size = sym (length-enc (trieAt S k)) ∙ own-length
+
+  -- a set has no node exactly if its list is empty
+  pub seen-empty : v .held ≡ 0 → setAt S k .list ≡ []
+  unfolding listOf levels
+  seen-empty e = sym seen-list ∙ ap listOf (none-is (trieAt S k) (seen-size ∙ e))
+
+  pub seen-some : (v .held ≡ 0 → ⊥) → setAt S k .list ≡ [] → ⊥
+  seen-some ne e = ne (h .held ∙ ap nodesL e ∙ nodesL-empty)
 
   pub seen-segment : Segment w (base (getD w 2 0)) (v .at) (v .at + v .held) (v .used + 1) (trieAt S k) (behind S k)
   seen-segment =

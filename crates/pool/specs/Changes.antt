@@ -3,7 +3,7 @@
 --   withList S k l     the state with the list l in set k
 --   changeNo S k a l   3 no such set, then a, 9 more nodes than the limit, 10 more than the room, 0 granted
 --   changeRule, wordsAfter     the answer, and the words afterwards: those of the state with the new list, or no word changed; Changed: both, as a contract
-use mathlib.Core.Bool.{cond}
+use mathlib.Core.Bool.{Bool, true, false, cond}
 use mathlib.Core.List.{List, [], _∷_}
 use mathlib.Core.Path.{_≡_}
 use Prim.Native.Nat.{ℕ, zero, suc}
@@ -49,6 +49,11 @@ changeRule (sound S) k a f = answered (changeNo S k (a S) (f S)) 0 (nodesL (f S)
 unfoldable pub wordsAfter : List ℕ → Decoded → ℕ → (State → ℕ) → (State → List Bits) → List ℕ
 wordsAfter w damaged k a f = w
 wordsAfter w (sound S) k a f = cond (eqb (changeNo S k (a S) (f S)) 0) (over w (withList S k (f S))) w
+
+-- a set that is to be written first must be empty
+abbrev pub isEmpty : List Bits → Bool
+isEmpty [] = true
+isEmpty (p ∷ l) = false
 
 -- from the words w a changing call on set k answers r and leaves the words v
 pub record Changed (w : List ℕ) (k : ℕ) (a : State → ℕ) (f : State → List Bits) (r : Answer) (v : List ℕ) : Type 0 where

@@ -1,9 +1,11 @@
-// After the nodes of one set changed: moving the words of the sets behind it, and putting the roots right.
+// After the nodes of one set changed: moving the words of the sets behind it, putting the roots right, and the answer.
+use super::Answer;
 use super::Survey;
 use nodes::writing::shift;
 ghost use mathlib.Core.Path.{_≡_};
 ghost use Prim.Native.Nat.{_+_};
 ghost use Rattle.nodes.specs.Words.{put, place};
+ghost use Rattle.pool.specs.Rules.{answerAs};
 ghost use Rattle.pool.specs.Steps.{behindAt, Gap, ownRoot, movedRoot, relinked, Movable, Relink};
 
 // Moves the words of the sets behind a set to where they stand once the set has n nodes.
@@ -38,7 +40,7 @@ fn moved_root(old: u32, new: u32, r: u32) -> u32
 }
 
 // Puts the roots right after a set, which begins at node `at`, went from old nodes to new ones.
-pub fn relink(w: &mut [u32], set: u32, at: u32, old: u32, new: u32)
+fn relink(w: &mut [u32], set: u32, at: u32, old: u32, new: u32)
     requires { ⌜ Relink (now w) set old new ⌝ }
     ensures { λ _. ⌜ now (w .exit) ≡ relinked (now (w .entry)) set at old new ⌝ }
 {
@@ -50,4 +52,13 @@ pub fn relink(w: &mut [u32], set: u32, at: u32, old: u32, new: u32)
         w[64 + 8 * s] = moved_root(old, new, w[64 + 8 * s]);
         s += 1;
     }
+}
+
+// Puts the roots right once the nodes of the result, n of them, are written; answers n.
+pub fn granted(w: &mut [u32], set: u32, v: Survey, n: u32) -> Answer
+    requires { ⌜ Relink (now w) set (v .held) n ⌝ }
+    ensures { λ r. ⌜ (answerAs r ≡ (0, n)) × (now (w .exit) ≡ relinked (now (w .entry)) set (v .at) (v .held) n) ⌝ }
+{
+    relink(w, set, v.at, v.held, n);
+    Answer::Granted(n)
 }

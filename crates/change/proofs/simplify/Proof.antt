@@ -51,4 +51,4 @@ simplify-spec =
     let s = f .before .before .before .before in
     let m = s .before .before in
     let h = here (m .before .before) .1 in
-    return-granted h (s .shrink .ensures _ (seen-source h (m .most-levels .ensures))) (f .shift-behind .ensures) (r .relink .ensures)))
+    return-granted h (s .shrink .ensures _ (seen-source h (m .most-levels .ensures))) (f .shift-behind .ensures) (r .granted .ensures)))

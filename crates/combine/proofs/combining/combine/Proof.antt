@@ -1,6 +1,5 @@
 -- `combining::combine` meets its contract, each return by the tests on the way to it. Assumes nothing.
 use denote.Ref.{now}
-use mathlib.Core.Path.{refl}
 use borrow.Author.Needs.{needs}
 use Rattle.pool.proofs.Returns.{result-many, result-refused, result-fits, result-relinks, result-granted}
 use Rattle.combine.specs.Steps.{Ready}
@@ -51,4 +50,4 @@ combine-spec =
     let j = x .before .before .before in
     let h = counted (j .before .before) in
     let z = x .before .before .if1 .left in
-    result-granted (result h) (j .judge .ensures) z (result-wrote h (result-fits (result h) (j .judge .ensures) z) (x .write .ensures)) refl (y .relink .ensures)))
+    result-granted (result h) (j .judge .ensures) z (result-wrote h (result-fits (result h) (j .judge .ensures) z) (x .write .ensures)) (y .granted .ensures .0) (y .granted .ensures .1)))
