@@ -130,3 +130,11 @@ module _ (l : List Bits) (s : Spot) (h : Lists (s .seat .family) l) where
       go : (y : Found) → nextL l (placeIn s) ≡ y → r ≡ landed s y → ahead l s ≡ []
       go (found q) k g = absurd (true≢false (sym (ap (λ (x : Spot). x .more) g) ∙ m))
       go missing k g = nextL-end l (placeIn s) k
+
+  pub right-gone : Right s → Right (goneOn l s)
+  unfolding goneOn
+  right-gone g = go (nextL l (placeIn s)) refl
+    where
+      go : (y : Found) → nextL l (placeIn s) ≡ y → Right (landed s y)
+      go (found q) k _ = let i = nextL-found l (placeIn s) q (h .order) k .0 in refusalOf-netFrom (s .seat .family) q (h .family) (h .short q i)
+      go missing k e = g e

@@ -6,6 +6,7 @@
 --   goneOn l s      the next spot in the list l: at the network that follows, or, where none does, behind the last
 --   StandsIn w s t  the trie t stands in the seat s, its members networks of the seat's family
 --   Right s         a network that one has been at is one
+--   Goes w s        a trie stands in the seat of s, and one can go on from s
 use mathlib.Core.Path.{_≡_}
 use mathlib.Core.Bool.{true, false, cond}
 use mathlib.Core.List.{List}
@@ -39,3 +40,8 @@ StandsIn w s t = Holds w (s .base) (s .first) (s .end) (s .family) t
 
 abbrev pub Right : Spot → Type 0
 Right s = s .begun ≡ true → refusalOf (s .net) ≡ 0
+
+pub record Goes (w : List ℕ) (s : Spot) : Type 0 where
+  pub trie : Trie
+  pub stands : StandsIn w (s .seat) trie
+  pub right : Right s

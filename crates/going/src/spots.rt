@@ -3,7 +3,7 @@ ghost use mathlib.Core.Path.{_≡_};
 ghost use Prim.Native.Nat.{_≤_};
 ghost use Rattle.nets.specs.Tries.{Trie, listOf};
 ghost use Rattle.listing.specs.Following.{placeOf, lenOf};
-ghost use Rattle.going.specs.Spots.{nowhere, beforeAll, placeIn, Right, StandsIn, goneOn};
+ghost use Rattle.going.specs.Spots.{nowhere, beforeAll, placeIn, Right, StandsIn, goneOn, Goes};
 use listing::following::Next;
 use listing::following::Place;
 use listing::following::next_after;
@@ -67,8 +67,7 @@ fn place_in(s: Spot) -> Place
 
 // At the next network, or behind the last.
 pub fn go_on(pool: &[u32], s: Spot) -> Spot
-    requires { ⌜ Right s ⌝ }
-    requires { ⌜ ((t : Trie) × StandsIn (now pool) (s .seat) t) ⌝ }
+    requires { ⌜ Goes (now pool) s ⌝ }
     ensures { λ r. ⌜ ((t : Trie) → StandsIn (now (pool .entry)) (s .seat) t → r ≡ goneOn (listOf t) s) ⌝ }
 {
     let seat = s.seat;

@@ -83,7 +83,7 @@ module _ {w : List ℕ} {k : ℕ} (v : List Net) {t₀ : Turn} (b : Begins w k (
       within = omega (arith, longer, s .at, b .fits)
 
       pub stores : length v < 2 ^ 64 → Stores w t
-      stores few = record { trie = b .trie; stands = stands; right = λ _. arrives .right; small = omega (arith, within) }
+      stores few = record { goes = record { trie = b .trie; stands = stands; right = λ _. arrives .right }; small = omega (arith, within) }
 
       pub steps : (r : Turn) → r ≡ turnAfter l t → (i : ℕ) × ((i < j) × State i r (set u (t .at) (t .spot .net)))
       steps r e =

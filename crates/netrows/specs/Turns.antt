@@ -14,7 +14,7 @@ use Rattle.nets.specs.Tries.{Trie, listOf}
 use Rattle.nets.specs.declared.Net.{Net}
 use Rattle.pool.specs.States.{isFamily}
 use Rattle.pool.specs.declared.Answer.{Answer}
-use Rattle.going.specs.Spots.{nowhere, beforeAll, goneOn, Right, StandsIn}
+use Rattle.going.specs.Spots.{nowhere, beforeAll, goneOn, StandsIn, Goes}
 use Rattle.netrows.specs.Rows.{filled, Listed}
 use Rattle.netrows.specs.declared.turns.Turn.{Turn}
 
@@ -25,9 +25,7 @@ abbrev pub turnAfter : List Bits → Turn → Turn
 turnAfter l t = record { spot = goneOn l (t .spot); at = t .at + 1; answer = t .answer }
 
 pub record Stores (w : List ℕ) (t : Turn) : Type 0 where
-  pub trie : Trie
-  pub stands : StandsIn w (t .spot .seat) trie
-  pub right : Right (t .spot)
+  pub goes : Goes w (t .spot)
   pub small : t .at + 1 < 2 ^ 64
 
 pub record Begins (w : List ℕ) (k n : ℕ) (t : Turn) : Type 0 where

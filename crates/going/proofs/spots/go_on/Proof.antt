@@ -9,8 +9,8 @@ pub go-on-spec : {M : Type 1} → statement M
 go-on-spec =
     tie.close
     (tie.spec
-    (λ c κs. search needs)
-    (λ c κs. (c .place-in .ensures .1, c .before .before .before .before .pre .1))
+    (λ c κs. c .before .before .before .pre .right)
+    (λ c κs. let g = c .before .before .before .before .pre in (c .place-in .ensures .1, (g .trie, g .stands)))
     (λ c. search needs)
     (λ c. search needs)
     (λ c t o. let a = c .before .before .before in gone-network (listOf t) _ (a .before .place-in .result) (a .before .place-in .ensures .0) _ (a .next-after .ensures t o) _ (c .before .x .given .1))
