@@ -1,0 +1,2 @@
+-- The laws of the walk: where it begins, one step, and the list that it comes past.
+pub mod Steps

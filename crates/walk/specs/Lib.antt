@@ -1,0 +1,2 @@
+-- The walk through a set, and what it comes past.
+pub mod Walks
