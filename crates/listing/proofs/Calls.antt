@@ -29,10 +29,10 @@ use Rattle.pool.specs.declared.Answer.the-variants as answer
 use Rattle.pool.specs.declared.Survey.{Survey}
 use Rattle.pool.proofs.Header.{isHeader-header}
 use Rattle.pool.proofs.Decoded.{decode-header, decode-set}
-use Rattle.pool.proofs.Seen.{Seen, trieAt, behind, survey-sound, survey-damaged, seen-header, seen-segment, seen-list}
+use Rattle.pool.proofs.Seen.{Seen, trieAt, behind, survey-sound, survey-damaged, survey-seen, seen-header, seen-segment, seen-list}
 use Rattle.listing.specs.Rows.{rowsOf}
 use Rattle.listing.specs.Spans.{Spans, Holds}
-use Rattle.listing.specs.Seats.{Sits, Refuses, Seats}
+use Rattle.listing.specs.Seats.{seatAt, Sits, Refuses, Seats}
 use Rattle.listing.specs.Calls.{listNo, listRule, rowsAfter, Listed, placeFrom, nothing, foundAs, nextNo, nextRule}
 use Rattle.listing.specs.Following.{placeOf, nextAs}
 use Rattle.listing.specs.Places.{Numbers, Right}
@@ -73,10 +73,18 @@ module _ {w : List ℕ} {S : State} {k : ℕ} {v : Survey} (h : Seen w S k v) wh
       record {
         decoded = h .decoded;
         known = h .known;
+        seat = rw (seen-header h .family, seen-header h .sets, h .at, h .held);
         family = seen-header h .family;
         list = seen-list h;
         holds = record { stands = record { u = v .used + 1; rest = behind S k; is = seen-segment h }; deep = rw (seen-header h .family) (d .trie .deep) };
       }
+
+-- so it does in every state that the words hold
+pub sits-at : (w : List ℕ) (S : State) (k : ℕ) → decode w ≡ sound S → k < length (S .sets) → Sits w k S (seatAt S k)
+sits-at w S k d lt =
+    let h = survey-seen w k (surveyOf (decode w) k) refl S d (rw (decode-header w S d .sets) lt) in
+    let r = seat-sits h in
+    rw (r .seat) at r
 
 -- The returns of list.
 listRule-refused : (d : Decoded) (k n x : ℕ) → Refuses d k x → (x, 0) ≡ listRule d k n

@@ -1,25 +1,31 @@
 -- Where the trie of a set stands.
 --
+--   seatAt S k        the seat of set k in the state S: behind the sets before it
 --   Sits w k S s      the words w hold the state S, and the trie of its set k stands in the seat s
 --   Refuses d k x     x is the number of every call on set k: 2 damaged, 3 no such set
 --   Seats w k r       what `seat_of` finds
 use mathlib.Core.Path.{_≡_}
 use mathlib.Core.List.{List}
-use Prim.Native.Nat.{ℕ, _≤_, _<_}
+use Prim.Native.Nat.{ℕ, _+_, _≤_, _<_}
 use lib.ListN.{length}
 use Rattle.nets.specs.Refusals.{number}
 use Rattle.nets.specs.Tries.{trieOf, listOf}
-use Rattle.pool.specs.States.{State}
-use Rattle.pool.specs.Decode.{Decoded, damaged, sound, decode}
-use Rattle.pool.specs.Changes.{listAt}
+use Rattle.pool.specs.States.{State, held}
+use Rattle.pool.specs.Decode.{Decoded, damaged, sound, base, decode}
+use Rattle.pool.specs.Rules.{startOf}
+use Rattle.pool.specs.Changes.{setAt, listAt}
 use Rattle.listing.specs.Spans.{Holds}
 use Rattle.listing.specs.declared.seats.Seat.{Seat}
 use Rattle.listing.specs.declared.seats.Seated.{Seated}
 use Rattle.listing.specs.declared.seats.Seated.the-variants.{At, Refused}
 
+abbrev pub seatAt : State → ℕ → Seat
+seatAt S k = record { family = S .family; base = base (length (S .sets)); first = startOf k 1 (S .sets); end = startOf k 1 (S .sets) + held (setAt S k) }
+
 pub record Sits (w : List ℕ) (k : ℕ) (S : State) (s : Seat) : Type 0 where
   pub decoded : decode w ≡ sound S
   pub known : k < length (S .sets)
+  pub seat : s ≡ seatAt S k
   pub family : s .family ≡ S .family
   pub list : listOf (trieOf (listAt S k)) ≡ listAt S k
   pub holds : Holds w (s .base) (s .first) (s .end) (s .family) (trieOf (listAt S k))

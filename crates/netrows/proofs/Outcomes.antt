@@ -1,0 +1,75 @@
+-- The outcomes of list into a row of networks: there is one, and on a sound pool the row begins with the set's list, each network with its family, words and length.
+-- Assumes nothing.
+use mathlib.Core.Path.{_≡_, refl, sym, ap, _∙_}
+use mathlib.Core.List.{List, [], _∷_}
+use Prim.Native.Nat.{ℕ, zero, suc, _≤_, _<_}
+use native.Mathlib.Omega.{arith}
+use lib.ListN.{length, getD}
+use borrow.Author.Tests.{lt-ltb, le-ltb, le-leb, lt-leb}
+use Rattle.nets.specs.Bits.{Bits}
+use Rattle.nets.specs.Networks.{netFrom, noNet}
+use Rattle.nets.specs.declared.Net.{Net}
+use Rattle.nets.specs.declared.Refusal.the-variants.{Damaged, NoSet, ShortBuffer}
+use Rattle.pool.specs.States.{State}
+use Rattle.pool.specs.Decode.{damaged, sound, decode}
+use Rattle.pool.specs.Changes.{listAt}
+use Rattle.pool.specs.declared.Answer.{Answer}
+use Rattle.pool.specs.declared.Answer.the-variants.{Granted, Refused}
+use Rattle.pool.proofs.Determined.{answerAs-one}
+use Rattle.netrows.specs.Rows.{filled, rowNo, rowRule, rowAfter, Listed}
+
+pub list-determined : {w : List ℕ} {v u x : List Net} {k : ℕ} {r s : Answer} → Listed w k v r u → Listed w k v s x → (r ≡ s) × (u ≡ x)
+list-determined {r = r} {s = s} g h = (answerAs-one r s (g .answer ∙ sym (h .answer)), g .row ∙ sym (h .row))
+
+-- The row with a list in its first entries, entry by entry.
+filled-length : (f : ℕ) (l : List Bits) (v : List Net) → length l ≤ length v → length (filled f l v) ≡ length v
+filled-length f [] v h = refl
+filled-length f (p ∷ l) [] h = absurd (omega arith)
+filled-length f (p ∷ l) (x ∷ v) h = ap suc (filled-length f l v (omega arith))
+
+filled-entry : (f : ℕ) (l : List Bits) (v : List Net) (i : ℕ) → length l ≤ length v → i < length l → getD (filled f l v) i noNet ≡ netFrom f (getD l i [])
+filled-entry f [] v i h g = absurd (omega arith)
+filled-entry f (p ∷ l) [] i h g = absurd (omega arith)
+filled-entry f (p ∷ l) (x ∷ v) zero h g = refl
+filled-entry f (p ∷ l) (x ∷ v) (suc i) h g = filled-entry f l v i (omega arith) (omega arith)
+
+filled-past : (f : ℕ) (l : List Bits) (v : List Net) (i : ℕ) → length l ≤ length v → length l ≤ i → getD (filled f l v) i noNet ≡ getD v i noNet
+filled-past f [] v i h g = refl
+filled-past f (p ∷ l) [] i h g = absurd (omega arith)
+filled-past f (p ∷ l) (x ∷ v) zero h g = absurd (omega arith)
+filled-past f (p ∷ l) (x ∷ v) (suc i) h g = filled-past f l v i (omega arith) (omega arith)
+
+module _ {w : List ℕ} {v u : List Net} {k : ℕ} {r : Answer} (h : Listed w k v r u) where
+  pub list-damaged : decode w ≡ damaged → (r ≡ Refused Damaged) × (u ≡ v)
+  unfolding rowRule rowAfter
+  list-damaged d = (answerAs-one r (Refused Damaged) (h .answer ∙ rw d), h .row ∙ rw d)
+
+  module _ (S : State) (d : decode w ≡ sound S) where
+    pub list-noset : length (S .sets) ≤ k → (r ≡ Refused NoSet) × (u ≡ v)
+    unfolding rowRule rowAfter rowNo
+    list-noset le = let l = le-ltb k (length (S .sets)) le in (answerAs-one r (Refused NoSet) (h .answer ∙ rw (d, l)), h .row ∙ rw (d, l))
+
+    module _ (lt : k < length (S .sets)) where
+      pub list-short : length v < length (listAt S k) → (r ≡ Refused ShortBuffer) × (u ≡ v)
+      unfolding rowRule rowAfter rowNo
+      list-short less =
+          let l = lt-ltb k (length (S .sets)) lt in
+          let m = lt-leb (length (listAt S k)) (length v) less in
+          (answerAs-one r (Refused ShortBuffer) (h .answer ∙ rw (d, l, m)), h .row ∙ rw (d, l, m))
+
+      module _ (le : length (listAt S k) ≤ length v) where
+        pub list-row : (r ≡ Granted (length (listAt S k))) × (u ≡ filled (S .family) (listAt S k) v)
+        unfolding rowRule rowAfter rowNo
+        list-row =
+            let l = lt-ltb k (length (S .sets)) lt in
+            let m = le-leb (length (listAt S k)) (length v) le in
+            (answerAs-one r (Granted (length (listAt S k))) (h .answer ∙ rw (d, l, m)), h .row ∙ rw (d, l, m))
+
+        pub list-length : length u ≡ length v
+        list-length = ap length (list-row .1) ∙ filled-length (S .family) (listAt S k) v le
+
+        pub list-entry : (i : ℕ) → i < length (listAt S k) → getD u i noNet ≡ netFrom (S .family) (getD (listAt S k) i [])
+        list-entry i less = rw (list-row .1) (filled-entry (S .family) (listAt S k) v i le less)
+
+        pub list-past : (i : ℕ) → length (listAt S k) ≤ i → getD u i noNet ≡ getD v i noNet
+        list-past i more = rw (list-row .1) (filled-past (S .family) (listAt S k) v i le more)

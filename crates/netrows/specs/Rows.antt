@@ -1,0 +1,43 @@
+-- The listing into a row of networks: its answer and the row that it leaves, as functions of the words.
+--
+--   netsOf f l           the networks of a list, by their numbers in the family f
+--   filled f l v         the row v, with the networks of l in its first entries
+--   rowNo, rowRule       the answer: 2 damaged, 3 no such set, 11 fewer entries than networks, else how many networks
+--   rowAfter             the row afterwards;  Listed: both, as the contract
+use mathlib.Core.Bool.{cond}
+use mathlib.Core.List.{List, _++_, map}
+use mathlib.Core.Path.{_≡_}
+use Prim.Native.Nat.{ℕ}
+use lib.Dec.{eqb, leb, ltb}
+use lib.ListN.{length, drop}
+use Rattle.nets.specs.Bits.{Bits}
+use Rattle.nets.specs.Networks.{netFrom}
+use Rattle.nets.specs.Refusals.{answered}
+use Rattle.nets.specs.declared.Net.{Net}
+use Rattle.pool.specs.States.{State}
+use Rattle.pool.specs.Decode.{Decoded, damaged, sound, decode}
+use Rattle.pool.specs.Rules.{answerAs}
+use Rattle.pool.specs.Changes.{listAt}
+use Rattle.pool.specs.declared.Answer.{Answer}
+
+abbrev pub netsOf : ℕ → List Bits → List Net
+netsOf f l = map (netFrom f) l
+
+abbrev pub filled : ℕ → List Bits → List Net → List Net
+filled f l v = netsOf f l ++ drop (length l) v
+
+unfoldable pub rowNo : State → ℕ → ℕ → ℕ
+rowNo S k n = cond (ltb k (length (S .sets))) (cond (leb (length (listAt S k)) n) 0 11) 3
+
+unfoldable pub rowRule : Decoded → ℕ → ℕ → ℕ × ℕ
+rowRule damaged k n = (2, 0)
+rowRule (sound S) k n = answered (rowNo S k n) 0 (length (listAt S k))
+
+unfoldable pub rowAfter : List Net → Decoded → ℕ → List Net
+rowAfter v damaged k = v
+rowAfter v (sound S) k = cond (eqb (rowNo S k (length v)) 0) (filled (S .family) (listAt S k) v) v
+
+-- from the words w and the row v list on set k answers r and leaves the row u
+pub record Listed (w : List ℕ) (k : ℕ) (v : List Net) (r : Answer) (u : List Net) : Type 0 where
+  pub answer : answerAs r ≡ rowRule (decode w) k (length v)
+  pub row : u ≡ rowAfter v (decode w) k

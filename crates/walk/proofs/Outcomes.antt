@@ -1,0 +1,70 @@
+-- The outcomes of nth, and those of a walk: each has one. On a sound pool the places of the list give its networks, in order, and behind them there is none. Assumes nothing.
+use mathlib.Core.Path.{_≡_, refl, sym, _∙_}
+use mathlib.Core.Bool.{Bool}
+use mathlib.Core.List.{List, [], _∷_}
+use Prim.Native.Nat.{ℕ, zero, suc, _≤_, _<_}
+use native.Mathlib.Omega.{arith}
+use denote.Ref.{RefT}
+use lib.ListN.{length, getD}
+use borrow.Author.Tests.{lt-ltb, le-ltb}
+use Rattle.nets.specs.Bits.{Bits}
+use Rattle.nets.specs.Lists.{found, missing}
+use Rattle.nets.specs.Networks.{netFrom}
+use Rattle.nets.specs.declared.Refusal.the-variants.{Damaged, NoSet}
+use Rattle.pool.specs.States.{State}
+use Rattle.pool.specs.Decode.{damaged, sound, decode}
+use Rattle.pool.specs.Changes.{listAt}
+use Rattle.listing.specs.Calls.{foundAs, followerAs}
+use Rattle.listing.specs.declared.Follower.{Follower}
+use Rattle.listing.specs.declared.Follower.the-variants.{Network, End, Refused}
+use Rattle.listing.proofs.Outcomes.{followerAs-one}
+use Rattle.walk.specs.Walks.{walkNo, walkFrom, walkOn}
+use Rattle.walk.specs.Places.{nthL, nthRule}
+use Rattle.walk.specs.declared.Walk.{Walk}
+
+-- A walk is determined: the one that is made, and what a step says and leaves.
+pub start-determined : (p : RefT (List ℕ)) (k : ℕ) (w v : Walk) → w ≡ walkFrom p k → v ≡ walkFrom p k → w ≡ v
+start-determined p k w v e f = e ∙ sym f
+
+abbrev Steps : Walk → Bool → Walk → Type 0
+Steps w r v = (r ≡ walkOn w .spot .more) × (v ≡ walkOn w)
+
+pub next-determined : (w v x : Walk) (r s : Bool) → Steps w r v → Steps w s x → (r ≡ s) × (v ≡ x)
+next-determined w v x r s e f = (e .0 ∙ sym (f .0), e .1 ∙ sym (f .1))
+
+-- The members of a list by their places.
+nthL-at : (l : List Bits) (i : ℕ) → i < length l → nthL l i ≡ found (getD l i [])
+unfolding nthL
+nthL-at [] i h = absurd (omega arith)
+nthL-at (p ∷ l) zero h = refl
+nthL-at (p ∷ l) (suc i) h = nthL-at l i (omega arith)
+
+nthL-past : (l : List Bits) (i : ℕ) → length l ≤ i → nthL l i ≡ missing
+unfolding nthL
+nthL-past [] i h = refl
+nthL-past (p ∷ l) zero h = absurd (omega arith)
+nthL-past (p ∷ l) (suc i) h = nthL-past l i (omega arith)
+
+pub nth-determined : (w : List ℕ) (k i : ℕ) (r s : Follower) → followerAs r ≡ nthRule (decode w) k i → followerAs s ≡ nthRule (decode w) k i → r ≡ s
+nth-determined w k i r s e f = followerAs-one r s (e ∙ sym f)
+
+module _ (w : List ℕ) (k i : ℕ) (r : Follower) (h : followerAs r ≡ nthRule (decode w) k i) where
+  pub nth-damaged : decode w ≡ damaged → r ≡ Refused Damaged
+  unfolding nthRule
+  nth-damaged d = followerAs-one r (Refused Damaged) (h ∙ rw d)
+
+  module _ (S : State) (d : decode w ≡ sound S) where
+    pub nth-noset : length (S .sets) ≤ k → r ≡ Refused NoSet
+    unfolding nthRule walkNo
+    nth-noset le = followerAs-one r (Refused NoSet) (h ∙ rw (d, le-ltb k (length (S .sets)) le))
+
+    module _ (lt : k < length (S .sets)) where
+      granted : followerAs r ≡ (0, foundAs (S .family) (nthL (listAt S k) i))
+      unfolding nthRule walkNo
+      granted = h ∙ rw (d, lt-ltb k (length (S .sets)) lt)
+
+      pub nth-is : i < length (listAt S k) → r ≡ Network (netFrom (S .family) (getD (listAt S k) i []))
+      nth-is less = followerAs-one r (Network (netFrom (S .family) (getD (listAt S k) i []))) (granted ∙ rw (nthL-at (listAt S k) i less))
+
+      pub nth-none : length (listAt S k) ≤ i → r ≡ End
+      nth-none le = followerAs-one r End (granted ∙ rw (nthL-past (listAt S k) i le))

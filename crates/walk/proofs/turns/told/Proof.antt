@@ -1,0 +1,13 @@
+-- `turns::told` meets its contract, each return by the tests on the way to it. Assumes nothing.
+use Rattle.walk.proofs.Reached.{told-damaged, told-noset, told-network, told-end}
+use Rattle.walk.proofs.turns.told.Statement.{statement}
+use Rattle.walk.proofs.turns.told.Tie as tie
+
+pub told-spec : {M : Type 1} → statement M
+told-spec =
+    tie.close
+    (tie.spec
+    (λ c i. let a = c .before .args in told-damaged (a .s) (a .no) (c .if1 .taken))
+    (λ c i. let a = c .before .before .args in told-noset (a .s) (a .no) (c .if2 .taken))
+    (λ c i. let e = c .before .before in let a = e .before .before .args in told-network (a .s) (a .no) (e .before .if1 .left) (e .if2 .left) i (c .if3 .taken))
+    (λ c i. let e = c .before .before in let a = e .before .before .args in told-end (a .s) (a .no) (e .before .if1 .left) (e .if2 .left) i (c .if3 .left)))

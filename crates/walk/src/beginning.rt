@@ -1,0 +1,31 @@
+// Where a walk begins.
+ghost use mathlib.Core.Path.{_≡_};
+ghost use Rattle.pool.specs.Decode.{decode};
+ghost use Rattle.walk.specs.Walks.{beginIn};
+use going::spots::Spot;
+use going::spots::before_all;
+use going::spots::nowhere;
+use listing::seats::Seated;
+use listing::seats::seat_of;
+
+pub struct Begun {
+    pub spot: Spot,
+    pub no: u8,
+}
+
+// Before the first network of a set, or nowhere with the number of the refusal.
+pub fn begin(pool: &[u32], set: u32) -> Begun
+    ensures { λ r. ⌜ r ≡ beginIn (decode (now (pool .entry))) set ⌝ }
+{
+    let seated = seat_of(pool, set);
+    match seated {
+        Seated::Refused(no) => Begun {
+            spot: before_all(nowhere()),
+            no: no.number(),
+        },
+        Seated::At(seat) => Begun {
+            spot: before_all(seat),
+            no: 0,
+        },
+    }
+}
