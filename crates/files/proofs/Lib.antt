@@ -1,0 +1,2 @@
+-- The laws of set files.
+pub mod Examples
