@@ -1,0 +1,2 @@
+-- Reading the networks of a file in address order.
+pub mod Flow
