@@ -1,5 +1,7 @@
--- The laws of set files: examples; the address order, and lists that rise in it; the laws that other crates cite, in one place.
+-- The laws of set files: examples; the address order, and lists that rise in it; the members of a trie in that order, and of each length; the laws that other crates cite, in one place.
 pub mod Examples
 pub mod AddressOrder
 pub mod Rising
+pub mod Flat
+pub mod Lengths
 pub mod Streams
