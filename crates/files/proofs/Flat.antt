@@ -16,7 +16,7 @@ use Rattle.files.specs.Streams.{flat, rising, ofLength}
 use Rattle.files.proofs.Rising.{Heads, Rise, rise-map, rise-append, rise-rising}
 
 -- the members of two halves, each with its bit in front
-abbrev halves : List Bits → List Bits → List Bits
+abbrev pub halves : List Bits → List Bits → List Bits
 halves l r = map (λ p. false ∷ p) l ++ map (λ p. true ∷ p) r
 
 -- The members are those of the trie.

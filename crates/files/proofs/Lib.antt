@@ -3,5 +3,6 @@ pub mod Examples
 pub mod AddressOrder
 pub mod Rising
 pub mod Flat
+pub mod PathNodes
 pub mod Lengths
 pub mod Streams

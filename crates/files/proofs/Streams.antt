@@ -2,4 +2,5 @@
 pub use Rattle.files.proofs.AddressOrder.{number, shared-leads, earlier-self, earlier-trans, earlier-total, earlier-not, earlier-equal, earlier-number}
 pub use Rattle.files.proofs.Rising.{rising-first, rising-tail}
 pub use Rattle.files.proofs.Flat.{member-flat, rising-flat, ofLength-flat}
+pub use Rattle.files.proofs.PathNodes.{pathNodes-flat}
 pub use Rattle.files.proofs.Lengths.{member-ofLength, ofLength-listOf}
