@@ -34,7 +34,7 @@ pub member-later : (q p : Bits) (l : List Bits) → member q l ≡ true → memb
 member-later q p l h = rw h (or-true (equal q p))
 
 -- From neighbours to all pairs and back.
-heads-cons : (p m : Bits) (l : List Bits) → earlier p m ≡ true → Heads m l → Heads p (m ∷ l)
+pub heads-cons : (p m : Bits) (l : List Bits) → earlier p m ≡ true → Heads m l → Heads p (m ∷ l)
 heads-cons p m l e h q k = go (member-cons q m l k)
   where
     go : (q ≡ m) ⊎ (member q l ≡ true) → earlier p q ≡ true

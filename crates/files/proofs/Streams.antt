@@ -4,3 +4,4 @@ pub use Rattle.files.proofs.Rising.{rising-first, rising-tail}
 pub use Rattle.files.proofs.Flat.{member-flat, rising-flat, ofLength-flat}
 pub use Rattle.files.proofs.PathNodes.{pathNodes-flat}
 pub use Rattle.files.proofs.Lengths.{member-ofLength, ofLength-listOf}
+pub use Rattle.files.proofs.Sorted.{member-order, rising-order, ofLength-order, loose-order, flat-order, nodes-order}
