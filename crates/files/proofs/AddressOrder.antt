@@ -7,25 +7,14 @@ use Prim.Native.Nat.{ℕ, zero, suc, _+_, _-_, _*_, _^_, _≤_, _<_}
 use native.Mathlib.Nat.{add-mul, zero-mul, mul-assoc}
 use native.Mathlib.Decide.{decLt}
 use native.Mathlib.Omega.{arith}
-use lib.Dec.{eqb, ltb, eqb·zero-suc, eqb·suc-suc}
+use lib.Dec.{eqb, ltb}
 use lib.ListN.{length}
 use lib.Pow.{pow-add, shl-lt}
 use borrow.Author.Tests.{ltb-true, lt-ltb, le-ltb, eq-eqb, ne-eqb}
 use Rattle.nets.specs.Bits.{Bits, leads, equal, digit, val}
-use Rattle.nets.proofs.Strings.{bool-iff, same-refl, equal-is, leads-head, leads-tail}
+use Rattle.nets.proofs.Strings.{bool-iff, same-refl, equal-is}
 use Rattle.nets.proofs.Order.{val-high}
-use Rattle.files.specs.Streams.{earlier, shared}
-
--- A string leads another where it shares all its bits with it.
-pub shared-leads : (p q : Bits) → leads p q ≡ eqb (shared p q) (length p)
-unfolding shared
-shared-leads [] q = refl
-shared-leads (b ∷ p) [] = sym (eqb·zero-suc (length p))
-shared-leads (b ∷ p) (c ∷ q) = go (same b c) (shared-leads p q)
-  where
-    go : (x : Bool) → leads p q ≡ eqb (shared p q) (length p) → (x && leads p q) ≡ eqb (cond x (suc (shared p q)) 0) (suc (length p))
-    go true ih = ih ∙ sym (eqb·suc-suc (shared p q) (length p))
-    go false ih = sym (eqb·zero-suc (length p))
+use Rattle.files.specs.Streams.{earlier}
 
 -- Irreflexive, transitive, total.
 pub earlier-self : (p : Bits) → earlier p p ≡ false

@@ -4,6 +4,7 @@ pub mod Bytes
 pub mod Written
 pub mod RoundTrip
 pub mod AddressOrder
+pub mod Shared
 pub mod Rising
 pub mod Flat
 pub mod PathNodes
