@@ -10,5 +10,6 @@ pub mod Flat
 pub mod PathNodes
 pub mod Lengths
 pub mod Sorted
+pub mod Lanes
 pub mod Streams
 pub mod Examples
