@@ -11,5 +11,6 @@ pub mod PathNodes
 pub mod Lengths
 pub mod Sorted
 pub mod Lanes
+pub mod FileOrder
 pub mod Streams
 pub mod Examples
