@@ -1,19 +1,18 @@
 -- A list by the lengths of its members, its lanes: what is left of each where the first member or the last is taken away, and that the first of a rising list is the least of the
 -- lanes' first ones. Assumes nothing.
-use mathlib.Core.Bool.{Bool, true, false, cond, _&&_, _||_, false≢true}
+use mathlib.Core.Bool.{true, _&&_, _||_}
 use mathlib.Core.List.{List, [], _∷_, _++_, append-nil}
 use mathlib.Core.Logic.{_⊎_, inl, inr}
 use mathlib.Core.Path.{_≡_, refl, ap, sym, _∙_}
-use Prim.Native.Nat.{ℕ, suc, _≤_, _<_}
-use native.Mathlib.Decide.{decLt}
+use Prim.Native.Nat.{ℕ, _≤_}
 use native.Mathlib.Omega.{arith}
 use lib.Dec.{eqb, ltb}
 use lib.ListN.{length}
-use borrow.Author.Tests.{eqb-true, eq-eqb, ne-eqb, ltb-true, le-ltb}
+use borrow.Author.Tests.{eqb-true, eq-eqb, ne-eqb, ltb-true}
 use Rattle.nets.specs.Bits.{Bits}
 use Rattle.nets.specs.Lists.{member}
 use Rattle.nets.proofs.Strings.{and-left, and-right, or-cases}
-use Rattle.files.specs.Streams.{earlier, rising, ofLength}
+use Rattle.files.specs.Streams.{rising, ofLength}
 use Rattle.files.proofs.AddressOrder.{number, earlier-number}
 use Rattle.files.proofs.Rising.{member-cons, member-first, rising-first}
 use Rattle.files.proofs.Flat.{keep-append}

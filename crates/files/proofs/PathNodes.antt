@@ -2,15 +2,15 @@
 -- the root with the first. And they are at most so many for each member as it has bits, and the root. Assumes nothing.
 use mathlib.Core.Bool.{Bool, true, false, cond, or-true, false≢true}
 use mathlib.Core.List.{List, [], _∷_, _++_, map}
-use mathlib.Core.Path.{_≡_, refl, ap, sym, _∙_}
-use Prim.Native.Nat.{ℕ, suc, _+_, _-_, _*_, _≤_}
+use mathlib.Core.Path.{_≡_, refl, sym, _∙_}
+use Prim.Native.Nat.{ℕ, _+_, _-_, _*_, _≤_}
 use native.Mathlib.Nat.{mul-suc}
 use native.Mathlib.Omega.{arith}
 use lib.Dec.{leb}
 use lib.ListN.{length}
 use borrow.Author.Tests.{leb-true}
 use Rattle.nets.specs.Bits.{Bits, equal}
-use Rattle.nets.specs.Tries.{Trie, none, node, bare, side, memberT, size}
+use Rattle.nets.specs.Tries.{Trie, none, node, bare, memberT, size}
 use Rattle.nets.specs.Lists.{member, within}
 use Rattle.nets.proofs.Strings.{and-left, and-right, same-refl}
 use Rattle.nets.proofs.Members.{anyOf-append}

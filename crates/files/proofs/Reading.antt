@@ -10,7 +10,7 @@ use lib.Dec.{eqb, leb}
 use lib.ListN.{length}
 use borrow.Author.Tests.{eqb-true, leb-true}
 use Rattle.nets.specs.Bits.{Bits}
-use Rattle.nets.specs.Lists.{ascending, apart, within, isList, nodesL}
+use Rattle.nets.specs.Lists.{ascending, apart, isList, nodesL}
 use Rattle.nets.specs.Networks.{width}
 use Rattle.nets.proofs.Strings.{and-left, and-right, and-both}
 use Rattle.nets.proofs.Numbers.{width-le}
