@@ -21,7 +21,7 @@ use Rattle.pool.specs.States.{isFamily}
 use Rattle.files.specs.Files.{addressBytes, entryAt, entryNet, isClean, areClean, networksIn}
 use Rattle.files.proofs.Bytes.{Bytes, bigEndian-lt}
 use Rattle.files.proofs.Written.{address-bytes}
-use Rattle.files.proofs.RoundTrip.{right, clean-length, clean-number, Bytes-drop}
+use Rattle.files.proofs.RoundTrip.{clean-right, clean-length, clean-number, Bytes-drop}
 use Rattle.files.proofs.AddressOrder.{number}
 use Rattle.files.proofs.Rising.{member-first, member-later}
 
@@ -125,7 +125,7 @@ module _ (d : List ℕ) (bytes : Bytes d) (f : ℕ) (family : isFamily f ≡ tru
 
   pub entry-right : refusalOf (entryNet f d i) ≡ 0
   unfolding entryNet
-  entry-right = right (entryNet f d i) family clean entry-low
+  entry-right = clean-right (entryNet f d i) family clean entry-low
 
   pub entry-length : length (networkAt f d i) ≡ entryNet f d i .len
   unfolding entryNet

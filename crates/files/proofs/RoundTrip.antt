@@ -84,17 +84,17 @@ module _ (n : Net) (family : isFamily (n .family) ≡ true) (clean : isClean n �
   unfolding isClean
   clean-zero = eqb-true (address n % 2 ^ (width (n .family) - n .len)) 0 (and-right (leb (n .len) (width (n .family))) (eqb (address n % 2 ^ (width (n .family) - n .len)) 0) clean)
 
-  pub right : refusalOf n ≡ 0
-  right = is-refusalOf n (record { family = family; len = clean-len; address = low })
+  pub clean-right : refusalOf n ≡ 0
+  clean-right = is-refusalOf n (record { family = family; len = clean-len; address = low })
 
   pub clean-length : length (netBits n) ≡ n .len
-  clean-length = length-netBits n right
+  clean-length = length-netBits n clean-right
 
   pub clean-number : val (netBits n) * 2 ^ (width (n .family) - length (netBits n)) ≡ address n
   unfolding cleared netFrom
   clean-number =
       let k = width (n .family) - n .len in
-      let q = ap address (cleared-number n right k (omega (arith, clean-len))) in
+      let q = ap address (cleared-number n clean-right k (omega (arith, clean-len))) in
       sym (split (val (netBits n) * 2 ^ (width (n .family) - length (netBits n))) 64) ∙ q ∙ split (address n / 2 ^ k * 2 ^ k) 64
       ∙ sym (add-zero (address n / 2 ^ k * 2 ^ k)) ∙ ap (λ x. address n / 2 ^ k * 2 ^ k + x) (sym clean-zero) ∙ split (address n) k
 
