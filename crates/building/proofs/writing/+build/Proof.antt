@@ -109,19 +109,19 @@ pub +build-spec : {M : Type 1} → statement M
     (λ c. search needs)
     (λ c q p t rest g.
     let k = first n (c .before .before .before .before .before .before .before .before .before .before .before .before) g in
-    rw (k .2) (first-done (k .4) (k .3) (c .before .before .before .before .before .before .before .before .before .build2 .ensures _ _ _ _ (first-due (k .4) (k .3))) (c .before .before .before .before .if3 .taken) (c .before .before .links2 .ensures)))
+    rw (k .2) (first-done (k .4) (k .3) (c .before .before .before .before .before .before .before .before .before .build2 .ensures _ _ _ _ (first-due (k .4) (k .3))) (omega (arith, c .before .before .before .before .if3 .taken)) (c .before .before .links2 .ensures)))
     (λ c. omega (arith, due-depth (due n (start n (c .before .before .before .before .before .before .before .before .before .before))) (c .before .before .before .before .before .before .before .before .before .before .before .if1 .left)))
     (λ c κs.
     let s = start n (c .before .before .before .before .before .before .before .before .before .before .before) in
     let k = first n (c .before .before .before .before .before .before .before .before .before .before) (due n s) in
     let y = c .before .before .before .before .before .before .before .build2 .ensures _ _ _ _ (first-due (k .4) (k .3)) in
-    (omega (arith, due-depth (due n s) (c .before .before .before .before .before .before .before .before .before .before .before .before .if1 .left), s .pre .0), (_, _, _, _, rest-due (k .4) (k .3) y (second-some (k .4) (k .3) y (c .before .before .if3 .left)))))
+    (omega (arith, due-depth (due n s) (c .before .before .before .before .before .before .before .before .before .before .before .before .if1 .left), s .pre .0), (_, _, _, _, rest-due (k .4) (k .3) y (second-some (k .4) (k .3) y (omega (arith, c .before .before .if3 .left))))))
     (λ c κs.
     let k = first n (c .before .before .before .before .before .before .before .before .before .before .before .before .before .before) (due n (start n (c .before .before .before .before .before .before .before .before .before .before .before .before .before .before .before))) in
     let y = c .before .before .before .before .before .before .before .before .before .before .before .build2 .ensures _ _ _ _ (first-due (k .4) (k .3)) in
-    both-links (k .4) (k .3) y (c .before .before .before .build3 .ensures _ _ _ _ (rest-due (k .4) (k .3) y (second-some (k .4) (k .3) y (c .before .before .before .before .before .before .if3 .left)))))
+    both-links (k .4) (k .3) y (c .before .before .before .build3 .ensures _ _ _ _ (rest-due (k .4) (k .3) y (second-some (k .4) (k .3) y (omega (arith, c .before .before .before .before .before .before .if3 .left))))))
     (λ c. search needs)
     (λ c q p t rest g.
     let k = first n (c .before .before .before .before .before .before .before .before .before .before .before .before .before .before .before .before .before) g in
     let y = c .before .before .before .before .before .before .before .before .before .before .before .before .before .before .build2 .ensures _ _ _ _ (first-due (k .4) (k .3)) in
-    rw (k .2) (both-done (k .4) (k .3) y (c .before .before .before .before .before .before .build3 .ensures _ _ _ _ (rest-due (k .4) (k .3) y (second-some (k .4) (k .3) y (c .before .before .before .before .before .before .before .before .before .if3 .left)))) (c .before .before .links3 .ensures)))
+    rw (k .2) (both-done (k .4) (k .3) y (c .before .before .before .before .before .before .build3 .ensures _ _ _ _ (rest-due (k .4) (k .3) y (second-some (k .4) (k .3) y (omega (arith, c .before .before .before .before .before .before .before .before .before .if3 .left))))) (c .before .before .links3 .ensures)))
