@@ -40,11 +40,11 @@ node-put w b o m e l r one em ee =
     rw (linked-is l r o m e em ee, put-behind-at w (place b (o + 1)) (place b m) (enc l) (enc r) (omega (arith, length-enc l)))
     (put-before-at w (place b o) (place b (o + 1)) (word l r ∷ []) (enc l ++ enc r) (omega arith))
 
-none-of : (t : Trie) → (isNone t ≡ false → ⊥) → t ≡ none
+pub none-of : (t : Trie) → (isNone t ≡ false → ⊥) → t ≡ none
 none-of none f = refl
 none-of (node l r) f = absurd (f refl)
 
-some-of : (t : Trie) → (t ≡ none → ⊥) → isNone t ≡ false
+pub some-of : (t : Trie) → (t ≡ none → ⊥) → isNone t ≡ false
 some-of none f = absurd (f refl)
 some-of (node l r) f = refl
 

@@ -27,6 +27,15 @@ pub under-node : (p : Bits) (l r : Trie) → bare l r ≡ false → under p (nod
 unfolding under flat
 under-node p l r e = rw e (map-node p (flat l) (flat r))
 
+-- Those of a whole trie.
+map-self : (l : List Bits) → map (λ q. [] ++ q) l ++ [] ≡ l
+map-self [] = refl
+map-self (q ∷ l) = ap (λ m. q ∷ m) (map-self l)
+
+pub under-root : (t : Trie) → under [] t ++ [] ≡ flat t
+unfolding under
+under-root t = map-self (flat t)
+
 -- The first of them, behind the path.
 pub data First : Trie → Bits → Type 0 where
   here : First leaf []
