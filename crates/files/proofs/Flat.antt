@@ -68,7 +68,7 @@ pub rising-flat : (t : Trie) → rising (flat t) ≡ true
 rising-flat t = rise-rising (flat t) (rise-flat t)
 
 -- Those of k bits are the level k.
-keep-append : (f : Bits → Bool) (l m : List Bits) → keep f (l ++ m) ≡ keep f l ++ keep f m
+pub keep-append : (f : Bits → Bool) (l m : List Bits) → keep f (l ++ m) ≡ keep f l ++ keep f m
 keep-append f [] m = refl
 keep-append f (p ∷ l) m = go (f p) (keep-append f l m)
   where

@@ -1,15 +1,18 @@
 -- The nodes on the paths to the members of a trie, counted in address order, are the nodes of the trie: a bit in front of all adds one node, and the second half shares none but
--- the root with the first. Assumes nothing.
+-- the root with the first. And they are at most so many for each member as it has bits, and the root. Assumes nothing.
 use mathlib.Core.Bool.{Bool, true, false, cond, or-true, false≢true}
 use mathlib.Core.List.{List, [], _∷_, _++_, map}
-use mathlib.Core.Path.{_≡_, refl, ap, sym, _∙_}
-use Prim.Native.Nat.{ℕ, suc, _+_, _-_}
+use mathlib.Core.Path.{_≡_, refl, sym, _∙_}
+use Prim.Native.Nat.{ℕ, _+_, _-_, _*_, _≤_}
+use native.Mathlib.Nat.{mul-suc}
 use native.Mathlib.Omega.{arith}
+use lib.Dec.{leb}
 use lib.ListN.{length}
+use borrow.Author.Tests.{leb-true}
 use Rattle.nets.specs.Bits.{Bits, equal}
-use Rattle.nets.specs.Tries.{Trie, none, node, bare, side, memberT, size}
-use Rattle.nets.specs.Lists.{member}
-use Rattle.nets.proofs.Strings.{same-refl}
+use Rattle.nets.specs.Tries.{Trie, none, node, bare, memberT, size}
+use Rattle.nets.specs.Lists.{member, within}
+use Rattle.nets.proofs.Strings.{and-left, and-right, same-refl}
 use Rattle.nets.proofs.Members.{anyOf-append}
 use Rattle.nets.proofs.Listing.{bare-none, some-leaf}
 use Rattle.files.specs.Streams.{flat, shared, moreNodes, pathNodes}
@@ -49,3 +52,18 @@ pathNodes-flat (node l r) = go (bare l r) refl (pathNodes-flat l) (pathNodes-fla
     go : (x : Bool) → bare l r ≡ x → pathNodes (flat l) ≡ size l → pathNodes (flat r) ≡ size r → pathNodes (cond x ([] ∷ []) (halves (flat l) (flat r))) ≡ 1 + size l + size r
     go true e i j = let h = bare-none l r e in rw (h .0, h .1)
     go false e i j = let s = some-below l r e in omega (arith, pathNodes-halves (s .0) (flat l) (flat r) (s .1))
+
+-- No member adds more nodes than it has bits.
+pub moreNodes-few : (w : ℕ) (p : Bits) (l : List Bits) → within w l ≡ true → moreNodes p l ≤ w * length l
+unfolding moreNodes
+moreNodes-few w p [] e = omega arith
+moreNodes-few w p (q ∷ l) e =
+    let h = leb-true (length q) w (and-left (leb (length q) w) (within w l) e) in
+    rw (mul-suc w (length l)) (omega (arith, moreNodes-few w q l (and-right (leb (length q) w) (within w l) e)))
+
+pub pathNodes-few : (w : ℕ) (l : List Bits) → within w l ≡ true → pathNodes l ≤ 1 + w * length l
+unfolding pathNodes
+pathNodes-few w [] e = omega arith
+pathNodes-few w (q ∷ l) e =
+    let h = leb-true (length q) w (and-left (leb (length q) w) (within w l) e) in
+    rw (mul-suc w (length l)) (omega (arith, moreNodes-few w q l (and-right (leb (length q) w) (within w l) e)))

@@ -6,9 +6,11 @@ use mathlib.Core.Logic.{_⊎_, inl, inr}
 use mathlib.Core.Path.{_≡_, refl, ap, sym, _∙_}
 use Prim.Native.Nat.{ℕ, suc}
 use native.Mathlib.Omega.{arith}
+use lib.Dec.{leb}
+use lib.ListN.{length}
 use Rattle.nets.specs.Bits.{Bits, leads, equal}
 use Rattle.nets.specs.Tries.{trieOf}
-use Rattle.nets.specs.Lists.{anyOf, member, covers, leadsAny, ascending, apart, isList, nodesL}
+use Rattle.nets.specs.Lists.{anyOf, member, covers, leadsAny, ascending, apart, within, isList, nodesL}
 use Rattle.nets.proofs.Order.{key, From, ascending-from, from-not}
 use Rattle.nets.proofs.Members.{anyOf-out}
 use Rattle.nets.proofs.Listing.{member-listOf}
@@ -42,6 +44,39 @@ anyOf-order f (n ∷ l) = anyOf-put f n (inAddressOrder l) ∙ ap (λ z. f n || 
 
 pub member-order : (q : Bits) (l : List Bits) → member q (inAddressOrder l) ≡ member q l
 member-order q l = anyOf-order (equal q) l
+
+-- Their number, and their lengths.
+length-put : (n : Bits) (l : List Bits) → length (putInOrder n l) ≡ suc (length l)
+unfolding putInOrder
+length-put n [] = refl
+length-put n (m ∷ l) = go (earlier n m) (length-put n l)
+  where
+    go : (x : Bool) → length (putInOrder n l) ≡ suc (length l) → length (cond x (n ∷ m ∷ l) (m ∷ putInOrder n l)) ≡ suc (suc (length l))
+    go true ih = refl
+    go false ih = ap suc ih
+
+pub length-order : (l : List Bits) → length (inAddressOrder l) ≡ length l
+unfolding inAddressOrder
+length-order [] = refl
+length-order (n ∷ l) = length-put n (inAddressOrder l) ∙ ap suc (length-order l)
+
+and-swap : (x y z : Bool) → (x && (y && z)) ≡ (y && (x && z))
+and-swap true y z = refl
+and-swap false y z = sym (and-false y)
+
+within-put : (w : ℕ) (n : Bits) (l : List Bits) → within w (putInOrder n l) ≡ within w (n ∷ l)
+unfolding putInOrder
+within-put w n [] = refl
+within-put w n (m ∷ l) = go (earlier n m) (within-put w n l)
+  where
+    go : (x : Bool) → within w (putInOrder n l) ≡ within w (n ∷ l) → within w (cond x (n ∷ m ∷ l) (m ∷ putInOrder n l)) ≡ within w (n ∷ m ∷ l)
+    go true ih = refl
+    go false ih = ap (λ z. leb (length m) w && z) ih ∙ and-swap (leb (length m) w) (leb (length n) w) (within w l)
+
+pub within-order : (w : ℕ) (l : List Bits) → within w (inAddressOrder l) ≡ within w l
+unfolding inAddressOrder
+within-order w [] = refl
+within-order w (n ∷ l) = within-put w n (inAddressOrder l) ∙ ap (λ z. leb (length n) w && z) (within-order w l)
 
 -- It rises, where no member comes twice.
 heads-put : (m n : Bits) (l : List Bits) → earlier m n ≡ true → Heads m l → Heads m (putInOrder n l)
@@ -128,11 +163,7 @@ apart-swap true false c d true f g = refl
 apart-swap true false c d false f g = refl
 apart-swap false true true d e f g = refl
 apart-swap false true false d e f g = refl
-apart-swap false false c d e f g = swap (not (c || d)) (not (e || f))
-  where
-    swap : (x y : Bool) → (x && (y && g)) ≡ (y && (x && g))
-    swap true y = refl
-    swap false y = sym (and-false y)
+apart-swap false false c d e f g = and-swap (not (c || d)) (not (e || f)) g
 
 apart-put : (n : Bits) (l : List Bits) → apart (putInOrder n l) ≡ apart (n ∷ l)
 unfolding putInOrder
