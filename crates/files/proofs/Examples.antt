@@ -1,4 +1,5 @@
--- A file by hand: 10.0.0.0/8 and 192.168.0.0/23; and one that is cut off.
+-- A file by hand: 10.0.0.0/8 and 192.168.0.0/23; and one that is cut off. The list 1, 00, 011 in address order is 00, 011, 1, and has six nodes.
+use mathlib.Core.Bool.{true, false}
 use mathlib.Core.Path.{_≡_, refl}
 use mathlib.Core.List.{List, [], _∷_}
 use Prim.Native.Nat.{ℕ}
@@ -6,6 +7,7 @@ use Rattle.nets.specs.Bits.{Bits, bits, before}
 use Rattle.nets.specs.Lists as lists
 use Rattle.nets.specs.Networks.{width, netBits, netWords, bigEndian}
 use Rattle.files.specs.Files.{bytesOf, entryBytes, fileBytes, entryOf, entriesOf, headerOf, fileOf, headNumber, entryNet, isClean, areClean, networksIn, isFileHeader, areEntries, readFile, file, broken}
+use Rattle.files.specs.Streams.{putInOrder, inAddressOrder, shared, moreNodes, pathNodes}
 
 abbrev ten : Bits
 ten = netBits (netWords 4 0 167772160 8)
@@ -27,3 +29,14 @@ reads = refl
 pub cut : readFile (0 ∷ 0 ∷ 0 ∷ 4 ∷ []) ≡ broken
 unfolding readFile isFileHeader headNumber bigEndian
 cut = refl
+
+abbrev walked : List Bits
+walked = (false ∷ false ∷ []) ∷ (false ∷ true ∷ true ∷ []) ∷ (true ∷ []) ∷ []
+
+pub in-order : inAddressOrder ((true ∷ []) ∷ (false ∷ false ∷ []) ∷ (false ∷ true ∷ true ∷ []) ∷ []) ≡ walked
+unfolding inAddressOrder putInOrder
+in-order = refl
+
+pub six-nodes : pathNodes walked ≡ 6
+unfolding pathNodes moreNodes shared
+six-nodes = refl

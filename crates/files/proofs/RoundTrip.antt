@@ -33,7 +33,7 @@ pub record IsFile (d : List ℕ) (f : ℕ) (l : List Bits) : Type 0 where
   pub clean : areClean f d 0 (length l) ≡ true
   pub networks : networksIn f d 0 (length l) ≡ l
 
-length-networksIn : (f : ℕ) (d : List ℕ) (i k : ℕ) → length (networksIn f d i k) ≡ k
+pub length-networksIn : (f : ℕ) (d : List ℕ) (i k : ℕ) → length (networksIn f d i k) ≡ k
 unfolding networksIn
 length-networksIn f d i zero = refl
 length-networksIn f d i (suc k) = ap suc (length-networksIn f d (suc i) k)
@@ -76,7 +76,7 @@ readFile-is d f l e =
 
 -- A clean entry is that of its network.
 module _ (n : Net) (family : isFamily (n .family) ≡ true) (clean : isClean n ≡ true) (low : address n < 2 ^ width (n .family)) where
-  clean-len : n .len ≤ width (n .family)
+  pub clean-len : n .len ≤ width (n .family)
   unfolding isClean
   clean-len = leb-true (n .len) (width (n .family)) (and-left (leb (n .len) (width (n .family))) (eqb (address n % 2 ^ (width (n .family) - n .len)) 0) clean)
 
@@ -84,21 +84,21 @@ module _ (n : Net) (family : isFamily (n .family) ≡ true) (clean : isClean n �
   unfolding isClean
   clean-zero = eqb-true (address n % 2 ^ (width (n .family) - n .len)) 0 (and-right (leb (n .len) (width (n .family))) (eqb (address n % 2 ^ (width (n .family) - n .len)) 0) clean)
 
-  right : refusalOf n ≡ 0
-  right = is-refusalOf n (record { family = family; len = clean-len; address = low })
+  pub clean-right : refusalOf n ≡ 0
+  clean-right = is-refusalOf n (record { family = family; len = clean-len; address = low })
 
-  clean-length : length (netBits n) ≡ n .len
-  clean-length = length-netBits n right
+  pub clean-length : length (netBits n) ≡ n .len
+  clean-length = length-netBits n clean-right
 
-  clean-number : val (netBits n) * 2 ^ (width (n .family) - length (netBits n)) ≡ address n
+  pub clean-number : val (netBits n) * 2 ^ (width (n .family) - length (netBits n)) ≡ address n
   unfolding cleared netFrom
   clean-number =
       let k = width (n .family) - n .len in
-      let q = ap address (cleared-number n right k (omega (arith, clean-len))) in
+      let q = ap address (cleared-number n clean-right k (omega (arith, clean-len))) in
       sym (split (val (netBits n) * 2 ^ (width (n .family) - length (netBits n))) 64) ∙ q ∙ split (address n / 2 ^ k * 2 ^ k) 64
       ∙ sym (add-zero (address n / 2 ^ k * 2 ^ k)) ∙ ap (λ x. address n / 2 ^ k * 2 ^ k + x) (sym clean-zero) ∙ split (address n) k
 
-Bytes-drop : (n : ℕ) (d : List ℕ) → Bytes d → Bytes (drop n d)
+pub Bytes-drop : (n : ℕ) (d : List ℕ) → Bytes d → Bytes (drop n d)
 Bytes-drop n d h i = rw (getD-drop n d i 0) (h (n + i))
 
 take-more : (k : ℕ) (xs : List ℕ) → k < length xs → take (k + 1) xs ≡ take k xs ++ (getD xs k 0 ∷ [])
