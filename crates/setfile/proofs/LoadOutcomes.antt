@@ -18,15 +18,14 @@ use Rattle.nets.proofs.Answers.{number-some}
 use Rattle.pool.specs.States.{State, roomOf}
 use Rattle.pool.specs.Decode.{damaged, sound, decode}
 use Rattle.pool.specs.Rules.{surveyOf}
-use Rattle.pool.specs.Changes.{setAt, listAt, withList, changeNo, changeRule}
+use Rattle.pool.specs.Changes.{setAt, listAt, isEmpty, withList, changeNo, changeRule}
 use Rattle.pool.specs.declared.Answer.{Answer}
 use Rattle.pool.specs.declared.Answer.the-variants as answer
 use Rattle.pool.proofs.Decoded.{decode-header}
 use Rattle.pool.proofs.Seen.{Seen, survey-seen}
 use Rattle.pool.proofs.Determined.{answerAs-one, changed-one}
 use Rattle.pool.proofs.Returns.{changed, change-damaged, change-noset, change-args, change-judged}
-use Rattle.change.proofs.Outcomes.{Leaves, changed-leaves}
-use Rattle.combine.specs.Rules.{isEmpty}
+use Rattle.pool.proofs.Leaves.{Leaves, changed-leaves}
 use Rattle.files.specs.Files.{File, broken, file, readFile}
 use Rattle.files.proofs.RoundTrip.{readFile-is}
 use Rattle.setfile.specs.Calls.{fileAt, Saved}

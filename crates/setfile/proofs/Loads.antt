@@ -18,17 +18,15 @@ use Rattle.nodes.specs.Words.{enc}
 use Rattle.pool.specs.States.{State, roomOf}
 use Rattle.pool.specs.Decode.{sound, decode}
 use Rattle.pool.specs.Rules.{answerAs, surveyOf}
-use Rattle.pool.specs.Changes.{listAt, changeNo}
+use Rattle.pool.specs.Changes.{listAt, isEmpty, changeNo}
 use Rattle.pool.specs.Steps.{relinked, Relink}
 use Rattle.pool.specs.declared.Answer.{Answer}
 use Rattle.pool.specs.declared.Survey.{Survey}
 use Rattle.pool.proofs.Decoded.{decode-header}
-use Rattle.pool.proofs.Seen.{Seen, behind, survey-sound, survey-seen, seen, seen-figures}
+use Rattle.pool.proofs.Seen.{Seen, behind, survey-sound, survey-seen, seen, seen-figures, seen-empty, seen-some}
 use Rattle.pool.proofs.Judged.{judge-zero, changeNo-granted}
 use Rattle.pool.proofs.Changed.{withTrie, behind-first, relink-asks, gap-asks}
 use Rattle.pool.proofs.Returns.{changed, change-damaged, change-noset, change-args, change-judged, change-granted}
-use Rattle.combine.specs.Rules.{isEmpty}
-use Rattle.combine.proofs.Sources.{seen-empty, seen-some}
 use Rattle.files.specs.Files.{File, broken, file, readFile}
 use Rattle.merging.specs.Flow.{checkedOf}
 use Rattle.merging.specs.declared.Checked.{Checked}

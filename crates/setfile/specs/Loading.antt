@@ -9,9 +9,8 @@ use Prim.Native.Nat.{ℕ}
 use lib.Dec.{eqb}
 use Rattle.nets.specs.Bits.{Bits}
 use Rattle.pool.specs.States.{State}
-use Rattle.pool.specs.Changes.{listAt, Changed}
+use Rattle.pool.specs.Changes.{listAt, isEmpty, Changed}
 use Rattle.pool.specs.declared.Answer.{Answer}
-use Rattle.combine.specs.Rules.{isEmpty}
 use Rattle.files.specs.Files.{File, broken, file, readFile}
 
 unfoldable pub loadNo : File → ℕ → State → ℕ

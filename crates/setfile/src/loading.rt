@@ -1,7 +1,5 @@
 // Loading: the file is read twice, first to judge it as a whole, before anything is written, and then to write the trie of its list into a gap of just its nodes.
 use building::writing::build;
-use change::calling::granted;
-use change::calling::too_many;
 use merging::CURSORS;
 use merging::Checked;
 use merging::check;
@@ -13,6 +11,8 @@ use pool::checking::HEAD;
 use pool::checking::RECORD;
 use pool::checking::survey;
 use pool::judging::judge;
+use pool::judging::too_many;
+use pool::relinking::granted;
 use pool::relinking::shift_behind;
 ghost use mathlib.Core.Path.{_≡_};
 ghost use mathlib.Core.List.{List};
