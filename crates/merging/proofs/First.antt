@@ -14,7 +14,7 @@ use Rattle.merging.specs.Lanes.{laneAt, lanesOf, hereOf, Least}
 use Rattle.merging.specs.Flow.{headAs, Stream, Behind, Flow}
 use Rattle.merging.specs.declared.lanes.Lane.{Lane}
 use Rattle.merging.proofs.Cursors.{laneAt-set, lanesOf-here, hereOf-here}
-use Rattle.merging.proofs.Onwards.{first-short, first-net, least-first, least-none}
+use Rattle.merging.proofs.Onwards.{first-short, first-net, least-first, least-nothing}
 
 -- The lanes stay where the head's lane is noted.
 stream-here : {d : List ℕ} {f : ℕ} {c : List ℕ} {ms : List Bits} (r : ℕ) → Stream d f c ms → Stream d f (set c 646 r) ms
@@ -61,7 +61,7 @@ module _ {d : List ℕ} {f : ℕ} {c : List ℕ} {last : Net} {q : Bits} {r : �
   head-none (m ∷ ms) s l e = absurd (omega (arith, least-first (s .stream .entries) (s .stream .lanes) (s .stream .rises) l .0))
 
   pub finds : (ms : List Bits) → Behind d f c last q ms → Least c (lanesOf c) (lanesOf c) r → (r ≡ lanesOf c → ⊥) → Finds f c r ms
-  finds [] s l n = absurd (n (least-none (s .stream .entries) (s .stream .lanes) l))
+  finds [] s l n = absurd (n (least-nothing (s .stream .entries) (s .stream .lanes) l))
   finds (m ∷ ms) s l n =
       let e = s .stream .entries in
       let o = s .stream .lanes in

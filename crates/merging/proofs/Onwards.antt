@@ -48,7 +48,7 @@ module _ {d : List ℕ} {f n : ℕ} {q : Bits} {ms : List Bits} {x : Lane} (e : 
 module _ {d : List ℕ} {f n : ℕ} {c : List ℕ} {q : Bits} {ms : List Bits} {r : ℕ} (e : Entries d f n) (o : Lanes d f n c (q ∷ ms)) (up : rising (q ∷ ms) ≡ true)
     (l : Least c (lanesOf c) (lanesOf c) r)
   where
-    -- lane j, which has q, is no longer than the least lane where both stand at one place
+    -- the least lane is no longer than another that stands at the same place
     no-longer : (j : ℕ) → j < lanesOf c → Live (laneAt c j) → placeOf (laneAt c r) ≡ placeOf (laneAt c j) → laneAt c r .len ≤ laneAt c j .len
     no-longer j i h z = go (ℕ-discrete j r) (decLt j r)
       where
@@ -74,8 +74,8 @@ module _ {d : List ℕ} {f n : ℕ} {c : List ℕ} {q : Bits} {ms : List Bits} {
         (λ z. omega (arith, s .1, k .2, no-longer j (k .1) (h .0) (omega arith))) in
         (b, sym (s .1) ∙ ap length same)
 
-pub least-none : {d : List ℕ} {f n : ℕ} {c : List ℕ} {r : ℕ} → Entries d f n → Lanes d f n c [] → Least c (lanesOf c) (lanesOf c) r → r ≡ lanesOf c
-least-none {d} {f} {n} {c} {r} e o l = go (decLt r (lanesOf c))
+pub least-nothing : {d : List ℕ} {f n : ℕ} {c : List ℕ} {r : ℕ} → Entries d f n → Lanes d f n c [] → Least c (lanesOf c) (lanesOf c) r → r ≡ lanesOf c
+least-nothing {d} {f} {n} {c} {r} e o l = go (decLt r (lanesOf c))
   where
     go : Dec (r < lanesOf c) → r ≡ lanesOf c
     go (yes b) = let t : [] ≡ _ = run-live e (o .runs r b) (l .live b) in let z : _≡_ {A = ℕ} 0 1 = cc in absurd (omega arith)
