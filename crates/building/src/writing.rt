@@ -8,7 +8,7 @@ ghost use Rattle.building.specs.Building.{Due, Writes};
 use crate::bits::bit_at;
 use merging::CURSORS;
 use merging::Head;
-use merging::advance;
+use merging::flowing::advance;
 use nodes::writing;
 
 // Where a trie ends that was written, and the network behind it.

@@ -6,7 +6,8 @@ use Rattle.pool.specs.declared.Answer.{Answer}
 use Rattle.change.specs.Calls.{Added, Removed}
 use Rattle.change.specs.Simplified.{Simplifies}
 use Rattle.combine.specs.Rules.{Merged, Intersected, Excluded}
-use Rattle.histories.specs.Calls.{add, remove, simplify, merge, intersect, exclude, Outcome}
+use Rattle.setfile.specs.Loading.{Loaded}
+use Rattle.histories.specs.Calls.{add, remove, simplify, merge, intersect, exclude, load, Outcome}
 
 module _ {w v : List ℕ} {r : Answer} (k : ℕ) where
   pub added : (n : Net) → Added w k n r v → Outcome w (add k n) r v
@@ -26,3 +27,6 @@ module _ {w v : List ℕ} {r : Answer} (k : ℕ) where
 
   pub excluded : (a b : ℕ) → Excluded w k a b r v → Outcome w (exclude k a b) r v
   excluded a b h = h
+
+  pub loaded : (d : List ℕ) → Loaded w k d r v → Outcome w (load k d) r v
+  loaded d h = h

@@ -28,7 +28,10 @@ use Rattle.pool.proofs.Decoded.{decode-state}
 use Rattle.pool.proofs.Judged.{Granted, changeNo-granted}
 use Rattle.pool.proofs.Leaves.{after-cases, after-other, after-plan, changed-leaves, netNo-within}
 use Rattle.combine.specs.Rules.{combineNo}
-use Rattle.histories.specs.Calls.{Call, add, remove, simplify, merge, intersect, exclude, target, namesOne, argsNo, resultOf, callNo, answerOf, stateAfter, Outcome}
+use Rattle.files.specs.Files.{File, broken, file, readFile}
+use Rattle.setfile.specs.Loading.{loadNo, fileList}
+use Rattle.setfile.proofs.LoadOutcomes.{isList-load}
+use Rattle.histories.specs.Calls.{Call, add, remove, simplify, merge, intersect, exclude, load, target, namesOne, argsNo, resultOf, callNo, answerOf, stateAfter, Outcome}
 
 within-listAt : (S : State) (k : ℕ) → isState S ≡ true → within (width (S .family)) (listAt S k) ≡ true
 within-listAt S k e = isList-within (width (S .family)) (listAt S k) (isList-listAt S k e)
@@ -50,6 +53,13 @@ combineNo-few to a b S =
     let y = cond-few 8 (isEmpty (listAt S to)) 0 8 (omega arith) (omega arith) in
     cond-few 8 (ltb a (length (S .sets)) && ltb b (length (S .sets))) (cond (isEmpty (listAt S to)) 0 8) 3 y (omega arith)
 
+loadNo-few : (x : File) (k : ℕ) (S : State) → loadNo x k S ≤ 8
+unfolding loadNo
+loadNo-few broken k S = omega arith
+loadNo-few (file f l) k S =
+    let y = cond-few 8 (isEmpty (listAt S k)) 0 8 (omega arith) (omega arith) in
+    cond-few 8 (eqb f (S .family)) (cond (isEmpty (listAt S k)) 0 8) 6 y (omega arith)
+
 argsNo-few : (c : Call) (S : State) → argsNo c S ≤ 8
 argsNo-few (add k n) S = netNo-few n S
 argsNo-few (remove k n) S = netNo-few n S
@@ -57,6 +67,7 @@ argsNo-few (simplify k) S = omega arith
 argsNo-few (merge to a b) S = combineNo-few to a b S
 argsNo-few (intersect to a b) S = combineNo-few to a b S
 argsNo-few (exclude to a b) S = combineNo-few to a b S
+argsNo-few (load k d) S = loadNo-few (readFile d) k S
 
 -- Its result.
 isList-resultOf : (c : Call) (S : State) → isState S ≡ true → argsNo c S ≡ 0 → isList (width (S .family)) (resultOf c S) ≡ true
@@ -66,6 +77,7 @@ isList-resultOf (simplify k) S e a = isList-simplify (width (S .family)) (listAt
 isList-resultOf (merge to x y) S e a = isList-merge (width (S .family)) (listAt S x) (listAt S y) (within-listAt S x e) (within-listAt S y e)
 isList-resultOf (intersect to x y) S e a = isList-intersect (width (S .family)) (listAt S x) (listAt S y) (within-listAt S x e) (within-listAt S y e)
 isList-resultOf (exclude to x y) S e a = isList-exclude (width (S .family)) (listAt S x) (listAt S y) (isList-listAt S x e) (isList-listAt S y e)
+isList-resultOf (load k d) S e a = isList-load d k S a
 
 -- Two states that agree on a set.
 pub record SameAt (k : ℕ) (S T : State) : Type 0 where
@@ -79,6 +91,11 @@ sameAt-list h = ap (λ (s : SetState). s .list) (h .set)
 netNo-same : (n : Net) (k : ℕ) (S T : State) → SameAt k S T → netNo n S ≡ netNo n T
 unfolding netNo
 netNo-same n k S T h = rw (h .family)
+
+loadNo-same : (x : File) (k : ℕ) (S T : State) → SameAt k S T → loadNo x k S ≡ loadNo x k T
+unfolding loadNo
+loadNo-same broken k S T h = refl
+loadNo-same (file f l) k S T h = rw (h .family, sameAt-list h)
 
 combine-same : (L : List Bits → List Bits → List Bits) (to a b : ℕ) (S T : State) → (eqb a to && eqb b to) ≡ true → SameAt to S T
     → (combineNo to a b S ≡ combineNo to a b T) × (L (listAt S a) (listAt S b) ≡ L (listAt T a) (listAt T b))
@@ -95,6 +112,7 @@ call-same (simplify k) S T e h = (refl, rw (sameAt-list h))
 call-same (merge to a b) S T e h = combine-same mergeL to a b S T e h
 call-same (intersect to a b) S T e h = combine-same intersectL to a b S T e h
 call-same (exclude to a b) S T e h = combine-same excludeL to a b S T e h
+call-same (load k d) S T e h = (loadNo-same (readFile d) k S T h, refl)
 
 -- A result within the share is judged by its limit alone.
 pub changeNo-share : (S : State) (k a : ℕ) (l : List Bits) → isState S ≡ true → (a ≡ 0 → nodesL l ≤ setAt S k .share)

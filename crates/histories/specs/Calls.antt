@@ -19,12 +19,15 @@ use Rattle.pool.specs.States.{State}
 use Rattle.pool.specs.Changes.{listAt, withList, changeNo, Changed, netNo}
 use Rattle.pool.specs.declared.Answer.{Answer}
 use Rattle.combine.specs.Rules.{combineNo}
+use Rattle.files.specs.Files.{readFile}
+use Rattle.setfile.specs.Loading.{loadNo, fileList}
 
--- a set and a network; a set; the set to write and the two to read
+-- a set and a network; a set; the set to write and the two to read; a set and the bytes of a file
 pub data Call : Type 0 where
   add remove : ℕ → Net → Call
   simplify : ℕ → Call
   merge intersect exclude : ℕ → ℕ → ℕ → Call
+  load : ℕ → List ℕ → Call
 
 abbrev pub target : Call → ℕ
 target (add k n) = k
@@ -33,6 +36,7 @@ target (simplify k) = k
 target (merge to a b) = to
 target (intersect to a b) = to
 target (exclude to a b) = to
+target (load k d) = k
 
 abbrev pub namesOne : Call → Bool
 namesOne (add k n) = true
@@ -41,6 +45,7 @@ namesOne (simplify k) = true
 namesOne (merge to a b) = eqb a to && eqb b to
 namesOne (intersect to a b) = eqb a to && eqb b to
 namesOne (exclude to a b) = eqb a to && eqb b to
+namesOne (load k d) = true
 
 abbrev pub argsNo : Call → State → ℕ
 argsNo (add k n) = netNo n
@@ -49,6 +54,7 @@ argsNo (simplify k) = λ S. 0
 argsNo (merge to a b) = combineNo to a b
 argsNo (intersect to a b) = combineNo to a b
 argsNo (exclude to a b) = combineNo to a b
+argsNo (load k d) = loadNo (readFile d) k
 
 abbrev pub resultOf : Call → State → List Bits
 resultOf (add k n) = λ S. addL (listAt S k) (netBits n)
@@ -57,6 +63,7 @@ resultOf (simplify k) = λ S. simplifyL (listAt S k)
 resultOf (merge to a b) = λ S. mergeL (listAt S a) (listAt S b)
 resultOf (intersect to a b) = λ S. intersectL (listAt S a) (listAt S b)
 resultOf (exclude to a b) = λ S. excludeL (listAt S a) (listAt S b)
+resultOf (load k d) = λ S. fileList (readFile d)
 
 abbrev pub callNo : State → Call → ℕ
 callNo S c = changeNo S (target c) (argsNo c S) (resultOf c S)

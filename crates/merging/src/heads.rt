@@ -18,6 +18,7 @@ use crate::lanes::least;
 use crate::lanes::put_lane;
 use crate::lining::line_up;
 use crate::sharing::shared;
+use entries::reading;
 use nets::Net;
 
 // The lane behind its next entry.
@@ -35,7 +36,7 @@ fn onward(bytes: &[u8], family: u8, x: Lane) -> Lane
             len: x.len,
         };
     }
-    let e = entries::entry(bytes, family, next as usize);
+    let e = reading::entry(bytes, family, next as usize);
     Lane {
         next,
         end: x.end,

@@ -8,6 +8,7 @@ use crate::lanes::LANES;
 use crate::lanes::Lane;
 use crate::lanes::lane_at;
 use crate::lanes::put_lane;
+use entries::reading;
 use nets::Net;
 
 // Whether the last lane has entries of this length.
@@ -61,7 +62,7 @@ pub fn line_up(bytes: &[u8], family: u8, n: usize, cursors: &mut [u64; CURSORS])
     *cursors = [0u64; CURSORS];
     let mut i = 0;
     while i < n {
-        let x = entries::entry(bytes, family, i);
+        let x = reading::entry(bytes, family, i);
         add_entry(cursors, i, x);
         i += 1;
     }

@@ -46,8 +46,11 @@ loadNo-zero (file f l) k S e = go (eqb f (S .family)) refl e
     go true q z = ap (λ g. file g l) (eqb-true f (S .family) q)
     go false q z = absurd (omega arith)
 
+pub isList-load : (d : List ℕ) (k : ℕ) (S : State) → loadNo (readFile d) k S ≡ 0 → isList (width (S .family)) (fileList (readFile d)) ≡ true
+isList-load d k S z = readFile-is d (S .family) (fileList (readFile d)) (loadNo-zero (readFile d) k S z) .list
+
 pub load-leaves : {w v : List ℕ} {S : State} {k : ℕ} {r : Answer} (d : List ℕ) → decode w ≡ sound S → Loaded w k d r v → Leaves S k (loadNo (readFile d) k S) (fileList (readFile d)) r v
-load-leaves {S = S} {k = k} d e h = changed-leaves e (λ lt z. readFile-is d (S .family) (fileList (readFile d)) (loadNo-zero (readFile d) k S z) .list) h
+load-leaves {S = S} {k = k} d e h = changed-leaves e (isList-load d k S) h
 
 module _ {w v : List ℕ} {k : ℕ} {r : Answer} (d : List ℕ) (h : Loaded w k d r v) where
   pub load-damaged : decode w ≡ damaged → (r ≡ answer.Refused Damaged) × (v ≡ w)

@@ -3,7 +3,7 @@ use building::writing::build;
 use merging::CURSORS;
 use merging::Checked;
 use merging::check;
-use merging::open;
+use merging::flowing::open;
 use nets::Refusal;
 use pool::Answer;
 use pool::Survey;

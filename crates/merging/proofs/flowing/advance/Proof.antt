@@ -1,8 +1,8 @@
--- `advance` meets its contract. Assumes nothing.
+-- `flowing::advance` meets its contract. Assumes nothing.
 use borrow.Author.Needs.{needs}
 use Rattle.merging.proofs.First.{behind-head}
-use Rattle.merging.proofs.advance.Statement.{statement}
-use Rattle.merging.proofs.advance.Tie as tie
+use Rattle.merging.proofs.flowing.advance.Statement.{statement}
+use Rattle.merging.proofs.flowing.advance.Tie as tie
 
 pub advance-spec : {M : Type 1} → statement M
 advance-spec =

@@ -1,9 +1,9 @@
--- `four` meets its contract: its bytes are the first of those that are left from the place on. Assumes nothing.
+-- `reading::four` meets its contract: its bytes are the first of those that are left from the place on. Assumes nothing.
 use mathlib.Core.Path.{_∙_}
 use borrow.Author.Needs.{needs}
 use Rattle.entries.proofs.Numbers.{bigEndian-four}
-use Rattle.entries.proofs.four.Statement.{statement}
-use Rattle.entries.proofs.four.Tie as tie
+use Rattle.entries.proofs.reading.four.Statement.{statement}
+use Rattle.entries.proofs.reading.four.Tie as tie
 
 pub four-spec : {M : Type 1} → statement M
 four-spec =

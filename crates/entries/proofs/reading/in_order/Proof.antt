@@ -1,4 +1,4 @@
--- `in_order` meets its contract. The loop's invariant: the check of the entries that are left completes that of all. Assumes nothing.
+-- `reading::in_order` meets its contract. The loop's invariant: the check of the entries that are left completes that of all. Assumes nothing.
 use mathlib.Core.Path.{sym, _∙_}
 use Prim.Native.Nat.{_-_}
 use native.Mathlib.Nat.{le-trans, pos-of-ne-zero}
@@ -7,8 +7,8 @@ use borrow.Author.Needs.{needs}
 use borrow.Author.Tests.{not-true, not-false}
 use Rattle.entries.proofs.Numbers.{fileBytes-mono}
 use Rattle.entries.proofs.Ordered.{Going, ordered-none, ordered-unclean, ordered-start, going-end, going-unclean, going-unordered, going-on, entry-is, entry-pair}
-use Rattle.entries.proofs.in_order.Statement.{statement}
-use Rattle.entries.proofs.in_order.Tie as tie
+use Rattle.entries.proofs.reading.in_order.Statement.{statement}
+use Rattle.entries.proofs.reading.in_order.Tie as tie
 
 abbrev Inv-loop : tie.InvT-loop
 Inv-loop bytes family n last₀ i₀ last i = Going bytes family n last i

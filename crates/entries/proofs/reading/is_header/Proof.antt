@@ -1,11 +1,11 @@
--- `is_header` meets its contract: it tests one rule after the other. Assumes nothing.
+-- `reading::is_header` meets its contract: it tests one rule after the other. Assumes nothing.
 use mathlib.Core.Path.{sym, _∙_}
 use native.Mathlib.Omega.{arith}
 use borrow.Author.Needs.{needs}
 use borrow.Author.Tests.{not-true, not-false}
 use Rattle.entries.proofs.Headers.{header-short, header-family, header-many, header-offset, header-length, header-is}
-use Rattle.entries.proofs.is_header.Statement.{statement}
-use Rattle.entries.proofs.is_header.Tie as tie
+use Rattle.entries.proofs.reading.is_header.Statement.{statement}
+use Rattle.entries.proofs.reading.is_header.Tie as tie
 
 pub is-header-spec : {M : Type 1} → statement M
 is-header-spec =

@@ -1,11 +1,11 @@
--- `open` meets its contract. Assumes nothing.
+-- `flowing::open` meets its contract. Assumes nothing.
 use mathlib.Core.Path.{_≡_}
 use native.Mathlib.Omega.{arith}
 use borrow.Author.Needs.{needs}
 use Rattle.files.specs.Files.{headNumber}
 use Rattle.merging.proofs.Opening.{file-long, file-ordered, file-flat}
-use Rattle.merging.proofs.open.Statement.{statement}
-use Rattle.merging.proofs.open.Tie as tie
+use Rattle.merging.proofs.flowing.open.Statement.{statement}
+use Rattle.merging.proofs.flowing.open.Tie as tie
 
 pub open-spec : {M : Type 1} → statement M
 open-spec =

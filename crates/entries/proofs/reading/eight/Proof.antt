@@ -1,9 +1,9 @@
--- `eight` meets its contract: two numbers of four bytes are one of eight. Assumes nothing.
+-- `reading::eight` meets its contract: two numbers of four bytes are one of eight. Assumes nothing.
 use native.Mathlib.Omega.{arith}
 use borrow.Author.Needs.{needs}
 use Rattle.entries.proofs.Numbers.{bigEndian-eight}
-use Rattle.entries.proofs.eight.Statement.{statement}
-use Rattle.entries.proofs.eight.Tie as tie
+use Rattle.entries.proofs.reading.eight.Statement.{statement}
+use Rattle.entries.proofs.reading.eight.Tie as tie
 
 pub eight-spec : {M : Type 1} → statement M
 eight-spec =

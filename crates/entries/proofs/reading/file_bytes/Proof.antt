@@ -1,8 +1,8 @@
--- `file_bytes` meets its contract, in each family. Assumes nothing.
+-- `reading::file_bytes` meets its contract, in each family. Assumes nothing.
 use borrow.Author.Needs.{needs}
 use Rattle.entries.proofs.Numbers.{fileBytes-4, fileBytes-6}
-use Rattle.entries.proofs.file_bytes.Statement.{statement}
-use Rattle.entries.proofs.file_bytes.Tie as tie
+use Rattle.entries.proofs.reading.file_bytes.Statement.{statement}
+use Rattle.entries.proofs.reading.file_bytes.Tie as tie
 
 pub file-bytes-spec : {M : Type 1} → statement M
 file-bytes-spec =

@@ -1,12 +1,12 @@
--- `entry` meets its contract, in each family. Assumes nothing.
+-- `reading::entry` meets its contract, in each family. Assumes nothing.
 use native.Mathlib.Omega.{arith}
 use borrow.Author.Needs.{needs}
 use Prim.Native.Nat.{ℕ, _+_, _*_, _≤_, _<_}
 use mathlib.Core.Path.{_≡_}
 use Rattle.files.specs.Files.{fileBytes}
 use Rattle.entries.proofs.Numbers.{fileBytes-4, fileBytes-6, entryNet-4, entryNet-6, range-4, range-6}
-use Rattle.entries.proofs.entry.Statement.{statement}
-use Rattle.entries.proofs.entry.Tie as tie
+use Rattle.entries.proofs.reading.entry.Statement.{statement}
+use Rattle.entries.proofs.reading.entry.Tie as tie
 
 -- where an entry ends, in each family
 ends-4 : (f i n : ℕ) → f ≡ 4 → fileBytes f (i + 1) ≤ n → 16 + 5 * i + 5 ≤ n

@@ -1,10 +1,10 @@
--- `number` meets its contract. Assumes nothing.
+-- `reading::number` meets its contract. Assumes nothing.
 use mathlib.Core.Path.{sym}
 use native.Mathlib.Omega.{arith}
 use borrow.Author.Needs.{needs}
 use Rattle.files.specs.Files.{headNumber}
-use Rattle.entries.proofs.number.Statement.{statement}
-use Rattle.entries.proofs.number.Tie as tie
+use Rattle.entries.proofs.reading.number.Statement.{statement}
+use Rattle.entries.proofs.reading.number.Tie as tie
 
 pub number-spec : {M : Type 1} → statement M
 unfolding headNumber
