@@ -56,21 +56,21 @@ isEmpty-some [] ne = absurd (ne refl)
 isEmpty-some (p ∷ l) ne = refl
 
 module _ (x : File) (k : ℕ) (S : State) where
-  loadNo-broken : x ≡ broken → loadNo x k S ≡ 5
+  pub loadNo-broken : x ≡ broken → loadNo x k S ≡ 5
   unfolding loadNo
   loadNo-broken e = rw e
 
   module _ (f : ℕ) (l : List Bits) (e : x ≡ file f l) where
-    loadNo-other : (f ≡ S .family → ⊥) → loadNo x k S ≡ 6
+    pub loadNo-other : (f ≡ S .family → ⊥) → loadNo x k S ≡ 6
     unfolding loadNo
     loadNo-other ne = rw (e, ne-eqb f (S .family) ne)
 
     module _ (own : f ≡ S .family) where
-      loadNo-occupied : (listAt S k ≡ [] → ⊥) → loadNo x k S ≡ 8
+      pub loadNo-occupied : (listAt S k ≡ [] → ⊥) → loadNo x k S ≡ 8
       unfolding loadNo
       loadNo-occupied ne = rw (e, eq-eqb f (S .family) own, isEmpty-some (listAt S k) ne)
 
-      loadNo-right : listAt S k ≡ [] → loadNo x k S ≡ 0
+      pub loadNo-right : listAt S k ≡ [] → loadNo x k S ≡ 0
       unfolding loadNo
       loadNo-right n = rw (e, eq-eqb f (S .family) own, n)
 
