@@ -1,4 +1,6 @@
 // What is counted, and how each kind of case is held to what it must give.
+use crate::made;
+use crate::made::WORDS;
 use nets::Refusal;
 use pool::Answer;
 
@@ -82,4 +84,48 @@ pub fn saves(t: Tally, pool: &[u32], bytes: &[u8]) -> Tally {
         return t;
     }
     denies(t, pool, 0, bytes.len() - 1, 11)
+}
+
+// The refused call left every word.
+pub fn keeps(t: Tally, was: &[u32], pool: &[u32]) -> Tally {
+    count(t, same(was, pool))
+}
+
+// Whether two rows of words are equal.
+fn same(a: &[u32], b: &[u32]) -> bool {
+    if a.len() != b.len() {
+        return false;
+    }
+    for i in 0..a.len() {
+        if a[i] != b[i] {
+            return false;
+        }
+    }
+    true
+}
+
+// The file is loaded into an empty set of the family, with so many nodes, and the set is saved as that file.
+pub fn loads(t: Tally, family: u8, bytes: &[u8], nodes: usize) -> Tally {
+    let mut pool = [0u32; WORDS];
+    let mut t = gives(t, made::two(&mut pool, family), 0);
+    t = gives(t, setfile::load(&mut pool, 0, bytes), nodes);
+    saves(t, &pool, bytes)
+}
+
+// The file is broken.
+pub fn breaks(t: Tally, family: u8, bytes: &[u8]) -> Tally {
+    let mut pool = [0u32; WORDS];
+    let mut t = gives(t, made::two(&mut pool, family), 0);
+    let was = pool;
+    t = gets(t, setfile::load(&mut pool, 0, bytes), 5);
+    keeps(t, &was, &pool)
+}
+
+// Every beginning of the file is broken.
+pub fn cuts(t: Tally, family: u8, bytes: &[u8]) -> Tally {
+    let mut t = t;
+    for n in 0..bytes.len() {
+        t = breaks(t, family, &bytes[0..n]);
+    }
+    t
 }

@@ -1,4 +1,4 @@
-// Refused calls: the smallest number that applies, and that nothing changes.
+// Sets that are not saved: the smallest number that applies, and that no byte changes.
 use crate::made;
 use crate::made::WORDS;
 use crate::tally;
@@ -11,7 +11,7 @@ fn half(t: Tally, pool: &mut [u32]) -> Tally {
 }
 
 // A set that is not there, and then a buffer that is too short.
-pub fn unsaved(t: Tally) -> Tally {
+pub fn refused(t: Tally) -> Tally {
     let mut pool = [0u32; WORDS];
     let mut t = half(t, &mut pool);
     t = tally::denies(t, &pool, 2, 128, 3);
