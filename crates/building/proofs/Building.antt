@@ -1,13 +1,13 @@
 -- Building, step by step: what the tests say of the trie that is due, its children as the next that are due, and the node over them. Assumes nothing.
 use mathlib.Core.Path.{_≡_, refl, sym, ap, _∙_}
-use mathlib.Core.Bool.{Bool, true, false, false≢true}
+use mathlib.Core.Bool.{Bool, true, false}
 use mathlib.Core.List.{List, [], _∷_, _++_, append-assoc}
-use Prim.Native.Nat.{ℕ, zero, suc, _+_, _≤_, _<_}
+use Prim.Native.Nat.{ℕ, suc, _+_, _≤_, _<_}
 use native.Mathlib.Omega.{arith}
-use lib.ListN.{length, getD, length-append, take}
+use lib.ListN.{length, getD, length-append}
 use lib.Seq.{getD-take, getD-at}
 use Rattle.nets.specs.Bits.{Bits, bits}
-use Rattle.nets.specs.Tries.{Trie, none, node, leaf, isNone, bare, size, levels}
+use Rattle.nets.specs.Tries.{Trie, none, node, leaf, isNone, size, levels}
 use Rattle.nets.specs.Networks.{width, address, netBits, netFrom}
 use Rattle.nets.specs.declared.Net.{Net}
 use Rattle.nets.proofs.Numbers.{netBits-netFrom, width-le}
@@ -16,12 +16,11 @@ use Rattle.nodes.specs.Links.{linked}
 use Rattle.nodes.proofs.Put.{put-nil, length-put, put-behind-at, put-before-at}
 use Rattle.nodes.proofs.Tries.{length-enc}
 use Rattle.nodes.proofs.Linked.{linked-is}
-use Rattle.files.specs.Streams.{flat, shared}
 use Rattle.merging.specs.Flow.{headAs, Flow}
 use Rattle.merging.specs.declared.Head.{Head}
 use Rattle.listing.specs.Spans.{snoc}
 use Rattle.listing.proofs.Paths.{length-snoc, path-is}
-use Rattle.building.specs.Building.{under, lastOf, outside, Due, Writes}
+use Rattle.building.specs.Building.{under, lastOf, Due, Writes}
 use Rattle.building.specs.declared.writing.Built.{Built}
 use Rattle.building.proofs.Under.{First, here, left, right, first-levels, first-some, under-first, under-none, under-leaf, under-node, lastOf-append, last-under, outside-longer, outside-other, deep-out, shared-other}
 

@@ -1,13 +1,13 @@
 -- The trie of a file's list, written where there is room for it: the networks that a file gives from its start are those of that trie. Assumes nothing.
-use mathlib.Core.Bool.{true, false}
-use mathlib.Core.List.{List, [], _∷_, _++_}
+use mathlib.Core.Bool.{false}
+use mathlib.Core.List.{List, []}
 use mathlib.Core.Path.{_≡_, refl, sym, ap, _∙_}
-use Prim.Native.Nat.{ℕ, zero, suc, _+_, _-_, _≤_, _<_}
+use Prim.Native.Nat.{ℕ, _+_}
 use native.Mathlib.Omega.{arith}
 use lib.ListN.{length, getD}
 use Rattle.nets.specs.Bits.{Bits}
 use Rattle.nets.specs.Lists.{nodesL}
-use Rattle.nets.specs.Tries.{Trie, none, isNone, size, listOf, trieOf}
+use Rattle.nets.specs.Tries.{Trie, isNone, size, listOf, trieOf}
 use Rattle.nets.specs.Networks.{width}
 use Rattle.nets.proofs.Nodes.{nodesL-listOf}
 use Rattle.nets.proofs.TrieOf.{listOf-trieOf, levels-trieOf, isList-within}
@@ -18,11 +18,10 @@ use Rattle.pool.specs.Steps.{behindAt}
 use Rattle.pool.specs.declared.Survey.{Survey}
 use Rattle.files.specs.Files.{file, readFile}
 use Rattle.files.specs.Streams.{flat}
-use Rattle.files.proofs.RoundTrip.{IsFile, readFile-is}
+use Rattle.files.proofs.RoundTrip.{readFile-is}
 use Rattle.merging.specs.Flow.{headAs, Flow}
 use Rattle.merging.specs.declared.Head.{Head}
-use Rattle.building.specs.Building.{under, Due, Writes}
-use Rattle.building.specs.declared.writing.Built.{Built}
+use Rattle.building.specs.Building.{Due}
 use Rattle.building.proofs.Under.{under-root, first-flat}
 use Rattle.building.proofs.Building.{none-of, some-of}
 use Rattle.setfile.specs.LoadSteps.{Fillable, Writable, written}

@@ -1,7 +1,7 @@
 -- The outcomes of load: each call has one. On a sound pool each refusal is given in its case, and else the set has the file's list, in a pool that is sound again. So what save
 -- wrote loads as the list of the set. Assumes nothing.
 use mathlib.Core.Bool.{Bool, true, false, cond}
-use mathlib.Core.List.{List, [], _∷_}
+use mathlib.Core.List.{List, []}
 use mathlib.Core.Path.{_≡_, refl, sym, ap, _∙_}
 use Prim.Native.Nat.{ℕ, _≤_, _<_}
 use native.Mathlib.Omega.{arith}
@@ -9,8 +9,7 @@ use lib.Dec.{eqb}
 use lib.ListN.{length, take}
 use borrow.Author.Tests.{lt-ltb, le-leb, lt-leb, eqb-true}
 use Rattle.nets.specs.Bits.{Bits}
-use Rattle.nets.specs.Lists.{isList, nodesL}
-use Rattle.nets.specs.Networks.{width}
+use Rattle.nets.specs.Lists.{nodesL}
 use Rattle.nets.specs.Refusals.{number}
 use Rattle.nets.specs.declared.Refusal.{Refusal}
 use Rattle.nets.specs.declared.Refusal.the-variants.{Damaged, NoSet, BadFile, WrongFamily, Occupied, OverLimit, NoRoom}
