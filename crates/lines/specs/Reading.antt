@@ -7,6 +7,7 @@
 --   stepped w r b      a byte of the input
 --   fed w r s          the bytes s, up to the first line that is refused
 --   finished w r       the input has ended, and with it a line that lacks its line feed
+--   fedAll w r ps      the pieces ps one after the other;  allRead w ps: from the first byte to the end of the input
 use mathlib.Core.Bool.{cond}
 use mathlib.Core.List.{List, [], _∷_}
 use Prim.Native.Nat.{ℕ, _+_, _%_, _^_}
@@ -45,7 +46,6 @@ fed w r (b ∷ s) = cond (eqb (r .no) 0) (let x = stepped w r b in fed (x .1) (x
 unfoldable pub finished : List ℕ → Reader → Reader × List ℕ
 finished w r = cond (eqb (r .no) 0) (cond (eqb (r .len) 0) (r, w) (ended w r)) (r, w)
 
--- the pieces ps one after the other, and the end of the input
 unfoldable pub fedAll : List ℕ → Reader → List (List ℕ) → Reader × List ℕ
 fedAll w r [] = (r, w)
 fedAll w r (p ∷ ps) = let x = fed w r p in fedAll (x .1) (x .0) ps
