@@ -35,8 +35,8 @@ use Rattle.walk.proofs.start as start
 use Rattle.walk.proofs.start.Symbol as start-def
 use Rattle.walk.proofs.turns.first as first
 use Rattle.walk.proofs.turns.first.Symbol as first-def
-use Rattle.walk.proofs.Walk.moved as moved
-use Rattle.walk.proofs.Walk.moved.Symbol as moved-def
+use Rattle.walk.proofs.walking.Walk.moved as moved
+use Rattle.walk.proofs.walking.Walk.moved.Symbol as moved-def
 use Rattle.walk.proofs.turns.after as after
 use Rattle.walk.proofs.turns.after.Symbol as after-def
 use Rattle.walk.proofs.turns.told as told

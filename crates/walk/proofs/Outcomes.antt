@@ -20,7 +20,7 @@ use Rattle.listing.specs.declared.Follower.the-variants.{Network, End, Refused}
 use Rattle.listing.proofs.Outcomes.{followerAs-one}
 use Rattle.walk.specs.Walks.{walkNo, walkFrom, walkOn}
 use Rattle.walk.specs.Places.{nthL, nthRule}
-use Rattle.walk.specs.declared.Walk.{Walk}
+use Rattle.walk.specs.declared.walking.Walk.{Walk}
 
 -- A walk is determined: the one that is made, and what a step says and leaves.
 pub start-determined : (p : RefT (List ℕ)) (k : ℕ) (w v : Walk) → w ≡ walkFrom p k → v ≡ walkFrom p k → w ≡ v

@@ -23,7 +23,7 @@ use Rattle.going.proofs.Onward.{ahead, ahead-all}
 use Rattle.walk.specs.Walks.{walkNo, listIn, seatIn, walkFrom, walkOn, Walking}
 use Rattle.walk.specs.Places.{nthL, nthRule, firstTurn, idle, turnAfter, IsNo, toldAt}
 use Rattle.walk.specs.declared.turns.Turn.{Turn}
-use Rattle.walk.specs.declared.Walk.{Walk}
+use Rattle.walk.specs.declared.walking.Walk.{Walk}
 use Rattle.walk.proofs.Steps.{listOn, on-more, on-end, on-seat, walking-from, walking-on}
 
 -- The returns of `after`.

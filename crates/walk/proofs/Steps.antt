@@ -27,7 +27,7 @@ use Rattle.going.specs.Spots.{nowhere, beforeAll, goneOn, Right, StandsIn, Goes
 use Rattle.going.specs.declared.spots.Spot.{Spot}
 use Rattle.going.proofs.Onward.{stands-nowhere, seat-gone, Lists, lists-trie, ahead, ahead-all, gone-more, gone-last, right-gone}
 use Rattle.walk.specs.Walks.{walkNo, listIn, seatIn, beginIn, walkFrom, walkOn, Walking, pass, through}
-use Rattle.walk.specs.declared.Walk.{Walk}
+use Rattle.walk.specs.declared.walking.Walk.{Walk}
 
 -- The returns of `begin`.
 refuses : (d : Decoded) (k x : ℕ) → Refuses d k x → record { spot = beforeAll nowhere; no = x } ≡ beginIn d k

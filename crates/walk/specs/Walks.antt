@@ -22,7 +22,7 @@ use Rattle.listing.specs.Seats.{seatAt}
 use Rattle.listing.specs.declared.seats.Seat.{Seat}
 use Rattle.going.specs.Spots.{nowhere, beforeAll, goneOn, Right}
 use Rattle.walk.specs.declared.beginning.Begun.{Begun}
-use Rattle.walk.specs.declared.Walk.{Walk}
+use Rattle.walk.specs.declared.walking.Walk.{Walk}
 
 unfoldable pub walkNo : Decoded → ℕ → ℕ
 walkNo damaged k = 2

@@ -3,26 +3,18 @@
 ghost use mathlib.Core.Path.{_≡_};
 ghost use Rattle.pool.specs.Decode.{decode};
 ghost use Rattle.listing.specs.Calls.{followerAs};
-ghost use Rattle.walk.specs.Walks.{Walking, walkFrom, walkOn};
+ghost use Rattle.walk.specs.Walks.{walkFrom};
 ghost use Rattle.walk.specs.Places.{nthRule};
 use beginning::begin;
-use going::spots::Spot;
-use going::spots::go_on;
 use listing::Follower;
 use turns::after;
 use turns::first;
 use turns::told;
+use walking::Walk;
 
 mod beginning;
 mod turns;
-
-// The pool, how far the walk has come, the set, and the number of the table: 0, or 2 or 3 where there is nothing to walk through. While `spot.more` says so it is at the network `spot.net`.
-pub struct Walk<'a> {
-    pub pool: &'a [u32],
-    pub spot: Spot,
-    pub set: u32,
-    pub no: u8,
-}
+pub mod walking;
 
 // Before the first network of a set.
 pub fn start<'a>(pool: &'a [u32], set: u32) -> Walk<'a>
@@ -34,28 +26,6 @@ pub fn start<'a>(pool: &'a [u32], set: u32) -> Walk<'a>
         spot: b.spot,
         set,
         no: b.no,
-    }
-}
-
-impl<'a> Walk<'a> {
-    // Goes on to the next network, and says whether there is one.
-    pub fn next(&mut self) -> bool
-        requires { ⌜ Walking (now self) ⌝ }
-        ensures { λ r. ⌜ (r ≡ walkOn (now (self .entry)) .spot .more) × (now (self .exit) ≡ walkOn (now (self .entry))) ⌝ }
-    {
-        let s = go_on(self.pool, self.spot);
-        self.spot = s;
-        s.more
-    }
-
-    // The walk at the next network.
-    pub fn moved(mut self) -> Walk<'a>
-        requires { ⌜ Walking self ⌝ }
-        ensures { λ r. ⌜ r ≡ walkOn (self .entry) ⌝ }
-    {
-        let s = go_on(self.pool, self.spot);
-        self.spot = s;
-        self
     }
 }
 

@@ -51,13 +51,13 @@ use Rattle.going.proofs.spots.Spot as O
 use Rattle.going.proofs.spots.Spot.Laws as O′
 use Rattle.walk.specs.Walks.{walkNo, listIn, seatIn, walkFrom, walkOn, Walking}
 use Rattle.walk.specs.Places.{nthL, nthRule, firstTurn, turnAfter}
-use Rattle.walk.specs.declared.Walk.{Walk}
+use Rattle.walk.specs.declared.walking.Walk.{Walk}
 use Rattle.walk.specs.declared.turns.Turn.{Turn}
 use Rattle.walk.proofs.Reached as reached
 use Rattle.walk.proofs.Calling.{spot, turn, R, Start, First, Moved, After, Tells, Known, to-first, goes-first, first-said, to-after, goes-after, after-said, to-told, goes-told, Said, told-said}
 use Rattle.walk.proofs.Reached.{Going}
-use Rattle.walk.proofs.Walk as T
-use Rattle.walk.proofs.Walk.Laws as T′
+use Rattle.walk.proofs.walking.Walk as T
+use Rattle.walk.proofs.walking.Walk.Laws as T′
 use Rattle.walk.proofs.turns.Turn as Y
 use Rattle.walk.proofs.turns.Turn.Laws as Y′
 use Rattle.walk.proofs.start as start
@@ -66,9 +66,9 @@ use Rattle.walk.proofs.start.Met as start-thm
 use Rattle.walk.proofs.turns.first as first
 use Rattle.walk.proofs.turns.first.Symbol as first-def
 use Rattle.walk.proofs.turns.first.Met as first-thm
-use Rattle.walk.proofs.Walk.moved as moved
-use Rattle.walk.proofs.Walk.moved.Symbol as moved-def
-use Rattle.walk.proofs.Walk.moved.Met as moved-thm
+use Rattle.walk.proofs.walking.Walk.moved as moved
+use Rattle.walk.proofs.walking.Walk.moved.Symbol as moved-def
+use Rattle.walk.proofs.walking.Walk.moved.Met as moved-thm
 use Rattle.walk.proofs.turns.after as after
 use Rattle.walk.proofs.turns.after.Symbol as after-def
 use Rattle.walk.proofs.turns.after.Met as after-thm
@@ -341,7 +341,7 @@ nth-spec 𝓤 H 𝓜 𝓖 𝓡 =
     (nth-meets 𝓤 H (𝓖 .A) (givenOf 𝓤 H 𝓜 𝓖) (𝓜 .mem) (𝓡 .run) (tablesOf 𝓤 H 𝓜 (tables 𝓤 H 𝓜 𝓡 code.env)) (record {
       start = cited 𝓤 H (Start 𝓤 H (𝓖 .A) (𝓜 .mem) (𝓡 .run)) 𝓜 𝓡 code.env start-def.name start-def.routine code.calls-walk·start (start-thm.met 𝓤 H 𝓜 𝓖 𝓡);
       first = cited 𝓤 H (First 𝓤 H (𝓖 .A) (𝓜 .mem) (𝓡 .run)) 𝓜 𝓡 code.env first-def.name first-def.routine code.calls-walk·turns·first (first-thm.met 𝓤 H 𝓜 𝓖 𝓡);
-      moved = cited 𝓤 H (Moved 𝓤 H (𝓖 .A) (𝓜 .mem) (𝓡 .run)) 𝓜 𝓡 code.env moved-def.name moved-def.routine code.calls-walk·Walk·moved (moved-thm.met 𝓤 H 𝓜 𝓖 𝓡);
+      moved = cited 𝓤 H (Moved 𝓤 H (𝓖 .A) (𝓜 .mem) (𝓡 .run)) 𝓜 𝓡 code.env moved-def.name moved-def.routine code.calls-walk·walking·Walk·moved (moved-thm.met 𝓤 H 𝓜 𝓖 𝓡);
       after = cited 𝓤 H (After 𝓤 H (𝓖 .A) (𝓜 .mem) (𝓡 .run)) 𝓜 𝓡 code.env after-def.name after-def.routine code.calls-walk·turns·after (after-thm.met 𝓤 H 𝓜 𝓖 𝓡);
       told = cited 𝓤 H (Tells 𝓤 H (𝓖 .A) (𝓜 .mem) (𝓡 .run)) 𝓜 𝓡 code.env told-def.name told-def.routine code.calls-walk·turns·told (told-thm.met 𝓤 H 𝓜 𝓖 𝓡);
     }))

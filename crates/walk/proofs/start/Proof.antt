@@ -44,10 +44,10 @@ use Rattle.pool.specs.Decode.{decode}
 use Rattle.going.proofs.spots.Spot as O
 use Rattle.going.proofs.spots.Spot.Laws as O′
 use Rattle.walk.specs.Walks.{beginIn}
-use Rattle.walk.specs.declared.Walk.{Walk}
+use Rattle.walk.specs.declared.walking.Walk.{Walk}
 use Rattle.walk.specs.declared.beginning.Begun.{Begun}
-use Rattle.walk.proofs.Walk as T
-use Rattle.walk.proofs.Walk.Laws as T′
+use Rattle.walk.proofs.walking.Walk as T
+use Rattle.walk.proofs.walking.Walk.Laws as T′
 use Rattle.walk.proofs.beginning.Begun as S
 use Rattle.walk.proofs.beginning.Begun.Laws as S′
 use Rattle.walk.proofs.beginning.begin as begin

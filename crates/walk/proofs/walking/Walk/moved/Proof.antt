@@ -51,14 +51,14 @@ use Rattle.going.proofs.spots.go_on.Symbol as go-on-def
 use Rattle.going.proofs.spots.go_on.Symbol.{name as #go-on}
 use Rattle.going.proofs.spots.go_on.Met as go-on-thm
 use Rattle.walk.specs.Walks.{walkOn, Walking}
-use Rattle.walk.specs.declared.Walk.{Walk}
+use Rattle.walk.specs.declared.walking.Walk.{Walk}
 use Rattle.walk.proofs.Steps.{words, Told, goes, stepped}
-use Rattle.walk.proofs.Walk as T
-use Rattle.walk.proofs.Walk.Laws as T′
-use Rattle.walk.proofs.Walk.moved.Key.{name as #moved}
-use Rattle.walk.proofs.Walk.moved as f
-use Rattle.walk.proofs.Walk.moved.Statement as stated
-use Rattle.walk.proofs.Walk.moved.Code as code
+use Rattle.walk.proofs.walking.Walk as T
+use Rattle.walk.proofs.walking.Walk.Laws as T′
+use Rattle.walk.proofs.walking.Walk.moved.Key.{name as #moved}
+use Rattle.walk.proofs.walking.Walk.moved as f
+use Rattle.walk.proofs.walking.Walk.moved.Statement as stated
+use Rattle.walk.proofs.walking.Walk.moved.Code as code
 
 -- the struct's type, over the signature's lifetimes
 abbrev B : Lfts 1 → RattleType

@@ -53,14 +53,14 @@ use Rattle.going.proofs.spots.go_on.Symbol as go-on-def
 use Rattle.going.proofs.spots.go_on.Symbol.{name as #go-on}
 use Rattle.going.proofs.spots.go_on.Met as go-on-thm
 use Rattle.walk.specs.Walks.{walkOn, Walking}
-use Rattle.walk.specs.declared.Walk.{Walk}
+use Rattle.walk.specs.declared.walking.Walk.{Walk}
 use Rattle.walk.proofs.Steps.{words, Told, goes, stepped}
-use Rattle.walk.proofs.Walk as T
-use Rattle.walk.proofs.Walk.Laws as T′
-use Rattle.walk.proofs.Walk.next.Key.{name as #next}
-use Rattle.walk.proofs.Walk.next as f
-use Rattle.walk.proofs.Walk.next.Statement as stated
-use Rattle.walk.proofs.Walk.next.Code as code
+use Rattle.walk.proofs.walking.Walk as T
+use Rattle.walk.proofs.walking.Walk.Laws as T′
+use Rattle.walk.proofs.walking.Walk.next.Key.{name as #next}
+use Rattle.walk.proofs.walking.Walk.next as f
+use Rattle.walk.proofs.walking.Walk.next.Statement as stated
+use Rattle.walk.proofs.walking.Walk.next.Code as code
 
 -- `Walk<'a>`, as the referent's place in the signature
 abbrev behind : Slot 2
