@@ -1,3 +1,1 @@
 pub mod Fits
-pub mod Pushing
-pub mod Taking

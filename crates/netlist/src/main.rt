@@ -1,8 +1,6 @@
 // Reads lines of IPv4 networks into a set, simplifies it once and prints it.
 use lines::Reader;
-ghost use Rattle.netlist.specs.Lines.{Whole};
 
-mod lines;
 mod report;
 
 // The words of a pool of one set and 1,000 nodes.
@@ -15,10 +13,7 @@ struct Turn {
 }
 
 // Reads one piece.
-fn read_some(pool: &mut [u32], r: Reader) -> Turn
-    requires { ⌜ Whole r ⌝ }
-    ensures { λ t. ⌜ Whole (t .reader) ⌝ }
-{
+fn read_some(pool: &mut [u32], r: Reader) -> Turn {
     let mut buf = io::buffer();
     let got = libc::read(0, &mut buf);
     let n = io::count(got, &buf);
@@ -28,9 +23,7 @@ fn read_some(pool: &mut [u32], r: Reader) -> Turn
 
 // Reads to the end of the input or to the first refused line. A proved loop has to end, and nothing says that the input does: the loop counts its turns down, from a
 // number that no run uses up.
-fn read_all(pool: &mut [u32]) -> Turn
-    ensures { λ t. ⌜ Whole (t .reader) ⌝ }
-{
+fn read_all(pool: &mut [u32]) -> Turn {
     let mut turn = read_some(pool, lines::start());
     let mut turns = u64::MAX;
     while turns > 0 && turn.got > 0 && turn.reader.no == 0 {

@@ -3,15 +3,17 @@ use mathlib.Core.Bool.{Bool, true, false, cond}
 use mathlib.Core.List.{List, [], _∷_, _++_, append-nil}
 use mathlib.Core.Logic.{_↔_, _⊎_, inl, inr, ⊎-elim}
 use mathlib.Core.Path.{_≡_, refl, ap, _∙_}
-use Prim.Native.Nat.{ℕ, _+_, _*_}
+use Prim.Native.Nat.{ℕ, _+_, _*_, _≤_, _<_}
 use native.Mathlib.Omega.{arith}
 use lib.Dec.{eqb}
+use lib.ListN.{length}
 use borrow.Author.Tests.{eqb-true, eq-eqb}
 use Rattle.nets.specs.declared.Net.{Net}
 use Rattle.text.specs.Decimal.{isDigit, decimal, isNumber, Parsed, parsed, nothing, andThen, readNumber}
 use Rattle.text.specs.Ipv4.{dot, slash, address, ipv4, joined, IsLine, endedBy, readNext, readQuad, badText, withLength, withAddress, readLine}
 use Rattle.text.specs.Places.{startsDigit}
-use Rattle.text.proofs.Numbers.{readNumber-append, readNumber-is}
+use Rattle.text.proofs.Numbers.{isNumber-is, readNumber-append, readNumber-is}
+use Rattle.text.proofs.Writing.{length-joined}
 
 -- A line of the grammar is read.
 readNext-append : (e v : ℕ) (s t : List ℕ) → isDigit e ≡ false → isNumber 3 255 s ≡ true → readNext e (parsed v (s ++ (e ∷ t))) ≡ parsed (v * 256 + decimal s) t
@@ -133,3 +135,21 @@ withAddress-answers nothing = inl refl
 pub readLine-refuses : (s : List ℕ) → ((n : Net) → IsLine s n → ⊥) → readLine s ≡ badText
 unfolding readLine
 readLine-refuses s h = ⊎-elim (λ e. e) (λ p. absurd (h (p .0) (readLine-is s (p .0) (p .1)))) (withAddress-answers (readQuad s))
+
+-- No line has more than 18 bytes.
+isLine-short : (s : List ℕ) (n : Net) → IsLine s n → length s ≤ 18
+isLine-short s n l =
+    rw (l .bytes) (
+    omega (
+      arith,
+      length-joined (l .a) (l .b) (l .c) (l .d) (l .len),
+      isNumber-is 3 255 (l .a) (l .a-number) .few,
+      isNumber-is 3 255 (l .b) (l .b-number) .few,
+      isNumber-is 3 255 (l .c) (l .c-number) .few,
+      isNumber-is 3 255 (l .d) (l .d-number) .few,
+      isNumber-is 2 32 (l .len) (l .len-number) .few,
+    )
+    )
+
+pub readLine-long : (s : List ℕ) → 18 < length s → readLine s ≡ badText
+readLine-long s h = readLine-refuses s (λ n l. omega (arith, isLine-short s n l))

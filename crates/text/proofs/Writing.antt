@@ -97,7 +97,7 @@ pub stored-line : {w v : List ℕ} {q : ℕ} (n : Net)
 unfolding lineOf
 stored-line n h = rw (joined-fields (octetOf (n .lo) 3) (octetOf (n .lo) 2) (octetOf (n .lo) 1) (octetOf (n .lo) 0) (digitsOf (n .len))) at h
 
-length-joined : (a b c d n : List ℕ) → length (joined a b c d n) ≡ length a + length b + length c + length d + length n + 4
+pub length-joined : (a b c d n : List ℕ) → length (joined a b c d n) ≡ length a + length b + length c + length d + length n + 4
 unfolding joined
 length-joined a b c d n = simp length-append (omega arith)
 

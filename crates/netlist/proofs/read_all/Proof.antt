@@ -1,13 +1,12 @@
--- `read_all` is safe and ends, and its reader is whole. The measure is the number of turns that are left. Assumes nothing.
+-- `read_all` is safe and ends. The measure is the number of turns that are left. Assumes nothing.
 use mathlib.Core.Path.{_≡_}
 use borrow.Author.Needs.{needs}
 use lib.ListN.{length}
-use Rattle.netlist.specs.Lines.{Whole}
 use Rattle.netlist.proofs.read_all.Statement.{statement}
 use Rattle.netlist.proofs.read_all.Tie as tie
 
 abbrev Inv-loop : tie.InvT-loop
-Inv-loop pool₀ turn₀ turns₀ pool turn turns = Whole (turn .reader) × (length pool ≡ length pool₀)
+Inv-loop pool₀ turn₀ turns₀ pool turn turns = length pool ≡ length pool₀
 
 abbrev μ-loop : tie.MeasureT-loop
 μ-loop pool₀ turn₀ turns₀ pool turn turns = turns

@@ -1,7 +1,9 @@
-// Taking the input apart into lines, and adding the network of each to set 0 of the pool.
+// Lines of IPv4 networks, added to set 0 of a pool. The input comes in pieces of any length: start, then feed with each piece, then finish.
 use nets::Taken;
 use pool::Answer;
-ghost use Rattle.netlist.specs.Lines.{Whole, Pushed, Took};
+ghost use mathlib.Core.Path.{_≡_};
+ghost use Rattle.lines.specs.Lines.{lineNo, wordsWith};
+ghost use Rattle.lines.specs.Reading.{begun, kept, pushed, ended, stepped, fed, finished};
 
 // The bytes kept of a line: one more than the longest line of a network has, so that a line too long for one is still too long here.
 const KEPT: usize = 19;
@@ -16,7 +18,7 @@ pub struct Reader {
 
 // Before the first byte.
 pub fn start() -> Reader
-    ensures { λ s. ⌜ Whole s ⌝ }
+    ensures { λ s. ⌜ s ≡ begun ⌝ }
 {
     Reader {
         line: [0; KEPT],
@@ -26,10 +28,9 @@ pub fn start() -> Reader
     }
 }
 
-// One byte more of the line.
+// One byte more of the line. There is no place for one that is past those kept.
 fn push(mut r: Reader, byte: u8) -> Reader
-    requires { ⌜ Whole r ⌝ }
-    ensures { λ s. ⌜ Pushed r byte s ⌝ }
+    ensures { λ s. ⌜ s ≡ pushed r byte ⌝ }
 {
     let at = r.len;
     if at < KEPT {
@@ -41,7 +42,7 @@ fn push(mut r: Reader, byte: u8) -> Reader
 
 // The refusal of a line, or 0 where its network is added.
 fn take(pool: &mut [u32], line: &[u8]) -> u8
-    ensures { λ r. ⌜ Took (now (pool .entry)) (now (line .entry)) r (now (pool .exit)) ⌝ }
+    ensures { λ r. ⌜ (r ≡ lineNo (now (pool .entry)) (now (line .entry))) × (now (pool .exit) ≡ wordsWith (now (pool .entry)) (now (line .entry))) ⌝ }
 {
     let taken = text::read_line(line);
     match taken {
@@ -56,16 +57,25 @@ fn take(pool: &mut [u32], line: &[u8]) -> u8
     }
 }
 
-// The line has ended: its network is added and the next line begins, or the reading ends here.
-fn end(pool: &mut [u32], mut r: Reader) -> Reader
-    requires { ⌜ Whole r ⌝ }
-    ensures { λ s. ⌜ Whole s ⌝ }
+// The refusal of the line that is kept, or 0 where its network is added.
+fn take_kept(pool: &mut [u32], r: Reader) -> u8
+    ensures { λ no. ⌜ (no ≡ lineNo (now (pool .entry)) (kept r)) × (now (pool .exit) ≡ wordsWith (now (pool .entry)) (kept r)) ⌝ }
 {
     let line = r.line;
     let len = r.len;
-    let no = take(pool, &line[..len]);
+    if len < KEPT {
+        return take(pool, &line[..len]);
+    }
+    take(pool, &line)
+}
+
+// The line has ended: its network is added and the next line begins, or the reading ends here.
+fn end(pool: &mut [u32], mut r: Reader) -> Reader
+    ensures { λ s. ⌜ (s, now (pool .exit)) ≡ ended (now (pool .entry)) r ⌝ }
+{
+    let no = take_kept(pool, r);
+    r.no = no;
     if no != 0 {
-        r.no = no;
         return r;
     }
     r.len = 0;
@@ -75,8 +85,7 @@ fn end(pool: &mut [u32], mut r: Reader) -> Reader
 
 // What one byte of the input does.
 fn step(pool: &mut [u32], r: Reader, byte: u8) -> Reader
-    requires { ⌜ Whole r ⌝ }
-    ensures { λ s. ⌜ Whole s ⌝ }
+    ensures { λ s. ⌜ (s, now (pool .exit)) ≡ stepped (now (pool .entry)) r byte ⌝ }
 {
     if byte == b'\n' {
         return end(pool, r);
@@ -86,8 +95,7 @@ fn step(pool: &mut [u32], r: Reader, byte: u8) -> Reader
 
 // A piece of the input, up to the first line that is refused.
 pub fn feed(pool: &mut [u32], r: Reader, piece: &[u8]) -> Reader
-    requires { ⌜ Whole r ⌝ }
-    ensures { λ s. ⌜ Whole s ⌝ }
+    ensures { λ s. ⌜ (s, now (pool .exit)) ≡ fed (now (pool .entry)) r (now (piece .entry)) ⌝ }
 {
     let mut r = r;
     let mut i = 0;
@@ -100,9 +108,12 @@ pub fn feed(pool: &mut [u32], r: Reader, piece: &[u8]) -> Reader
 
 // The end of the input ends a line that lacks its line feed.
 pub fn finish(pool: &mut [u32], r: Reader) -> Reader
-    requires { ⌜ Whole r ⌝ }
+    ensures { λ s. ⌜ (s, now (pool .exit)) ≡ finished (now (pool .entry)) r ⌝ }
 {
-    if r.no != 0 || r.len == 0 {
+    if r.no != 0 {
+        return r;
+    }
+    if r.len == 0 {
         return r;
     }
     end(pool, r)

@@ -1,10 +1,10 @@
--- `lines::take` meets its contract: the line is refused, or the answer of `add` says what becomes of its network. Assumes nothing.
+-- `take` meets its contract: the line is refused, or the answer of `add` says what becomes of its network. Assumes nothing.
 use mathlib.Core.Path.{ap, sym, _∙_}
 use borrow.Author.Needs.{needs}
 use Rattle.pool.specs.Rules.{answerAs}
-use Rattle.netlist.proofs.Taking.{took-refused, took-added}
-use Rattle.netlist.proofs.lines.take.Statement.{statement}
-use Rattle.netlist.proofs.lines.take.Tie as tie
+use Rattle.lines.proofs.Taking.{took-refused, took-added}
+use Rattle.lines.proofs.take.Statement.{statement}
+use Rattle.lines.proofs.take.Tie as tie
 
 returns : tie.Need-returns
 returns c =

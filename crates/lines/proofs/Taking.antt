@@ -1,0 +1,54 @@
+-- What a line does to the pool, by how it is read. Assumes nothing.
+use mathlib.Core.Bool.{Bool, true, false, cond}
+use mathlib.Core.List.{List}
+use mathlib.Core.Path.{_≡_, refl, ap, sym, _∙_}
+use Prim.Native.Nat.{ℕ}
+use lib.Dec.{eqb}
+use borrow.Author.Tests.{ne-eqb}
+use Rattle.nets.proofs.Answers.{number-some}
+use Rattle.nets.specs.Networks.{takenAs, noNet}
+use Rattle.nets.specs.Refusals.{number}
+use Rattle.nets.specs.declared.Net.{Net}
+use Rattle.nets.specs.declared.Refusal.{Refusal}
+use Rattle.nets.specs.declared.Taken.{Taken}
+use Rattle.nets.specs.declared.Taken.the-variants as taken
+use Rattle.nets.specs.Bits.{Bits}
+use Rattle.pool.specs.States.{State}
+use Rattle.pool.specs.Decode.{Decoded, damaged, sound, decode}
+use Rattle.pool.specs.Changes.{changeNo, changeRule, wordsAfter, netNo}
+use Rattle.pool.specs.Rules.{answerAs}
+use Rattle.pool.specs.declared.Answer.{Answer}
+use Rattle.change.specs.Calls.{listWith, Added}
+use Rattle.text.specs.Ipv4.{readLine}
+use Rattle.lines.specs.Lines.{lineNo, wordsWith}
+
+pub took-refused : {t : Taken} {r : Refusal} {no : ℕ} (w l : List ℕ) → t ≡ taken.Refused r → takenAs t ≡ readLine l → no ≡ number r → (no ≡ lineNo w l) × (w ≡ wordsWith w l)
+unfolding lineNo wordsWith
+took-refused {t} {r} {no} w l e h n =
+    let q : readLine l ≡ (number r, noNet) = sym h ∙ ap takenAs e in
+    rw (q, ne-eqb (number r) 0 (number-some r)) (n, refl)
+
+pub took-added : {t : Taken} {n : Net} {a : Answer} {no : ℕ} (w l v : List ℕ) → t ≡ taken.Network n → takenAs t ≡ readLine l → Added w 0 n a v → no ≡ answerAs a .0
+    → (no ≡ lineNo w l) × (v ≡ wordsWith w l)
+unfolding lineNo wordsWith
+took-added {t} {n} {a} {no} w l v e h d k =
+    let q : readLine l ≡ (0, n) = sym h ∙ ap takenAs e in
+    rw q (k ∙ ap (λ p. p .0) (d .answer), d .words)
+
+-- A refused line leaves the words.
+wordsAfter-refused : (w : List ℕ) (D : Decoded) (k : ℕ) (a : State → ℕ) (f : State → List Bits) → (changeRule D k a f .0 ≡ 0 → ⊥) → wordsAfter w D k a f ≡ w
+unfolding changeRule wordsAfter
+wordsAfter-refused w damaged k a f ne = refl
+wordsAfter-refused w (sound S) k a f ne = rw (ne-eqb (changeNo S k (a S) (f S)) 0 ne)
+
+pub wordsWith-refused : (w l : List ℕ) → (lineNo w l ≡ 0 → ⊥) → wordsWith w l ≡ w
+unfolding lineNo wordsWith
+wordsWith-refused w l ne = go (eqb (readLine l .0) 0) ne
+  where
+    n : Net
+    n = readLine l .1
+
+    go : (b : Bool) → (cond b (changeRule (decode w) 0 (netNo n) (listWith 0 n) .0) (readLine l .0) ≡ 0 → ⊥)
+        → cond b (wordsAfter w (decode w) 0 (netNo n) (listWith 0 n)) w ≡ w
+    go true h = wordsAfter-refused w (decode w) 0 (netNo n) (listWith 0 n) h
+    go false h = refl

@@ -1,0 +1,50 @@
+-- Lines of networks: each is ended by a line feed, which the last may lack, and is added to set 0 of a pool.
+--
+--   linesOf s          the lines of the input s
+--   lineNo w l         the refusal that the line l gets where the pool's words are w: 4 for no network, then that of adding the network; 0 where it is added
+--   wordsWith w l      the words afterwards
+--   taken k w ls       the lines ls, the first of them number k, taken one after the other from the words w on, up to the first that is refused: its number and
+--                      its refusal, and the words before it; where none is refused the number behind the last line, 0, and the words with all of them
+use mathlib.Core.Bool.{cond}
+use mathlib.Core.List.{List, [], _∷_}
+use Prim.Native.Nat.{ℕ, _+_}
+use lib.Dec.{eqb}
+use Rattle.nets.specs.declared.Net.{Net}
+use Rattle.text.specs.Ipv4.{readLine}
+use Rattle.pool.specs.Decode.{decode}
+use Rattle.pool.specs.Changes.{changeRule, wordsAfter, netNo}
+use Rattle.change.specs.Calls.{listWith}
+
+abbrev pub lineFeed : ℕ
+lineFeed = 10
+
+-- the byte b in front of the first line
+abbrev pub inFront : ℕ → List (List ℕ) → List (List ℕ)
+inFront b [] = (b ∷ []) ∷ []
+inFront b (l ∷ ls) = (b ∷ l) ∷ ls
+
+unfoldable pub linesOf : List ℕ → List (List ℕ)
+linesOf [] = []
+linesOf (b ∷ s) = let ls = linesOf s in cond (eqb b lineFeed) ([] ∷ ls) (inFront b ls)
+
+-- the number and the words of adding a network to set 0
+abbrev pub addNo : List ℕ → Net → ℕ
+addNo w n = changeRule (decode w) 0 (netNo n) (listWith 0 n) .0
+
+abbrev pub addWords : List ℕ → Net → List ℕ
+addWords w n = wordsAfter w (decode w) 0 (netNo n) (listWith 0 n)
+
+unfoldable pub lineNo : List ℕ → List ℕ → ℕ
+lineNo w l = let r = readLine l in cond (eqb (r .0) 0) (addNo w (r .1)) (r .0)
+
+unfoldable pub wordsWith : List ℕ → List ℕ → List ℕ
+wordsWith w l = let r = readLine l in cond (eqb (r .0) 0) (addWords w (r .1)) w
+
+pub record Result : Type 0 where
+  pub number : ℕ
+  pub no : ℕ
+  pub words : List ℕ
+
+unfoldable pub taken : ℕ → List ℕ → List (List ℕ) → Result
+taken k w [] = record { number = k; no = 0; words = w }
+taken k w (l ∷ ls) = cond (eqb (lineNo w l) 0) (taken (k + 1) (wordsWith w l) ls) (record { number = k; no = lineNo w l; words = w })

@@ -1,0 +1,54 @@
+-- What the calls do: the reader and the pool's words after each byte. Of the line that is being read the first 19 bytes are kept.
+--
+--   begun              before the first byte
+--   kept r             the bytes kept of the line
+--   pushed r b         one byte more of the line
+--   ended w r          the line has ended: its network is added and the next line begins, or the reading ends here
+--   stepped w r b      a byte of the input
+--   fed w r s          the bytes s, up to the first line that is refused
+--   finished w r       the input has ended, and with it a line that lacks its line feed
+use mathlib.Core.Bool.{cond}
+use mathlib.Core.List.{List, [], _∷_}
+use Prim.Native.Nat.{ℕ, _+_, _%_, _^_}
+use lib.Dec.{eqb, ltb}
+use lib.ListN.{take, set, replicate}
+use Rattle.lines.specs.Lines.{lineFeed, lineNo, wordsWith}
+use Rattle.lines.specs.declared.Reader.{Reader}
+
+abbrev pub places : ℕ
+places = 19
+
+abbrev pub begun : Reader
+begun = record { line = replicate places 0; len = 0; number = 1; no = 0 }
+
+abbrev pub kept : Reader → List ℕ
+kept r = take (r .len) (r .line)
+
+unfoldable pub pushed : Reader → ℕ → Reader
+pushed r b = cond (ltb (r .len) places) (record { line = set (r .line) (r .len) b; len = r .len + 1; number = r .number; no = r .no }) r
+
+-- by the refusal of the line, or 0; numbers go on from 0 behind the largest
+abbrev pub endedAs : ℕ → Reader → Reader
+endedAs x r =
+    cond (eqb x 0) (record { line = r .line; len = 0; number = (r .number + 1) % 2 ^ 64; no = x }) (record { line = r .line; len = r .len; number = r .number; no = x })
+
+unfoldable pub ended : List ℕ → Reader → Reader × List ℕ
+ended w r = (endedAs (lineNo w (kept r)) r, wordsWith w (kept r))
+
+abbrev pub stepped : List ℕ → Reader → ℕ → Reader × List ℕ
+stepped w r b = cond (eqb b lineFeed) (ended w r) (pushed r b, w)
+
+unfoldable pub fed : List ℕ → Reader → List ℕ → Reader × List ℕ
+fed w r [] = (r, w)
+fed w r (b ∷ s) = cond (eqb (r .no) 0) (let x = stepped w r b in fed (x .1) (x .0) s) (r, w)
+
+unfoldable pub finished : List ℕ → Reader → Reader × List ℕ
+finished w r = cond (eqb (r .no) 0) (cond (eqb (r .len) 0) (r, w) (ended w r)) (r, w)
+
+-- the pieces ps one after the other, and the end of the input
+unfoldable pub fedAll : List ℕ → Reader → List (List ℕ) → Reader × List ℕ
+fedAll w r [] = (r, w)
+fedAll w r (p ∷ ps) = let x = fed w r p in fedAll (x .1) (x .0) ps
+
+abbrev pub allRead : List ℕ → List (List ℕ) → Reader × List ℕ
+allRead w ps = let x = fedAll w begun ps in finished (x .1) (x .0)
