@@ -56,7 +56,7 @@ length-fileOf f l = rw (length-append (headerOf f (length l)) (entriesOf f l), l
 
 -- An entry is read as its network.
 module _ (f : ℕ) (p : Bits) (h : length p ≤ width f) where
-  number-lt : val p * 2 ^ (width f - length p) < 2 ^ width f
+  pub number-lt : val p * 2 ^ (width f - length p) < 2 ^ width f
   number-lt = let e : length p + (width f - length p) ≡ width f = omega arith in rw e at (shl-lt (length p) (width f - length p) (val-high p))
 
   isClean-netFrom : isClean (netFrom f p) ≡ true

@@ -4,6 +4,7 @@ pub mod Paths
 pub mod Levels
 pub mod Counting
 pub mod Placing
+pub mod RowForm
 pub mod Resuming
 pub mod Calls
 pub mod Outcomes

@@ -24,7 +24,7 @@ use Rattle.pool.specs.declared.Answer.the-variants as answer
 use Rattle.pool.proofs.Determined.{answerAs-one}
 use Rattle.listing.specs.Rows.{rowsOf}
 use Rattle.listing.specs.Calls.{listNo, listRule, rowsAfter, Listed, fromNo, placeFrom, foundAs, followerAs, nextNo, nextRule}
-use Rattle.listing.proofs.Placing.{length-rowsOf}
+use Rattle.listing.proofs.RowForm.{length-rowsOf}
 use Rattle.listing.specs.declared.From.{From}
 use Rattle.listing.specs.declared.Follower.{Follower}
 use Rattle.listing.specs.declared.Follower.the-variants.{Network, End, Refused}

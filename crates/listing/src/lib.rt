@@ -16,8 +16,8 @@ ghost use Rattle.pool.specs.Decode.{decode};
 ghost use Rattle.listing.specs.Calls.{Listed, followerAs, nextRule};
 
 pub mod following;
-mod halves;
-mod lengths;
+pub mod halves;
+pub mod lengths;
 mod places;
 pub mod rows;
 pub mod seats;

@@ -1,0 +1,5 @@
+-- The laws of saving: numbers and entries as bytes, the entries of a list at their places, and the returns and outcomes of the call.
+pub mod Stores
+pub mod EntryForm
+pub mod Returns
+pub mod Outcomes

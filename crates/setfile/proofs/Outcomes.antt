@@ -1,0 +1,77 @@
+-- The outcomes of save: each call has one. On a sound pool the bytes begin with the set's file, byte by byte, those past it stay, and the file reads back as the set's list.
+-- Assumes nothing.
+use mathlib.Core.Path.{_≡_, refl, sym, ap, _∙_}
+use mathlib.Core.List.{List, [], _∷_}
+use Prim.Native.Nat.{ℕ, _≤_, _<_}
+use native.Mathlib.Omega.{arith}
+use lib.ListN.{length, getD, take}
+use borrow.Author.Tests.{lt-ltb, le-ltb, le-leb, lt-leb}
+use Rattle.nets.specs.Networks.{width}
+use Rattle.nets.specs.declared.Refusal.the-variants.{Damaged, NoSet, ShortBuffer}
+use Rattle.nodes.specs.Words.{put}
+use Rattle.nodes.proofs.Put.{length-put, getD-put-behind}
+use Rattle.pool.specs.States.{State}
+use Rattle.pool.specs.Decode.{damaged, sound, decode}
+use Rattle.pool.specs.Changes.{setAt, listAt}
+use Rattle.pool.specs.declared.Answer.{Answer}
+use Rattle.pool.specs.declared.Answer.the-variants as answer
+use Rattle.pool.proofs.Claims.{isState-family, isSet-list}
+use Rattle.pool.proofs.Determined.{answerAs-one}
+use Rattle.pool.proofs.Holds.{set-listOf}
+use Rattle.pool.proofs.Decoded.{decode-state, decode-set}
+use Rattle.files.specs.Files.{file, readFile}
+use Rattle.files.proofs.Written.{readFile-fileOf}
+use Rattle.setfile.specs.Calls.{fileAt, saveNo, saveRule, bytesAfter, Saved}
+use Rattle.setfile.proofs.Returns.{decode-few}
+
+pub save-determined : {w v u x : List ℕ} {k : ℕ} {r s : Answer} → Saved w k v r u → Saved w k v s x → (r ≡ s) × (u ≡ x)
+save-determined {r = r} {s = s} g h = (answerAs-one r s (g .answer ∙ sym (h .answer)), g .bytes ∙ sym (h .bytes))
+
+-- the file of a set of a sound pool reads as its family and its list
+pub readFile-fileAt : (w : List ℕ) (S : State) → decode w ≡ sound S → (k : ℕ) → k < length (S .sets) → readFile (fileAt S k) ≡ file (S .family) (listAt S k)
+readFile-fileAt w S d k lt =
+    let e = decode-set w S d k lt .rules in
+    let v = width (S .family) in
+    readFile-fileOf (S .family) (listAt S k) (isState-family S (decode-state w S d)) (isSet-list v (setAt S k) e) (decode-few w S d k lt (set-listOf v (setAt S k) e))
+
+take-put : (v xs : List ℕ) → length xs ≤ length v → take (length xs) (put v 0 xs) ≡ xs
+unfolding put
+take-put [] [] h = refl
+take-put [] (x ∷ xs) h = absurd (omega arith)
+take-put (y ∷ v) [] h = refl
+take-put (y ∷ v) (x ∷ xs) h = ap (λ l. x ∷ l) (take-put v xs (omega arith))
+
+module _ {w v u : List ℕ} {k : ℕ} {r : Answer} (h : Saved w k v r u) where
+  pub save-damaged : decode w ≡ damaged → (r ≡ answer.Refused Damaged) × (u ≡ v)
+  unfolding saveRule bytesAfter
+  save-damaged d = (answerAs-one r (answer.Refused Damaged) (h .answer ∙ rw d), h .bytes ∙ rw d)
+
+  module _ (S : State) (d : decode w ≡ sound S) where
+    pub save-noset : length (S .sets) ≤ k → (r ≡ answer.Refused NoSet) × (u ≡ v)
+    unfolding saveRule bytesAfter saveNo
+    save-noset le = let l = le-ltb k (length (S .sets)) le in (answerAs-one r (answer.Refused NoSet) (h .answer ∙ rw (d, l)), h .bytes ∙ rw (d, l))
+
+    module _ (lt : k < length (S .sets)) where
+      pub save-small : length v < length (fileAt S k) → (r ≡ answer.Refused ShortBuffer) × (u ≡ v)
+      unfolding saveRule bytesAfter saveNo
+      save-small less =
+          let l = lt-ltb k (length (S .sets)) lt in
+          let m = lt-leb (length (fileAt S k)) (length v) less in
+          (answerAs-one r (answer.Refused ShortBuffer) (h .answer ∙ rw (d, l, m)), h .bytes ∙ rw (d, l, m))
+
+      module _ (le : length (fileAt S k) ≤ length v) where
+        pub save-file : (r ≡ answer.Granted (length (fileAt S k))) × (u ≡ put v 0 (fileAt S k))
+        unfolding saveRule bytesAfter saveNo
+        save-file =
+            let l = lt-ltb k (length (S .sets)) lt in
+            let m = le-leb (length (fileAt S k)) (length v) le in
+            (answerAs-one r (answer.Granted (length (fileAt S k))) (h .answer ∙ rw (d, l, m)), h .bytes ∙ rw (d, l, m))
+
+        pub save-reads : readFile (take (length (fileAt S k)) u) ≡ file (S .family) (listAt S k)
+        save-reads = rw (save-file .1, take-put v (fileAt S k) le) (readFile-fileAt w S d k lt)
+
+        pub save-length : length u ≡ length v
+        save-length = ap length (save-file .1) ∙ length-put v 0 (fileAt S k)
+
+        pub save-past : (i : ℕ) → length (fileAt S k) ≤ i → getD u i 0 ≡ getD v i 0
+        save-past i more = rw (save-file .1) (getD-put-behind v 0 (fileAt S k) i (omega arith))

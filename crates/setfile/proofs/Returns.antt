@@ -1,0 +1,90 @@
+-- A law for each return of save, by the tests on the way to it. Assumes nothing.
+use mathlib.Core.Path.{_≡_, refl, sym, ap, _∙_}
+use mathlib.Core.List.{List}
+use Prim.Native.Nat.{ℕ, _≤_, _<_}
+use native.Mathlib.Omega.{arith}
+use lib.ListN.{length}
+use borrow.Author.Tests.{lt-ltb, le-ltb, le-leb, lt-leb}
+use Rattle.nets.specs.Networks.{width}
+use Rattle.nets.specs.Refusals.{number}
+use Rattle.nets.specs.Tries.{Trie, listOf, trieOf}
+use Rattle.nets.specs.declared.Refusal.{Refusal}
+use Rattle.nets.specs.declared.Refusal.the-variants.{ShortBuffer}
+use Rattle.nodes.specs.Words.{put}
+use Rattle.pool.specs.States.{State}
+use Rattle.pool.specs.Decode.{Decoded, damaged, sound, decode}
+use Rattle.pool.specs.Changes.{setAt, listAt}
+use Rattle.pool.specs.declared.Answer.the-variants as answer
+use Rattle.pool.proofs.Claims.{isState-claimed, claimedBut-is}
+use Rattle.pool.proofs.Header.{isHeader-header}
+use Rattle.pool.proofs.Holds.{set-size}
+use Rattle.pool.proofs.Decoded.{decode-header, decode-state, decode-set}
+use Rattle.listing.specs.Spans.{Spans, Holds}
+use Rattle.listing.specs.Seats.{Sits, Refuses, Seats}
+use Rattle.listing.specs.declared.seats.Seat.{Seat}
+use Rattle.listing.specs.declared.seats.Seated.the-variants.{Refused}
+use Rattle.listing.proofs.Counting.{listOf-size}
+use Rattle.files.specs.Files.{fileBytes, mostEntries, fileOf}
+use Rattle.files.proofs.Written.{length-fileOf, fileBytes-few}
+use Rattle.setfile.specs.Calls.{fileAt, saveNo, saveRule, bytesAfter, Saved}
+
+saveRule-refused : (d : Decoded) (k n x : ℕ) → Refuses d k x → (x, 0) ≡ saveRule d k n
+unfolding saveRule saveNo
+saveRule-refused damaged k n x e = ap (λ y. (y, 0)) e
+saveRule-refused (sound S) k n x e = rw (e .1, le-ltb k (length (S .sets)) (e .0))
+
+bytesAfter-refused : (d : Decoded) (k x : ℕ) (v : List ℕ) → Refuses d k x → v ≡ bytesAfter v d k
+unfolding bytesAfter saveNo
+bytesAfter-refused damaged k x v e = refl
+bytesAfter-refused (sound S) k x v e = rw (le-ltb k (length (S .sets)) (e .0))
+
+pub save-refused : {w v : List ℕ} {k : ℕ} (x : Refusal) → Seats w k (Refused x) → Saved w k v (answer.Refused x) v
+save-refused {w} {v} {k} x e =
+    record { answer = saveRule-refused (decode w) k (length v) (number x) e; bytes = bytesAfter-refused (decode w) k (number x) v e }
+
+-- a set of a sound pool has no more networks than a file may have
+pub decode-few : (w : List ℕ) (S : State) → decode w ≡ sound S → (k : ℕ) → k < length (S .sets) → listOf (trieOf (listAt S k)) ≡ listAt S k → length (listAt S k) ≤ mostEntries
+decode-few w S e k lt q =
+    let h = isHeader-header w (decode-header w S e .known) in
+    omega (
+      arith,
+      ap length q,
+      listOf-size (trieOf (listAt S k)),
+      set-size (width (S .family)) (setAt S k) (decode-set w S e k lt .rules),
+      claimedBut-is k (S .sets) lt,
+      isState-claimed S (decode-state w S e),
+      decode-header w S e .nodes,
+    )
+
+module _ {w : List ℕ} {k : ℕ} {S : State} {s : Seat} (h : Sits w k S s) {n : ℕ} (c : (t : Trie) → Spans w (s .base) (s .first) (s .end) t → n ≡ length (listOf t)) where
+  counted : n ≡ length (listAt S k)
+  counted = c (trieOf (listAt S k)) (h .holds .stands) ∙ ap length (h .list)
+
+  pub save-few : n ≤ mostEntries
+  save-few = rw counted (decode-few w S (h .decoded) k (h .known) (h .list))
+
+  module _ {m : ℕ} (q : m ≡ fileBytes (s .family) n) where
+    sized : m ≡ length (fileAt S k)
+    sized = q ∙ rw (counted, h .family) (sym (length-fileOf (S .family) (listAt S k)))
+
+    pub save-fits : m ≤ 71303184
+    save-fits = rw q (fileBytes-few (s .family) n save-few)
+
+    pub save-short : {v : List ℕ} → length v < m → Saved w k v (answer.Refused ShortBuffer) v
+    unfolding saveRule bytesAfter saveNo
+    save-short {v} lt =
+        let l = lt-ltb k (length (S .sets)) (h .known) in
+        let g = lt-leb (length (fileAt S k)) (length v) (rw sized at lt) in
+        record { answer = rw (h .decoded, l, g); bytes = rw (h .decoded, l, g) }
+
+    pub save-granted : {v u : List ℕ} → m ≤ length v
+        → ((t : Trie) → Holds w (s .base) (s .first) (s .end) (s .family) t → n ≡ length (listOf t) → n ≤ mostEntries → fileBytes (s .family) n ≤ length v
+        → u ≡ put v 0 (fileOf (s .family) (listOf t)))
+        → Saved w k v (answer.Granted m) u
+    unfolding saveRule bytesAfter saveNo
+    save-granted {v} {u} le f =
+        let l = lt-ltb k (length (S .sets)) (h .known) in
+        let g = le-leb (length (fileAt S k)) (length v) (rw sized at le) in
+        let t = trieOf (listAt S k) in
+        let r : u ≡ put v 0 (fileAt S k) = rw (h .list, h .family) at (f t (h .holds) (c t (h .holds .stands)) save-few (rw q at le)) in
+        record { answer = rw (h .decoded, l, g) (ap (λ x. (0, x)) sized); bytes = rw (h .decoded, l, g) r }

@@ -1,0 +1,3 @@
+-- The calls on set files; then what the inner functions cite.
+pub mod Calls
+pub mod Saving

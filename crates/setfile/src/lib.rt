@@ -1,0 +1,31 @@
+// Set files: a set into bytes. Each call checks the pool in one pass.
+use listing::rows::count;
+use listing::seats::Seated;
+use listing::seats::seat_of;
+use nets::Refusal;
+use pool::Answer;
+use saving::file_bytes;
+use saving::write_file;
+ghost use Rattle.setfile.specs.Calls.{Saved};
+
+mod saving;
+mod writing;
+
+// Writes the file of a set, and answers how many bytes it has. Bytes past it keep what they had, and a refusal writes nothing.
+pub fn save(pool: &[u32], set: u32, out: &mut [u8]) -> Answer
+    ensures { λ r. ⌜ Saved (now (pool .entry)) set (now (out .entry)) r (now (out .exit)) ⌝ }
+{
+    let seated = seat_of(pool, set);
+    match seated {
+        Seated::Refused(no) => Answer::Refused(no),
+        Seated::At(s) => {
+            let n = count(pool, s.base, s.first, s.end);
+            let size = file_bytes(s.family, n);
+            if out.len() < size {
+                return Answer::Refused(Refusal::ShortBuffer);
+            }
+            write_file(pool, s.base, s.first, s.end, s.family, n, out);
+            Answer::Granted(size as u32)
+        }
+    }
+}
