@@ -1,13 +1,16 @@
-// Set files: a set into bytes. Each call checks the pool in one pass.
+// Set files: a set into bytes, and bytes into a set. Each call checks the pool in one pass.
 use listing::rows::count;
 use listing::seats::Seated;
 use listing::seats::seat_of;
+use loading::load_file;
 use nets::Refusal;
 use pool::Answer;
 use saving::file_bytes;
 use saving::write_file;
 ghost use Rattle.setfile.specs.Calls.{Saved};
+ghost use Rattle.setfile.specs.Loading.{Loaded};
 
+mod loading;
 mod saving;
 mod writing;
 
@@ -28,4 +31,11 @@ pub fn save(pool: &[u32], set: u32, out: &mut [u8]) -> Answer
             Answer::Granted(size as u32)
         }
     }
+}
+
+// Gives an empty set the list of a file, and answers its nodes. A refusal changes no word.
+pub fn load(pool: &mut [u32], set: u32, bytes: &[u8]) -> Answer
+    ensures { λ r. ⌜ Loaded (now (pool .entry)) set (now (bytes .entry)) r (now (pool .exit)) ⌝ }
+{
+    load_file(pool, set, bytes)
 }

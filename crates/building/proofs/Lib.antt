@@ -1,0 +1,4 @@
+-- The laws of writing a trie of networks.
+pub mod Digits
+pub mod Under
+pub mod Building

@@ -1,0 +1,2 @@
+-- What writing a trie of networks asks and leaves.
+pub mod Building

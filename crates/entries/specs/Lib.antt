@@ -1,0 +1,2 @@
+-- What the checks of entries ask of a network.
+pub mod Entries

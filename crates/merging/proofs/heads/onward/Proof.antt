@@ -1,0 +1,23 @@
+-- `heads::onward` meets its contract. Assumes nothing.
+use mathlib.Core.Path.{_≡_, refl}
+use Prim.Native.Nat.{_+_}
+use native.Mathlib.Omega.{arith}
+use borrow.Author.Needs.{needs}
+use Rattle.files.specs.Files.{entryNet}
+use Rattle.merging.proofs.Read.{fileBytes-le}
+use Rattle.merging.proofs.heads.onward.Statement.{statement}
+use Rattle.merging.proofs.heads.onward.Tie as tie
+
+pub onward-spec : {M : Type 1} → statement M
+onward-spec =
+    tie.close
+    (tie.spec
+    (λ c. search needs)
+    (λ c. search needs)
+    (λ c κs.
+    let a = c .before .before .before .before .args in
+    (omega arith, omega (arith, fileBytes-le (a .family) (a .x .next + 1 + 1) (a .x .end) (omega arith))))
+    (λ c.
+    let a = c .before .before .before .before .before .args in
+    let e : c .entry .result ≡ entryNet (a .family) (a .bytes .now) (a .x .next + 1) = c .entry .ensures .0 in
+    record { next = refl; end = refl; len = refl; hi = λ _. rw e; lo = λ _. rw e }))

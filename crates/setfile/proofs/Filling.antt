@@ -1,0 +1,85 @@
+-- The trie of a file's list, written where there is room for it: the networks that a file gives from its start are those of that trie. Assumes nothing.
+use mathlib.Core.Bool.{true, false}
+use mathlib.Core.List.{List, [], _∷_, _++_}
+use mathlib.Core.Path.{_≡_, refl, sym, ap, _∙_}
+use Prim.Native.Nat.{ℕ, zero, suc, _+_, _-_, _≤_, _<_}
+use native.Mathlib.Omega.{arith}
+use lib.ListN.{length, getD}
+use Rattle.nets.specs.Bits.{Bits}
+use Rattle.nets.specs.Lists.{nodesL}
+use Rattle.nets.specs.Tries.{Trie, none, isNone, size, listOf, trieOf}
+use Rattle.nets.specs.Networks.{width}
+use Rattle.nets.proofs.Nodes.{nodesL-listOf}
+use Rattle.nets.proofs.TrieOf.{listOf-trieOf, levels-trieOf, isList-within}
+use Rattle.nodes.specs.Words.{put, place, enc}
+use Rattle.nodes.proofs.Put.{put-nil, length-put}
+use Rattle.pool.specs.Decode.{base}
+use Rattle.pool.specs.Steps.{behindAt}
+use Rattle.pool.specs.declared.Survey.{Survey}
+use Rattle.files.specs.Files.{file, readFile}
+use Rattle.files.specs.Streams.{flat}
+use Rattle.files.proofs.RoundTrip.{IsFile, readFile-is}
+use Rattle.merging.specs.Flow.{headAs, Flow}
+use Rattle.merging.specs.declared.Head.{Head}
+use Rattle.building.specs.Building.{under, Due, Writes}
+use Rattle.building.specs.declared.writing.Built.{Built}
+use Rattle.building.proofs.Under.{under-root, first-flat}
+use Rattle.building.proofs.Building.{none-of, some-of}
+use Rattle.setfile.specs.LoadSteps.{Fillable, Writable, written}
+
+-- The list of a file is its trie's.
+module _ (d : List ℕ) {f : ℕ} {l : List Bits} (e : readFile d ≡ file f l) where
+  pub file-listOf : listOf (trieOf l) ≡ l
+  file-listOf = listOf-trieOf (width f) l (readFile-is d f l e .list)
+
+  pub file-size : size (trieOf l) ≡ nodesL l
+  file-size = sym (nodesL-listOf (trieOf l)) ∙ ap nodesL file-listOf
+
+-- The head of no network, and of some.
+deep-none : (f : ℕ) → headAs f [] [] .deep ≡ 0
+unfolding headAs
+deep-none f = refl
+
+deep-flat : (f : ℕ) (t : Trie) → isNone t ≡ false → headAs f [] (flat t) .deep ≡ 0 → ⊥
+unfolding headAs
+deep-flat f t s e = let (m, ms, i, q) = first-flat t s in omega (arith, rw q at e)
+
+module _ {w : List ℕ} {b o : ℕ} {d : List ℕ} {f : ℕ} {l : List Bits} (g : Fillable w b o d f l) {c : List ℕ} {h : Head} (k : Flow d f c (flat (trieOf l)) × (h ≡ headAs f [] (flat (trieOf l)))) where
+  head-deep : h .deep ≡ headAs f [] (flat (trieOf l)) .deep
+  head-deep = ap (λ (x : Head). x .deep) (k .1)
+
+  pub fill-none : h .deep ≡ 0 → w ≡ put w (place b o) (enc (trieOf l))
+  unfolding enc
+  fill-none e = rw (none-of (trieOf l) (λ s. deep-flat f (trieOf l) s (sym head-deep ∙ e))) (sym (put-nil w (place b o)))
+
+  pub fill-due : (h .deep ≡ 0 → ⊥) → Due w b o 0 h d f c [] [] (trieOf l) []
+  unfolding flat
+  fill-due ne = record {
+    some = some-of (trieOf l) (λ e. ne (head-deep ∙ rw e (deep-none f)));
+    path = refl;
+    deep = omega (arith, levels-trieOf (width f) l (isList-within (width f) l (readFile-is d f l (g .reads) .list)));
+    flow = rw (under-root (trieOf l)) (k .0);
+    head = rw (under-root (trieOf l)) (k .1);
+    ends = refl;
+    one = g .one;
+    few = omega (arith, g .few, file-size d (g .reads));
+    room = omega (arith, g .room, file-size d (g .reads));
+  }
+
+-- With the gap still to open: the words of the sets behind move, and leave room for the trie.
+module _ {w : List ℕ} {v : Survey} {d : List ℕ} {f n : ℕ} {l : List Bits} (g : Writable w v d f n l) {z : List ℕ} (e : z ≡ put w (place (base (getD w 2 0)) (v .at + n)) (behindAt w (base (getD w 2 0)) v)) where
+  opened : length z ≡ length w
+  opened = rw e (length-put w (place (base (getD w 2 0)) (v .at + n)) (behindAt w (base (getD w 2 0)) v))
+
+  pub write-fills : Fillable z (base (getD w 2 0)) (v .at) d f l
+  write-fills =
+      let k = g .gap in
+      record {
+        reads = g .reads;
+        one = k .first;
+        few = omega (arith, k .last, g .few, g .nodes, g .empty);
+        room = omega (arith, opened, k .first, k .last, k .room, g .nodes, g .empty);
+      }
+
+  pub write-wrote : {y : List ℕ} → y ≡ put z (place (base (getD w 2 0)) (v .at)) (enc (trieOf l)) → y ≡ written w v n l
+  write-wrote q = q ∙ ap (λ x. put x (place (base (getD w 2 0)) (v .at)) (enc (trieOf l))) e

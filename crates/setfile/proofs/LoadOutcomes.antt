@@ -1,0 +1,116 @@
+-- The outcomes of load: each call has one. On a sound pool each refusal is given in its case, and else the set has the file's list, in a pool that is sound again. So what save
+-- wrote loads as the list of the set. Assumes nothing.
+use mathlib.Core.Bool.{Bool, true, false, cond}
+use mathlib.Core.List.{List, [], _∷_}
+use mathlib.Core.Path.{_≡_, refl, sym, ap, _∙_}
+use Prim.Native.Nat.{ℕ, _≤_, _<_}
+use native.Mathlib.Omega.{arith}
+use lib.Dec.{eqb}
+use lib.ListN.{length, take}
+use borrow.Author.Tests.{lt-ltb, le-leb, lt-leb, eqb-true}
+use Rattle.nets.specs.Bits.{Bits}
+use Rattle.nets.specs.Lists.{isList, nodesL}
+use Rattle.nets.specs.Networks.{width}
+use Rattle.nets.specs.Refusals.{number}
+use Rattle.nets.specs.declared.Refusal.{Refusal}
+use Rattle.nets.specs.declared.Refusal.the-variants.{Damaged, NoSet, BadFile, WrongFamily, Occupied, OverLimit, NoRoom}
+use Rattle.nets.proofs.Answers.{number-some}
+use Rattle.pool.specs.States.{State, roomOf}
+use Rattle.pool.specs.Decode.{damaged, sound, decode}
+use Rattle.pool.specs.Rules.{surveyOf}
+use Rattle.pool.specs.Changes.{setAt, listAt, withList, changeNo, changeRule}
+use Rattle.pool.specs.declared.Answer.{Answer}
+use Rattle.pool.specs.declared.Answer.the-variants as answer
+use Rattle.pool.proofs.Decoded.{decode-header}
+use Rattle.pool.proofs.Seen.{Seen, survey-seen}
+use Rattle.pool.proofs.Determined.{answerAs-one, changed-one}
+use Rattle.pool.proofs.Returns.{changed, change-damaged, change-noset, change-args, change-judged}
+use Rattle.change.proofs.Outcomes.{Leaves, changed-leaves}
+use Rattle.combine.specs.Rules.{isEmpty}
+use Rattle.files.specs.Files.{File, broken, file, readFile}
+use Rattle.files.proofs.RoundTrip.{readFile-is}
+use Rattle.setfile.specs.Calls.{fileAt, Saved}
+use Rattle.setfile.specs.Loading.{loadNo, fileList, Loaded}
+use Rattle.setfile.proofs.Outcomes.{save-reads}
+use Rattle.setfile.proofs.Loads.{loadNo-broken, loadNo-other, loadNo-occupied, loadNo-right}
+
+pub load-determined : {w v u : List ℕ} {k : ℕ} {r s : Answer} (d : List ℕ) → Loaded w k d r v → Loaded w k d s u → (r ≡ s) × (v ≡ u)
+load-determined d h g = changed-one h g
+
+-- The list of a file that is right for a set of the pool is one of the pool's width.
+loadNo-zero : (x : File) (k : ℕ) (S : State) → loadNo x k S ≡ 0 → x ≡ file (S .family) (fileList x)
+unfolding loadNo
+loadNo-zero broken k S e = absurd (omega arith)
+loadNo-zero (file f l) k S e = go (eqb f (S .family)) refl e
+  where
+    go : (b : Bool) → eqb f (S .family) ≡ b → _≡_ {A = ℕ} (cond b (cond (isEmpty (listAt S k)) 0 8) 6) 0 → file f l ≡ file (S .family) l
+    go true q z = ap (λ g. file g l) (eqb-true f (S .family) q)
+    go false q z = absurd (omega arith)
+
+pub load-leaves : {w v : List ℕ} {S : State} {k : ℕ} {r : Answer} (d : List ℕ) → decode w ≡ sound S → Loaded w k d r v → Leaves S k (loadNo (readFile d) k S) (fileList (readFile d)) r v
+load-leaves {S = S} {k = k} d e h = changed-leaves e (λ lt z. readFile-is d (S .family) (fileList (readFile d)) (loadNo-zero (readFile d) k S z) .list) h
+
+module _ {w v : List ℕ} {k : ℕ} {r : Answer} (d : List ℕ) (h : Loaded w k d r v) where
+  pub load-damaged : decode w ≡ damaged → (r ≡ answer.Refused Damaged) × (v ≡ w)
+  unfolding surveyOf
+  load-damaged e = load-determined d h (changed (change-damaged (loadNo (readFile d) k) (λ T. fileList (readFile d)) w k (surveyOf (decode w) k) refl (rw e)))
+
+  module _ (S : State) (e : decode w ≡ sound S) where
+    pub load-noset : length (S .sets) ≤ k → (r ≡ answer.Refused NoSet) × (v ≡ w)
+    unfolding surveyOf
+    load-noset le =
+        load-determined d h
+        (changed (change-noset (loadNo (readFile d) k) (λ T. fileList (readFile d)) w k (surveyOf (decode w) k) refl (rw e) (omega (arith, decode-header w S e .sets))))
+
+    module _ (lt : k < length (S .sets)) where
+      here : Seen w S k (surveyOf (decode w) k)
+      here = survey-seen w k (surveyOf (decode w) k) refl S e (omega (arith, decode-header w S e .sets))
+
+      refused : (x : Refusal) → loadNo (readFile d) k S ≡ number x → (r ≡ answer.Refused x) × (v ≡ w)
+      refused x q = load-determined d h (changed (change-args (loadNo (readFile d) k) (λ T. fileList (readFile d)) here q (number-some x)))
+
+      pub load-broken : readFile d ≡ broken → (r ≡ answer.Refused BadFile) × (v ≡ w)
+      load-broken i = refused BadFile (loadNo-broken (readFile d) k S i)
+
+      module _ {f : ℕ} {l : List Bits} (i : readFile d ≡ file f l) where
+        pub load-family : (f ≡ S .family → ⊥) → (r ≡ answer.Refused WrongFamily) × (v ≡ w)
+        load-family ne = refused WrongFamily (loadNo-other (readFile d) k S f l i ne)
+
+        module _ (own : f ≡ S .family) where
+          pub load-occupied : (listAt S k ≡ [] → ⊥) → (r ≡ answer.Refused Occupied) × (v ≡ w)
+          load-occupied ne = refused Occupied (loadNo-occupied (readFile d) k S f l i own ne)
+
+          module _ (empty : listAt S k ≡ []) where
+            right : loadNo (readFile d) k S ≡ 0
+            right = loadNo-right (readFile d) k S f l i own empty
+
+            judged : (x : Refusal) → number x ≡ changeNo S k 0 l → (r ≡ answer.Refused x) × (v ≡ w)
+            judged x q =
+                load-determined d h
+                (changed (change-judged (loadNo (readFile d) k) (λ T. fileList (readFile d)) here right (q ∙ ap (λ m. changeNo S k 0 (fileList m)) (sym i)) (number-some x)))
+
+            pub load-limit : setAt S k .limit < nodesL l → (r ≡ answer.Refused OverLimit) × (v ≡ w)
+            unfolding changeNo
+            load-limit more = judged OverLimit (rw (lt-ltb k (length (S .sets)) lt, lt-leb (nodesL l) (setAt S k .limit) more))
+
+            module _ (low : nodesL l ≤ setAt S k .limit) where
+              pub load-room : roomOf S k < nodesL l → (r ≡ answer.Refused NoRoom) × (v ≡ w)
+              unfolding changeNo
+              load-room more = judged NoRoom (rw (lt-ltb k (length (S .sets)) lt, le-leb (nodesL l) (setAt S k .limit) low, lt-leb (nodesL l) (roomOf S k) more))
+
+              module _ (fits : nodesL l ≤ roomOf S k) where
+                granted : changeNo S k (loadNo (readFile d) k S) (fileList (readFile d)) ≡ 0
+                unfolding changeNo
+                granted = rw (right, i, lt-ltb k (length (S .sets)) lt, le-leb (nodesL l) (setAt S k .limit) low, le-leb (nodesL l) (roomOf S k) fits)
+
+                pub load-list : (r ≡ answer.Granted (nodesL l)) × (decode v ≡ sound (withList S k l))
+                unfolding changeRule
+                load-list =
+                    let x = load-leaves d e h in
+                    (answerAs-one r (answer.Granted (nodesL l)) (h .answer ∙ rw (e, granted, i)), x .holds ∙ ap sound (x .is ∙ rw (granted, i)))
+
+-- What save wrote of a set loads as the list of that set, into any empty set that may have it.
+pub save-load : {w x u : List ℕ} {k : ℕ} {q : Answer} → Saved w k x q u → (S : State) → decode w ≡ sound S → k < length (S .sets) → length (fileAt S k) ≤ length x
+    → {z v : List ℕ} {j : ℕ} {r : Answer} → Loaded z j (take (length (fileAt S k)) u) r v → (T : State) → decode z ≡ sound T → j < length (T .sets) → S .family ≡ T .family → listAt T j ≡ []
+    → nodesL (listAt S k) ≤ setAt T j .limit → nodesL (listAt S k) ≤ roomOf T j → (r ≡ answer.Granted (nodesL (listAt S k))) × (decode v ≡ sound (withList T j (listAt S k)))
+save-load {u = u} {k = k} g S e lt le h T f lj own empty low fits = load-list (take (length (fileAt S k)) u) h T f lj (save-reads g S e lt le) own empty low fits

@@ -1,0 +1,179 @@
+-- A load, a law for each return: what `ask` finds, and then what becomes of a list whose nodes are judged. Assumes nothing.
+use mathlib.Core.Bool.{Bool, true, false}
+use mathlib.Core.List.{List, [], _∷_, _++_}
+use mathlib.Core.Path.{_≡_, refl, sym, ap, _∙_}
+use Prim.Native.Nat.{ℕ, _+_, _≤_, _<_}
+use native.Mathlib.Omega.{arith}
+use lib.Dec.{eqb}
+use lib.ListN.{length, getD}
+use borrow.Author.Tests.{eq-eqb, ne-eqb, eqb-true, eqb-false}
+use Rattle.nets.specs.Bits.{Bits}
+use Rattle.nets.specs.Lists.{nodesL}
+use Rattle.nets.specs.Tries.{Trie, size, listOf, trieOf}
+use Rattle.nets.specs.Refusals.{number}
+use Rattle.nets.specs.declared.Refusal.{Refusal}
+use Rattle.nets.specs.declared.Refusal.the-variants.{Damaged, NoSet, BadFile, WrongFamily, Occupied}
+use Rattle.nets.proofs.Answers.{number-some}
+use Rattle.nodes.specs.Words.{enc}
+use Rattle.pool.specs.States.{State, roomOf}
+use Rattle.pool.specs.Decode.{sound, decode}
+use Rattle.pool.specs.Rules.{answerAs, surveyOf}
+use Rattle.pool.specs.Changes.{listAt, changeNo}
+use Rattle.pool.specs.Steps.{relinked, Relink}
+use Rattle.pool.specs.declared.Answer.{Answer}
+use Rattle.pool.specs.declared.Survey.{Survey}
+use Rattle.pool.proofs.Decoded.{decode-header}
+use Rattle.pool.proofs.Seen.{Seen, behind, survey-sound, survey-seen, seen, seen-figures}
+use Rattle.pool.proofs.Judged.{judge-zero, changeNo-granted}
+use Rattle.pool.proofs.Changed.{withTrie, behind-first, relink-asks, gap-asks}
+use Rattle.pool.proofs.Returns.{changed, change-damaged, change-noset, change-args, change-judged, change-granted}
+use Rattle.combine.specs.Rules.{isEmpty}
+use Rattle.combine.proofs.Sources.{seen-empty, seen-some}
+use Rattle.files.specs.Files.{File, broken, file, readFile}
+use Rattle.merging.specs.Flow.{checkedOf}
+use Rattle.merging.specs.declared.Checked.{Checked}
+use Rattle.merging.specs.declared.Checked.the-variants as checked
+use Rattle.setfile.specs.Loading.{loadNo, fileList, Loaded}
+use Rattle.setfile.specs.LoadSteps.{Ready, Asks, Writable, written}
+use Rattle.setfile.specs.declared.loading.Asked.the-variants.{Go, Refused}
+use Rattle.setfile.proofs.Filling.{file-listOf, file-size}
+
+never : {A : Type 0} → _≡_ {A = ℕ} 0 1 → A
+never e = absurd (omega arith)
+
+-- What `check` says of the file.
+checked-broken : (x : File) → checkedOf x ≡ checked.Broken → x ≡ broken
+checked-broken broken e = refl
+checked-broken (file f l) e = never cc
+
+checked-file : (x : File) (f n : ℕ) → checkedOf x ≡ checked.File f n → (l : List Bits) × (x ≡ file f l) × (n ≡ nodesL l)
+checked-file broken f n e = never cc
+checked-file (file g l) f n e = let p : g ≡ f = cc in (l, ap (λ h. file h l) p, cc)
+
+-- The number that a file and a set get.
+isEmpty-some : (l : List Bits) → (l ≡ [] → ⊥) → isEmpty l ≡ false
+isEmpty-some [] ne = absurd (ne refl)
+isEmpty-some (p ∷ l) ne = refl
+
+module _ (x : File) (k : ℕ) (S : State) where
+  pub loadNo-broken : x ≡ broken → loadNo x k S ≡ 5
+  unfolding loadNo
+  loadNo-broken e = rw e
+
+  module _ (f : ℕ) (l : List Bits) (e : x ≡ file f l) where
+    pub loadNo-other : (f ≡ S .family → ⊥) → loadNo x k S ≡ 6
+    unfolding loadNo
+    loadNo-other ne = rw (e, ne-eqb f (S .family) ne)
+
+    module _ (own : f ≡ S .family) where
+      pub loadNo-occupied : (listAt S k ≡ [] → ⊥) → loadNo x k S ≡ 8
+      unfolding loadNo
+      loadNo-occupied ne = rw (e, eq-eqb f (S .family) own, isEmpty-some (listAt S k) ne)
+
+      pub loadNo-right : listAt S k ≡ [] → loadNo x k S ≡ 0
+      unfolding loadNo
+      loadNo-right n = rw (e, eq-eqb f (S .family) own, n)
+
+-- What `ask` finds.
+module _ {w : List ℕ} {k : ℕ} {v : Survey} (d : List ℕ) (e : v ≡ surveyOf (decode w) k) where
+  pub ask-damaged : v .sound ≡ false → Asks w k d (Refused Damaged)
+  ask-damaged q = changed (change-damaged (loadNo (readFile d) k) (λ S. fileList (readFile d)) w k v e q)
+
+  pub ask-noset : v .sound ≡ true → getD w 2 0 ≤ k → Asks w k d (Refused NoSet)
+  ask-noset q le = changed (change-noset (loadNo (readFile d) k) (λ S. fileList (readFile d)) w k v e q le)
+
+  module _ (q : v .sound ≡ true) (lt : k < getD w 2 0) {r : Checked} (c : r ≡ checkedOf (readFile d)) where
+    ask-args : (x : Refusal) → ((S : State) → Seen w S k v → getD w 1 0 ≡ S .family → loadNo (readFile d) k S ≡ number x) → Asks w k d (Refused x)
+    ask-args x h =
+        let y = survey-sound w k v e q in
+        let g = survey-seen w k v e (y .0) (y .1) lt in
+        changed (change-args (loadNo (readFile d) k) (λ S. fileList (readFile d)) g (h (y .0) g (decode-header w (y .0) (y .1) .family)) (number-some x))
+
+    pub ask-broken : r ≡ checked.Broken → Asks w k d (Refused BadFile)
+    ask-broken i = ask-args BadFile (λ S g o. loadNo-broken (readFile d) k S (checked-broken (readFile d) (sym c ∙ i)))
+
+    module _ {f n : ℕ} (i : r ≡ checked.File f n) where
+      pub ask-family : (f ≡ getD w 1 0 → ⊥) → Asks w k d (Refused WrongFamily)
+      ask-family ne = let its = checked-file (readFile d) f n (sym c ∙ i) in ask-args WrongFamily (λ S g o. loadNo-other (readFile d) k S f (its .0) (its .1) (λ z. ne (z ∙ sym o)))
+
+      module _ (own : f ≡ getD w 1 0) where
+        pub ask-occupied : (v .held ≡ 0 → ⊥) → Asks w k d (Refused Occupied)
+        ask-occupied ne = let its = checked-file (readFile d) f n (sym c ∙ i) in ask-args Occupied (λ S g o. loadNo-occupied (readFile d) k S f (its .0) (its .1) (own ∙ o) (seen-some g ne))
+
+        pub ask-go : v .held ≡ 0 → Asks w k d (Go v f n)
+        ask-go z =
+            let (l, reads, nodes) = checked-file (readFile d) f n (sym c ∙ i) in
+            record { surveyed = record { found = e; sound = q; known = lt }; empty = z; list = l; reads = reads; family = own; nodes = nodes }
+
+-- A load that goes on, with the list of its file.
+module _ {w : List ℕ} {k : ℕ} {d : List ℕ} {v : Survey} {f n : ℕ} (c : Ready w k d v f n) where
+  abbrev S : State
+  S = seen (c .surveyed) .0
+
+  known : Seen w S k v
+  known = seen (c .surveyed) .1
+
+  abbrev trie : Trie
+  trie = trieOf (c .list)
+
+  abbrev after : List Bits
+  after = fileList (readFile d)
+
+  after-is : after ≡ c .list
+  after-is = ap fileList (c .reads)
+
+  after-nodes : nodesL after ≡ n
+  after-nodes = ap nodesL after-is ∙ sym (c .nodes)
+
+  trie-size : size trie ≡ n
+  trie-size = file-size d (c .reads) ∙ sym (c .nodes)
+
+  trie-list : listOf trie ≡ after
+  trie-list = file-listOf d (c .reads) ∙ sym after-is
+
+  right : loadNo (readFile d) k S ≡ 0
+  right = loadNo-right (readFile d) k S f (c .list) (c .reads) (c .family ∙ decode-header w S (known .decoded) .family) (seen-empty known (c .empty))
+
+  -- r judges its nodes
+  module _ {r : ℕ} (j : (T : State) (l : List Bits) → decode w ≡ sound T → nodesL l ≡ n → r ≡ changeNo T k 0 l) where
+    verdict : r ≡ changeNo S k 0 after
+    verdict = j S after (known .decoded) after-nodes
+
+    pub load-many : (r ≡ 0 → ⊥) → (r ≡ 9 → ⊥) → r ≡ 10
+    load-many ne n9 = go (eqb r 10) refl
+      where
+        go : (b : Bool) → eqb r 10 ≡ b → r ≡ 10
+        go true e = eqb-true r 10 e
+        go false e = absurd (ne (judge-zero known after verdict n9 (eqb-false r 10 e)))
+
+    pub load-refused : {x : Answer} → (r ≡ 0 → ⊥) → answerAs x ≡ (r, 0) → Loaded w k d x w
+    load-refused ne e = changed (rw e (change-judged (loadNo (readFile d) k) (λ T. after) known right verdict ne))
+
+    -- it is granted
+    module _ (z : r ≡ 0) where
+      fits : n ≤ roomOf S k
+      fits = rw after-nodes at (changeNo-granted S k 0 after (sym z ∙ verdict) .0 .room)
+
+      pub load-writes : Writable w v d f n (c .list)
+      load-writes =
+          let x = seen-figures known in
+          record {
+            reads = c .reads;
+            nodes = sym (c .nodes);
+            gap = gap-asks known fits refl;
+            empty = c .empty;
+            few = omega (arith, fits, decode-header w S (known .decoded) .nodes);
+            sets = x .sets;
+            long = omega (arith, x .long);
+          }
+
+      -- and written
+      module _ {y : List ℕ} (i : (l : List Bits) → Writable w v d f n l → y ≡ written w v n l) where
+        wrote : y ≡ withTrie w S k v trie
+        wrote = behind-first known trie refl (rw trie-size (i (c .list) load-writes))
+
+        pub load-relinks : Relink y k (v .held) n
+        load-relinks = relink-asks known (enc trie ++ behind S k) fits wrote
+
+        pub load-granted : {a : Answer} {x : List ℕ} → (answerAs a ≡ (0, n)) × (x ≡ relinked y k (v .at) (v .held) n) → Loaded w k d a x
+        load-granted (e, q) = changed (rw e (change-granted (loadNo (readFile d) k) (λ T. after) known right verdict trie z trie-list trie-size wrote q))

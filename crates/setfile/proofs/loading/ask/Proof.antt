@@ -1,0 +1,46 @@
+-- `loading::ask` meets its contract, each return by the tests on the way to it. Assumes nothing.
+use mathlib.Core.Bool.{true}
+use mathlib.Core.Path.{_≡_}
+use native.Mathlib.Omega.{arith}
+use borrow.Author.Needs.{needs}
+use borrow.Author.Tests.{not-true, not-false}
+use Rattle.pool.proofs.Seen.{survey-long}
+use Rattle.setfile.proofs.Loads.{ask-damaged, ask-noset, ask-broken, ask-family, ask-occupied, ask-go}
+use Rattle.setfile.proofs.loading.ask.Statement.{statement}
+use Rattle.setfile.proofs.loading.ask.Tie as tie
+
+sound : (c : tie.Else1) → c .before .before .survey .result .sound ≡ true
+sound c = not-false _ (c .if1 .left)
+
+pub ask-spec : {M : Type 1} → statement M
+ask-spec =
+    tie.close
+    (tie.spec
+    (λ c κs. search needs)
+    (λ c. ask-damaged _ (c .before .before .survey .ensures) (not-true _ (c .if1 .taken)))
+    (λ c. let s = c .before in omega (arith, survey-long _ _ _ (s .before .before .survey .ensures) (sound s)))
+    (λ c. let s = c .before .before in ask-noset _ (s .before .before .survey .ensures) (sound s) (c .if2 .taken))
+    (λ c κs. search needs)
+    (λ c. search needs)
+    (λ c. search needs)
+    (λ c. search needs)
+    (λ c. let s = c .before .before .before .before .before .before .before in omega (arith, survey-long _ _ _ (s .before .before .survey .ensures) (sound s)))
+    (λ c.
+    let i = c .before .before .before in
+    let k = i .before .before .before in
+    let s = k .before .before in
+    ask-family _ (s .before .before .survey .ensures) (sound s) (k .if2 .left) (i .before .before .check .ensures) (i .checked .given .1) (c .if3 .taken))
+    (λ c.
+    let i = c .before .before .before .before .before in
+    let k = i .before .before .before in
+    let s = k .before .before in
+    ask-occupied _ (s .before .before .survey .ensures) (sound s) (k .if2 .left) (i .before .before .check .ensures) (i .checked .given .1) (c .before .before .if3 .left) (c .if4 .taken))
+    (λ c.
+    let k = c .before .before .before in
+    let s = k .before .before in
+    ask-broken _ (s .before .before .survey .ensures) (sound s) (k .if2 .left) (c .before .before .check .ensures) (c .enum-told .given .1))
+    (λ c.
+    let i = c .before .before .before .before .before in
+    let k = i .before .before .before in
+    let s = k .before .before in
+    ask-go _ (s .before .before .survey .ensures) (sound s) (k .if2 .left) (i .before .before .check .ensures) (i .checked .given .1) (c .before .before .if3 .left) (c .if4 .left)))

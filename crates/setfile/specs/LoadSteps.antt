@@ -1,0 +1,53 @@
+-- The steps of a load: what they ask, and what they leave.
+--
+--   Ready w k d v f n    a load can go on: v is what a pass over the pool found for its empty set, and d is the file of a list of n nodes in the pool's family f;  Asks: that, or its refusal
+--   Fillable, Writable   what writing the trie of the file's list asks, in a gap and with the gap still to open
+--   written              the words that it leaves
+use mathlib.Core.List.{List}
+use mathlib.Core.Path.{_≡_}
+use Prim.Native.Nat.{ℕ, _+_, _≤_}
+use lib.ListN.{length, getD}
+use Rattle.nets.specs.Bits.{Bits}
+use Rattle.nets.specs.Lists.{nodesL}
+use Rattle.nets.specs.Tries.{trieOf}
+use Rattle.nodes.specs.Words.{put, place, enc}
+use Rattle.pool.specs.Decode.{base}
+use Rattle.pool.specs.Steps.{Surveyed, behindAt, Gap}
+use Rattle.pool.specs.declared.Answer.the-variants as answer
+use Rattle.pool.specs.declared.Survey.{Survey}
+use Rattle.files.specs.Files.{file, readFile}
+use Rattle.setfile.specs.Loading.{Loaded}
+use Rattle.setfile.specs.declared.loading.Asked.{Asked}
+use Rattle.setfile.specs.declared.loading.Asked.the-variants.{Go, Refused}
+
+pub record Ready (w : List ℕ) (k : ℕ) (d : List ℕ) (v : Survey) (f n : ℕ) : Type 0 where
+  pub surveyed : Surveyed w k v
+  pub empty : v .held ≡ 0
+  pub list : List Bits
+  pub reads : readFile d ≡ file f list
+  pub family : f ≡ getD w 1 0
+  pub nodes : n ≡ nodesL list
+
+abbrev pub Asks : List ℕ → ℕ → List ℕ → Asked → Type 0
+Asks w k d (Go v f n) = Ready w k d v f n
+Asks w k d (Refused x) = Loaded w k d (answer.Refused x) w
+
+-- the bytes are the file of the list l, and there is room for its trie from node o on
+pub record Fillable (w : List ℕ) (b o : ℕ) (d : List ℕ) (f : ℕ) (l : List Bits) : Type 0 where
+  pub reads : readFile d ≡ file f l
+  pub one : 1 ≤ o
+  pub few : o + nodesL l ≤ 1073741824
+  pub room : place b o + nodesL l ≤ length w
+
+pub record Writable (w : List ℕ) (v : Survey) (d : List ℕ) (f n : ℕ) (l : List Bits) : Type 0 where
+  pub reads : readFile d ≡ file f l
+  pub nodes : nodesL l ≡ n
+  pub gap : Gap w (base (getD w 2 0)) v n
+  pub empty : v .held ≡ 0
+  pub few : v .used + 1 + n ≤ 1073741824
+  pub sets : getD w 2 0 ≤ 64
+  pub long : 64 ≤ length w
+
+-- the sets behind the gap moved, and the trie in it
+abbrev pub written : List ℕ → Survey → ℕ → List Bits → List ℕ
+written w v n l = put (put w (place (base (getD w 2 0)) (v .at + n)) (behindAt w (base (getD w 2 0)) v)) (place (base (getD w 2 0)) (v .at)) (enc (trieOf l))
