@@ -1,7 +1,7 @@
 -- The head that is found: the least lane becomes the head's, and its network is the first. Assumes nothing.
 use mathlib.Core.List.{List, [], _∷_}
-use mathlib.Core.Path.{_≡_, refl, ap, sym, _∙_}
-use Prim.Native.Nat.{ℕ, suc, _+_, _*_, _≤_, _<_}
+use mathlib.Core.Path.{_≡_, refl, ap, _∙_}
+use Prim.Native.Nat.{ℕ, _+_, _≤_, _<_}
 use native.Mathlib.Numerals.{add-one}
 use native.Mathlib.Omega.{arith}
 use lib.ListN.{length, set, length-set}
@@ -10,12 +10,11 @@ use Rattle.nets.specs.Networks.{width, netWords, netBits, netFrom, noNet, refus
 use Rattle.nets.specs.declared.Net.{Net}
 use Rattle.nets.proofs.Numbers.{netBits-netFrom, refusalOf-netFrom, width-le}
 use Rattle.files.specs.Streams.{shared}
-use Rattle.merging.specs.Lanes.{laneAt, lanesOf, hereOf, Least, Entries, Lanes}
-use Rattle.merging.specs.Flow.{headAs, Here, Stream, Behind, Flow}
-use Rattle.merging.specs.declared.Head.{Head}
+use Rattle.merging.specs.Lanes.{laneAt, lanesOf, hereOf, Least}
+use Rattle.merging.specs.Flow.{headAs, Stream, Behind, Flow}
 use Rattle.merging.specs.declared.lanes.Lane.{Lane}
 use Rattle.merging.proofs.Cursors.{laneAt-set, lanesOf-here, hereOf-here}
-use Rattle.merging.proofs.Onwards.{run-within, first-live, first-is, first-net, least-first, least-none}
+use Rattle.merging.proofs.Onwards.{first-short, first-net, least-first, least-none}
 
 -- The lanes stay where the head's lane is noted.
 stream-here : {d : List ℕ} {f : ℕ} {c : List ℕ} {ms : List Bits} (r : ℕ) → Stream d f c ms → Stream d f (set c 646 r) ms
@@ -68,7 +67,7 @@ module _ {d : List ℕ} {f : ℕ} {c : List ℕ} {last : Net} {q : Bits} {r : �
       let o = s .stream .lanes in
       let k = least-first e o (s .stream .rises) l in
       let u = o .runs r (k .0) in
-      record { m = m; rest = ms; is = refl; lane = k .0; net = first-net e u (k .1); short = rw (first-is e u (k .1)) at (run-within e u (first-live e u (k .1))) }
+      record { m = m; rest = ms; is = refl; lane = k .0; net = first-net e u (k .1); short = first-short e u (k .1) }
 
   module _ {ms : List Bits} (s : Behind d f c last q ms) (x : Lane) (i : x ≡ laneAt c r) (o : Finds f c r ms) where
     net-is : netWords f (x .hi) (x .lo) (x .len) ≡ netFrom f (o .m)
@@ -96,4 +95,4 @@ pub behind-head : {d : List ℕ} {f : ℕ} {c c′ : List ℕ} {h : Net} {q : Bi
 behind-head {d} {f} {c} o i s =
     let e = o .stream .entries in
     let u = o .stream .lanes .runs (hereOf c) (o .here .0) in
-    record { stream = s; net = i; short = rw (first-is e u (o .here .1)) at (run-within e u (first-live e u (o .here .1))) }
+    record { stream = s; net = i; short = first-short e u (o .here .1) }

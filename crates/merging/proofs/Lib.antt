@@ -1,4 +1,5 @@
--- The laws of merging: leading bits in common by words, the numbers of the cursors, the entries as networks; then the head of the lanes, lining up, and counting nodes on the way.
+-- The laws of merging: leading bits in common and the numbers of the cursors, by words; the entries as networks. Then the head of the lanes and what is behind it, the entries lined
+-- up, what a file's tests say of them, and counting the nodes on the way.
 pub mod Common
 pub mod Cursors
 pub mod Read

@@ -1,70 +1,39 @@
 -- Lining up: one entry more, behind those of its length or in a lane of its own. The entries come in the order of a list, so no other lane can have its length. Assumes nothing.
-use mathlib.Core.Bool.{Bool, true, false, cond, _&&_, _||_, false≢true}
-use mathlib.Core.List.{List, [], _∷_, _++_, append-nil}
+use mathlib.Core.Bool.{true, false, false≢true}
+use mathlib.Core.List.{List, [], _∷_, _++_}
 use mathlib.Core.Logic.{_⊎_, inl, inr, ⊎-elim}
 use mathlib.Core.Path.{_≡_, refl, ap, sym, _∙_}
-use Prim.Native.Nat.{ℕ, zero, suc, _+_, _-_, _*_, _^_, _≤_, _<_}
+use Prim.Native.Nat.{ℕ, zero, suc, _+_, _-_, _^_, _≤_, _<_}
 use native.Mathlib.Decide.{ℕ-discrete, decLt}
-use native.Mathlib.Nat.{add-zero, zero-mul}
+use native.Mathlib.Nat.{zero-mul}
 use native.Mathlib.Numerals.{add-one}
 use native.Mathlib.Omega.{arith}
 use lib.Dec.{eqb, ltb}
 use lib.ListN.{length, set, replicate, length-set}
-use borrow.Author.Tests.{eqb-true, eqb-false, eq-eqb, ne-eqb, ltb-true, lt-ltb}
-use Rattle.nets.specs.Bits.{Bits, val, before}
-use Rattle.nets.specs.Lists.{member, ascending}
-use Rattle.nets.specs.Networks.{width, netBits, netWords, netFrom}
+use borrow.Author.Tests.{eqb-true, eqb-false, ltb-true, lt-ltb}
+use Rattle.nets.specs.Bits.{Bits, before}
+use Rattle.nets.specs.Lists.{member}
+use Rattle.nets.specs.Networks.{width, netWords, netFrom}
 use Rattle.nets.specs.declared.Net.{Net}
 use Rattle.nets.proofs.Strings.{and-left, and-right, or-cases}
 use Rattle.nets.proofs.Members.{anyOf-append}
 use Rattle.nets.proofs.Numbers.{width-le}
 use Rattle.files.specs.Files.{entryNet, networksIn}
 use Rattle.files.specs.Streams.{ofLength, inAddressOrder}
-use Rattle.files.proofs.Rising.{member-cons, member-first}
-use Rattle.files.proofs.Streams.{ofLength-none, ofLength-order, member-order, rising-order}
-use Rattle.merging.specs.Lanes.{laneAt, putLane, lanesOf, Live, Entries, Runs, Lanes, goesOn, Lined, Ordered, Adds}
+use Rattle.files.proofs.FileOrder.{networkAt, networksIn-last, ascending-at, before-length}
+use Rattle.files.proofs.Rising.{member-cons}
+use Rattle.files.proofs.Streams.{ofLength-last, ofLength-last-other, ofLength-none, ofLength-order, member-order, rising-order}
+use Rattle.merging.specs.Lanes.{laneAt, putLane, lanesOf, Live, Runs, goesOn, Lined, Ordered, Adds}
 use Rattle.merging.specs.Flow.{Stream, Behind}
 use Rattle.merging.specs.declared.lanes.Lane.{Lane}
 use Rattle.merging.proofs.Cursors.{length-putLane, laneAt-put, laneAt-putLane, lanesOf-putLane, laneAt-set, lanesOf-set}
 use Rattle.merging.proofs.Read.{read-within, read-length}
-use Rattle.merging.proofs.Onwards.{listed}
-
--- One entry more, behind the others.
-networksIn-last : (f : ℕ) (d : List ℕ) (a k : ℕ) → networksIn f d a (suc k) ≡ networksIn f d a k ++ (netBits (entryNet f d (a + k)) ∷ [])
-unfolding networksIn
-networksIn-last f d a zero = rw (add-zero a)
-networksIn-last f d a (suc k) = let e : suc a + k ≡ a + suc k = omega arith in rw (networksIn-last f d (suc a) k, e)
-
-ofLength-append : (k : ℕ) (l m : List Bits) → ofLength k (l ++ m) ≡ ofLength k l ++ ofLength k m
-ofLength-append k [] m = refl
-ofLength-append k (p ∷ l) m = go (eqb (length p) k) (ofLength-append k l m)
-  where
-    go : (b : Bool) → ofLength k (l ++ m) ≡ ofLength k l ++ ofLength k m → cond b (p ∷ ofLength k (l ++ m)) (ofLength k (l ++ m)) ≡ cond b (p ∷ ofLength k l) (ofLength k l) ++ ofLength k m
-    go true ih = ap (λ z. p ∷ z) ih
-    go false ih = ih
 
 -- The lengths do not fall.
-before-length : (p q : Bits) → before p q ≡ true → length p ≤ length q
-unfolding before
-before-length p q e =
-    ⊎-elim (λ h. omega (arith, ltb-true (length p) (length q) h)) (λ h. omega (arith, eqb-true (length p) (length q) (and-left (eqb (length p) (length q)) (ltb (val p) (val q)) h)))
-    (or-cases (ltb (length p) (length q)) (eqb (length p) (length q) && ltb (val p) (val q)) e)
-
-ascends-at : (f : ℕ) (d : List ℕ) (a k i : ℕ) → ascending (networksIn f d a k) ≡ true → a ≤ i → suc i < a + k → before (netBits (entryNet f d i)) (netBits (entryNet f d (suc i))) ≡ true
-unfolding networksIn
-ascends-at f d a zero i s h g = absurd (omega arith)
-ascends-at f d a (suc zero) i s h g = absurd (omega arith)
-ascends-at f d a (suc (suc k)) i s h g =
-    go (ℕ-discrete i a) (λ l. ascends-at f d (suc a) (suc k) i (and-right (before (netBits (entryNet f d a)) (netBits (entryNet f d (suc a)))) (ascending (networksIn f d (suc a) (suc k))) s) l (omega arith))
-  where
-    go : Dec (i ≡ a) → (suc a ≤ i → before (netBits (entryNet f d i)) (netBits (entryNet f d (suc i))) ≡ true) → before (netBits (entryNet f d i)) (netBits (entryNet f d (suc i))) ≡ true
-    go (yes e) ih = rw e (and-left (before (netBits (entryNet f d a)) (netBits (entryNet f d (suc a)))) (ascending (networksIn f d (suc a) (suc k))) s)
-    go (no ne) ih = ih (omega arith)
-
 lens-rise : {d : List ℕ} {f n : ℕ} → Ordered d f n → (i : ℕ) → i + 1 < n → entryNet f d i .len ≤ entryNet f d (i + 1) .len
 lens-rise {d} {f} {n} o i h =
     let g : suc i < n = omega arith in
-    let b = before-length _ _ (ascends-at f d 0 n i (o .ascends) (omega arith) (omega arith)) in
+    let b = before-length (networkAt f d i) (networkAt f d (suc i)) (ascending-at f d 0 n i (o .ascends) (omega arith) (omega arith)) in
     rw (add-one i) (rw (read-length (o .entries) i (omega arith), read-length (o .entries) (suc i) g) at b)
 
 -- no lane yet
@@ -87,24 +56,18 @@ lined-none {d} {f} {n} =
 
 -- One entry more: lane j, the last, is y and has it; the lanes before it have shorter lengths and are as they were.
 module _ {d : List ℕ} {f n : ℕ} {c : List ℕ} {i : ℕ} {x : Net} (s : Adds d f n c i x) where
-  this : Bits
-  this = netBits (entryNet f d i)
-
-  this-length : length (netBits (entryNet f d i)) ≡ entryNet f d i .len
+  this-length : length (networkAt f d i) ≡ entryNet f d i .len
   this-length = read-length (s .file .entries) i (s .more)
 
-  all-last : networksIn f d 0 (i + 1) ≡ networksIn f d 0 i ++ (netBits (entryNet f d i) ∷ [])
-  all-last = let e : 0 + i ≡ i = omega arith in rw (add-one i) (rw e at (networksIn-last f d 0 i))
+  all-last : networksIn f d 0 (i + 1) ≡ networksIn f d 0 i ++ (networkAt f d i ∷ [])
+  all-last = let e : suc i - 0 ≡ suc i = omega arith in let g : i - 0 ≡ i = omega arith in rw (add-one i) (rw (e, g) at (networksIn-last f d 0 i (omega arith)))
 
   -- another length has no more, and this length has one more
   rest-other : (k : ℕ) → (k ≡ entryNet f d i .len → ⊥) → ofLength k (networksIn f d 0 (i + 1)) ≡ ofLength k (networksIn f d 0 i)
-  rest-other k ne =
-      rw (all-last, ofLength-append k (networksIn f d 0 i) (netBits (entryNet f d i) ∷ []), ne-eqb (length (netBits (entryNet f d i))) k (λ e. ne (sym e ∙ this-length)))
-      (append-nil (ofLength k (networksIn f d 0 i)))
+  rest-other k ne = rw all-last (ofLength-last-other k (networkAt f d i) (networksIn f d 0 i) (λ e. ne (sym e ∙ this-length)))
 
-  rest-this : (k : ℕ) → k ≡ entryNet f d i .len → ofLength k (networksIn f d 0 (i + 1)) ≡ ofLength k (networksIn f d 0 i) ++ (netBits (entryNet f d i) ∷ [])
-  rest-this k e =
-      rw (all-last, ofLength-append k (networksIn f d 0 i) (netBits (entryNet f d i) ∷ []), eq-eqb (length (netBits (entryNet f d i))) k (this-length ∙ sym e))
+  rest-this : (k : ℕ) → k ≡ entryNet f d i .len → ofLength k (networksIn f d 0 (i + 1)) ≡ ofLength k (networksIn f d 0 i) ++ (networkAt f d i ∷ [])
+  rest-this k e = let z : k ≡ length (networkAt f d i) = e ∙ sym this-length in rw (all-last, z) (ofLength-last (networkAt f d i) (networksIn f d 0 i))
 
   record Next (j : ℕ) (y : Lane) (c′ : List ℕ) : Type 0 where
     wide : length c′ ≡ 647
@@ -136,13 +99,13 @@ module _ {d : List ℕ} {f n : ℕ} {c : List ℕ} {i : ℕ} {x : Net} (s : Adds
 
     next-known : (q : Bits) → member q (networksIn f d 0 (i + 1)) ≡ true → (k : ℕ) × (k < lanesOf c′) × (laneAt c′ k .len ≡ length q)
     next-known q m =
-        ⊎-elim there (λ z. new (⊎-elim (λ e. e) (λ e. absurd (false≢true e)) (member-cons q (netBits (entryNet f d i)) [] z)))
-        (or-cases (member q (networksIn f d 0 i)) (member q (netBits (entryNet f d i) ∷ [])) (sym (anyOf-append _ (networksIn f d 0 i) (netBits (entryNet f d i) ∷ [])) ∙ (rw all-last at m)))
+        ⊎-elim there (λ z. new (⊎-elim (λ e. e) (λ e. absurd (false≢true e)) (member-cons q (networkAt f d i) [] z)))
+        (or-cases (member q (networksIn f d 0 i)) (member q (networkAt f d i ∷ [])) (sym (anyOf-append _ (networksIn f d 0 i) (networkAt f d i ∷ [])) ∙ (rw all-last at m)))
       where
         at-last : entryNet f d i .len ≡ length q → (k : ℕ) × (k < lanesOf c′) × (laneAt c′ k .len ≡ length q)
         at-last e = (j, omega (arith, o .count), rw (o .own) (o .long ∙ e))
 
-        new : q ≡ netBits (entryNet f d i) → (k : ℕ) × (k < lanesOf c′) × (laneAt c′ k .len ≡ length q)
+        new : q ≡ networkAt f d i → (k : ℕ) × (k < lanesOf c′) × (laneAt c′ k .len ≡ length q)
         new e = at-last (sym this-length ∙ ap length (sym e))
 
         there : member q (networksIn f d 0 i) ≡ true → (k : ℕ) × (k < lanesOf c′) × (laneAt c′ k .len ≡ length q)
@@ -194,13 +157,13 @@ module _ {d : List ℕ} {f n : ℕ} {c : List ℕ} {i : ℕ} {x : Net} (s : Adds
           let j = lanesOf c - 1 in
           let r = s .lined .lanes .runs j (omega (arith, some-lane)) in
           let z : laneAt c j .end ≡ i = s .lined .last j (omega (arith, some-lane)) in
-          let k : i + 1 - laneAt c j .next ≡ suc (laneAt c j .end - laneAt c j .next) = omega (arith, r .from) in
-          let m : laneAt c j .next + (laneAt c j .end - laneAt c j .next) ≡ i = omega (arith, r .from) in
+          let more : networksIn f d (laneAt c j .next) (i + 1 - laneAt c j .next) ≡ networksIn f d (laneAt c j .next) (laneAt c j .end - laneAt c j .next) ++ (networkAt f d i ∷ [])
+          = rw (add-one i, z) (networksIn-last f d (laneAt c j .next) i (omega (arith, r .from))) in
           rw u
           (record {
             from = omega (arith, r .from);
             to = omega arith;
-            rest = rw k (networksIn-last f d (laneAt c j .next) (laneAt c j .end - laneAt c j .next) ∙ rw (m, r .rest) (sym (rest-this (laneAt c j .len) last-length)));
+            rest = more ∙ ap (λ l. l ++ (networkAt f d i ∷ [])) (r .rest) ∙ sym (rest-this (laneAt c j .len) last-length);
             head = λ h. r .head (s .lined .full j (omega (arith, some-lane)));
           })
 

@@ -2,6 +2,7 @@
 --
 --   checkedOf x      what `check` answers of what a file reads as: its family and the nodes of its list, or that it is broken
 --   headAs f q ms    the first of the networks ms, behind the network q: deep is one more than the leading bits that it shares with q, or 0 where there is none
+--   surveyed f ms    what `survey` answers of the networks ms in address order: their nodes, unless one lies inside another
 --   Stream d f c ms  the lanes c have the networks ms of the file d of the family f, which rise
 --   Behind d f c last q ms   so, and last is the network q, behind which they come
 --   Flow d f c ms    the cursors c have the networks ms of the file d of the family f still to give, in this order
@@ -29,7 +30,6 @@ unfoldable pub headAs : ℕ → Bits → List Bits → Head
 headAs f q [] = record { deep = 0; net = noNet }
 headAs f q (m ∷ ms) = record { deep = suc (shared q m); net = netFrom f m }
 
--- what `survey` answers of the networks ms in address order
 unfoldable pub surveyed : ℕ → List Bits → Checked
 surveyed f ms = cond (loose ms) (checked.File f (pathNodes ms)) checked.Broken
 

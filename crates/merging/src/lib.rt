@@ -17,7 +17,7 @@ mod lining;
 mod sharing;
 
 // The numbers that the cursors take.
-pub const CURSORS: usize = 647;
+pub const CURSORS: usize = lanes::HERE + 1;
 
 // The next network, and one more than the leading bits that it shares with the one before it; 0 where there is none.
 pub struct Head {

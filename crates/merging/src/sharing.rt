@@ -24,6 +24,7 @@ fn same_above(a: Net, b: Net, s: u8) -> bool
     a.hi >> (s - 64) == b.hi >> (s - 64)
 }
 
+// The smaller of two lengths.
 fn smaller(a: u8, b: u8) -> u8
     ensures { λ r. ⌜ (r ≤ a) × ((r ≤ b) × ((k : ℕ) → k ≤ a → k ≤ b → k ≤ r)) ⌝ }
 {

@@ -1,8 +1,9 @@
 -- `heads::onward` meets its contract. Assumes nothing.
-use mathlib.Core.Path.{_≡_, refl}
+use mathlib.Core.Path.{_≡_, refl, ap}
 use Prim.Native.Nat.{_+_}
 use native.Mathlib.Omega.{arith}
 use borrow.Author.Needs.{needs}
+use Rattle.nets.specs.declared.Net.{Net}
 use Rattle.files.specs.Files.{entryNet}
 use Rattle.merging.proofs.Read.{fileBytes-le}
 use Rattle.merging.proofs.heads.onward.Statement.{statement}
@@ -20,4 +21,4 @@ onward-spec =
     (λ c.
     let a = c .before .before .before .before .before .args in
     let e : c .entry .result ≡ entryNet (a .family) (a .bytes .now) (a .x .next + 1) = c .entry .ensures .0 in
-    record { next = refl; end = refl; len = refl; hi = λ _. rw e; lo = λ _. rw e }))
+    record { next = refl; end = refl; len = refl; hi = λ _. ap (λ (n : Net). n .hi) e; lo = λ _. ap (λ (n : Net). n .lo) e }))

@@ -2,7 +2,6 @@
 use mathlib.Core.Path.{_≡_}
 use Prim.Native.Nat.{_+_, _-_, _≤_}
 use native.Mathlib.Omega.{arith}
-use Rattle.files.specs.Files.{entryNet}
 use Rattle.merging.specs.Lanes.{Adds, Lined}
 use Rattle.merging.proofs.Read.{fileBytes-le}
 use Rattle.merging.proofs.Lines.{lined-none}

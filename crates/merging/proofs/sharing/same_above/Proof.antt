@@ -1,5 +1,4 @@
 -- `sharing::same_above` meets its contract, by the words without their low bits. Assumes nothing.
-use mathlib.Core.Path.{sym}
 use native.Mathlib.Omega.{arith}
 use borrow.Author.Needs.{needs}
 use borrow.Author.Tests.{eq-eqb, ne-eqb}
