@@ -5,10 +5,14 @@
 --   wordsWith w l      the words afterwards
 --   taken k w ls       the lines ls, the first of them number k, taken one after the other from the words w on, up to the first that is refused: its number and
 --                      its refusal, and the words before it; where none is refused the number behind the last line, 0, and the words with all of them
+--   withLines l ls     the list that set 0 then has, if it had l
 use mathlib.Core.Bool.{cond}
 use mathlib.Core.List.{List, [], _∷_}
 use Prim.Native.Nat.{ℕ, _+_}
 use lib.Dec.{eqb}
+use Rattle.nets.specs.Bits.{Bits}
+use Rattle.nets.specs.Lists.{addL}
+use Rattle.nets.specs.Networks.{netBits}
 use Rattle.nets.specs.declared.Net.{Net}
 use Rattle.text.specs.Ipv4.{readLine}
 use Rattle.pool.specs.Decode.{decode}
@@ -48,3 +52,8 @@ pub record Result : Type 0 where
 unfoldable pub taken : ℕ → List ℕ → List (List ℕ) → Result
 taken k w [] = record { number = k; no = 0; words = w }
 taken k w (l ∷ ls) = cond (eqb (lineNo w l) 0) (taken (k + 1) (wordsWith w l) ls) (record { number = k; no = lineNo w l; words = w })
+
+-- the list l with the networks of the lines ls added, one after the other
+unfoldable pub withLines : List Bits → List (List ℕ) → List Bits
+withLines l [] = l
+withLines l (x ∷ ls) = withLines (addL l (netBits (readLine x .1))) ls

@@ -1,6 +1,6 @@
 // Runs lines made by hand from the scope document through reading and writing, and counts those that come out otherwise.
 mod cases;
-mod tally;
+mod expect;
 
 fn main() {
     let mut t = cases::read(tally::none());
@@ -11,8 +11,5 @@ fn main() {
     t = cases::written(t);
     t = cases::denied(t);
     t = cases::rooms(t);
-    io::print_decimal(1, t.cases as u64);
-    io::write_all(1, b" cases, ");
-    io::print_decimal(1, t.wrong as u64);
-    io::write_all(1, b" wrong\n");
+    tally::say(t);
 }

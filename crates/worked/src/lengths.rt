@@ -1,17 +1,17 @@
 // Lengths at the ends of the two address words: a network alone has its length and one more nodes, and none once it is removed.
+use crate::expect;
 use crate::made::WORDS;
 use crate::made::last;
-use crate::tally;
-use crate::tally::Tally;
+use tally::Tally;
 
 fn alone(t: Tally, len: u8, nodes: u32) -> Tally {
     let mut pool = [0u32; WORDS];
-    let mut t = tally::gives(t, pool::layout(&mut pool, 6, 1, 129, &[0], &[129]), 0);
-    t = tally::gives(t, change::add(&mut pool, 0, last(len)), nodes);
-    t = tally::holds(t, pool::held(&pool, 0), nodes, 1);
-    t = tally::gives(t, change::remove(&mut pool, 0, last(len)), 0);
-    t = tally::holds(t, pool::held(&pool, 0), 0, 0);
-    tally::gives(t, pool::free(&pool), 129)
+    let mut t = expect::gives(t, pool::layout(&mut pool, 6, 1, 129, &[0], &[129]), 0);
+    t = expect::gives(t, change::add(&mut pool, 0, last(len)), nodes);
+    t = expect::holds(t, pool::held(&pool, 0), nodes, 1);
+    t = expect::gives(t, change::remove(&mut pool, 0, last(len)), 0);
+    t = expect::holds(t, pool::held(&pool, 0), 0, 0);
+    expect::gives(t, pool::free(&pool), 129)
 }
 
 pub fn ends(t: Tally) -> Tally {

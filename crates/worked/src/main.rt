@@ -2,13 +2,13 @@
 // refusals, and counts the answers that come out otherwise.
 use tally::Tally;
 
+mod expect;
 mod full;
 mod lengths;
 mod made;
 mod refusals;
 mod sets;
 mod tables;
-mod tally;
 
 fn at_full_pools(t: Tally) -> Tally {
     let mut t = full::halved(t);
@@ -46,8 +46,5 @@ fn main() {
     t = lengths::ends(t);
     t = at_refusals(t);
     t = of_sets(t);
-    io::print_decimal(1, t.cases as u64);
-    io::write_all(1, b" cases, ");
-    io::print_decimal(1, t.wrong as u64);
-    io::write_all(1, b" wrong\n");
+    tally::say(t);
 }

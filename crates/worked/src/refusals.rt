@@ -1,15 +1,15 @@
 // Refused calls: the number, and that no word changes.
+use crate::expect;
 use crate::made::WORDS;
 use crate::made::v4;
 use crate::made::v6;
-use crate::tally;
-use crate::tally::Tally;
 use nets::Net;
+use tally::Tally;
 
 // One set with 0.0.0.0/1, its limit 30, in a pool of 25 nodes.
 fn half(t: Tally, pool: &mut [u32]) -> Tally {
-    let t = tally::gives(t, pool::layout(pool, 4, 1, 25, &[0], &[30]), 0);
-    tally::gives(t, change::add(pool, 0, v4(0, 1)), 2)
+    let t = expect::gives(t, pool::layout(pool, 4, 1, 25, &[0], &[30]), 0);
+    expect::gives(t, change::add(pool, 0, v4(0, 1)), 2)
 }
 
 // The root's number in that pool, and one that is another node's.
@@ -22,8 +22,8 @@ fn add(t: Tally, root: u32, set: u32, net: Net, no: u8) -> Tally {
     let t = half(t, &mut pool);
     pool[64] = root;
     let was = pool;
-    let t = tally::gets(t, change::add(&mut pool, set, net), no);
-    tally::keeps(t, &was, &pool)
+    let t = expect::gets(t, change::add(&mut pool, set, net), no);
+    expect::keeps(t, &was, &pool)
 }
 
 fn remove(t: Tally, root: u32, set: u32, net: Net, no: u8) -> Tally {
@@ -31,8 +31,8 @@ fn remove(t: Tally, root: u32, set: u32, net: Net, no: u8) -> Tally {
     let t = half(t, &mut pool);
     pool[64] = root;
     let was = pool;
-    let t = tally::gets(t, change::remove(&mut pool, set, net), no);
-    tally::keeps(t, &was, &pool)
+    let t = expect::gets(t, change::remove(&mut pool, set, net), no);
+    expect::keeps(t, &was, &pool)
 }
 
 fn simplify(t: Tally, root: u32, set: u32, no: u8) -> Tally {
@@ -40,8 +40,8 @@ fn simplify(t: Tally, root: u32, set: u32, no: u8) -> Tally {
     let t = half(t, &mut pool);
     pool[64] = root;
     let was = pool;
-    let t = tally::gets(t, change::simplify(&mut pool, set), no);
-    tally::keeps(t, &was, &pool)
+    let t = expect::gets(t, change::simplify(&mut pool, set), no);
+    expect::keeps(t, &was, &pool)
 }
 
 // Damage comes before all else.

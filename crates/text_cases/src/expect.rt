@@ -1,31 +1,10 @@
-// What is counted, and how each kind of case is held to what it must give.
+// How each kind of case is held to what it must give.
 use nets::Net;
 use nets::Refusal;
 use nets::Taken;
+use tally::Tally;
+use tally::count;
 use text::Written;
-
-pub struct Tally {
-    pub cases: u32,
-    pub wrong: u32,
-}
-
-pub fn none() -> Tally {
-    Tally { cases: 0, wrong: 0 }
-}
-
-fn count(t: Tally, right: bool) -> Tally {
-    let cases = std::num::wrapping_add_u32(t.cases, 1);
-    if right {
-        return Tally {
-            cases,
-            wrong: t.wrong,
-        };
-    }
-    Tally {
-        cases,
-        wrong: std::num::wrapping_add_u32(t.wrong, 1),
-    }
-}
 
 // The number of a refusal in the scope document's table; 0 for those that no line gets.
 fn number(r: Refusal) -> u8 {
