@@ -1,9 +1,9 @@
--- `report::list` is safe and ends: the rows that `list` says that it wrote lie within those lent. Assumes nothing.
+-- `printing::print_set` is safe and ends: the rows that `list` says that it wrote lie within those lent. Assumes nothing.
 use native.Mathlib.Omega.{arith}
 use borrow.Author.Needs.{needs}
-use Rattle.netlist.proofs.Fits.{listed-fits}
-use Rattle.netlist.proofs.report.list.Statement.{statement}
-use Rattle.netlist.proofs.report.list.Tie as tie
+use Rattle.programs.proofs.Fits.{listed-fits}
+use Rattle.programs.proofs.printing.print_set.Statement.{statement}
+use Rattle.programs.proofs.printing.print_set.Tie as tie
 
 networks-requires : tie.Need-networks-requires
 networks-requires c κs =
@@ -11,8 +11,8 @@ networks-requires c κs =
     let l = t .before .before .before .before .before .list in
     omega (arith, listed-fits (l .ensures) (t .before .listed .given .1), l .kept .1 .1 .0)
 
-pub list-spec : {M : Type 1} → statement M
-list-spec =
+pub print-set-spec : {M : Type 1} → statement M
+print-set-spec =
     tie.close
     (tie.spec
     (λ c κs. search needs)

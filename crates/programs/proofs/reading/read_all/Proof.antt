@@ -2,14 +2,14 @@
 use mathlib.Core.Path.{_≡_}
 use borrow.Author.Needs.{needs}
 use lib.ListN.{length}
-use Rattle.netlist.proofs.read_all.Statement.{statement}
-use Rattle.netlist.proofs.read_all.Tie as tie
+use Rattle.programs.proofs.reading.read_all.Statement.{statement}
+use Rattle.programs.proofs.reading.read_all.Tie as tie
 
 abbrev Inv-loop : tie.InvT-loop
-Inv-loop pool₀ turn₀ turns₀ pool turn turns = length pool ≡ length pool₀
+Inv-loop fd pool₀ turn₀ turns₀ pool turn turns = length pool ≡ length pool₀
 
 abbrev μ-loop : tie.MeasureT-loop
-μ-loop pool₀ turn₀ turns₀ pool turn turns = turns
+μ-loop fd pool₀ turn₀ turns₀ pool turn turns = turns
 
 pub read-all-spec : {M : Type 1} → statement M
 read-all-spec =

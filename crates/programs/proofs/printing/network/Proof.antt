@@ -1,13 +1,13 @@
--- `report::network` is safe and ends: what `write_line` says that it wrote lies within the line. Assumes nothing.
+-- `printing::network` is safe and ends: what `write_line` says that it wrote lies within the line. Assumes nothing.
 use mathlib.Core.Path.{sym}
 use Prim.Native.Nat.{_≤_}
 use native.Mathlib.Omega.{arith}
 use borrow.Author.Needs.{needs}
 use lib.ListN.{length}
 use lib.Seq.{length-take-le}
-use Rattle.netlist.proofs.Fits.{wrote-fits}
-use Rattle.netlist.proofs.report.network.Statement.{statement}
-use Rattle.netlist.proofs.report.network.Tie as tie
+use Rattle.programs.proofs.Fits.{wrote-fits}
+use Rattle.programs.proofs.printing.network.Statement.{statement}
+use Rattle.programs.proofs.printing.network.Tie as tie
 
 fits : (c : tie.After-known-told) → c .before .written .given .0 .0 ≤ length (c .before .before .before .before .before .write-line .last .1 .0)
 fits c =
@@ -29,5 +29,7 @@ network-spec =
     (λ c κs. search needs)
     (λ c. search needs)
     (λ c κs. search needs)
+    (λ c. search needs)
+    (λ c. search needs)
     (λ c. search needs)
     (λ c. search needs))

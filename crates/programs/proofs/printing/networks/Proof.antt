@@ -1,9 +1,9 @@
--- `report::networks` is safe and ends. Each turn passes a row. Assumes nothing.
+-- `printing::networks` is safe and ends. Each turn passes a row. Assumes nothing.
 use Prim.Native.Nat.{_-_, _*_, _≤_}
 use borrow.Author.Needs.{needs}
 use lib.ListN.{length}
-use Rattle.netlist.proofs.report.networks.Statement.{statement}
-use Rattle.netlist.proofs.report.networks.Tie as tie
+use Rattle.programs.proofs.printing.networks.Statement.{statement}
+use Rattle.programs.proofs.printing.networks.Tie as tie
 
 abbrev Inv-loop : tie.InvT-loop
 Inv-loop rows count i₀ i = (i ≤ count) × (3 * count ≤ length rows)

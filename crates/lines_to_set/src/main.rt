@@ -1,0 +1,112 @@
+// Writes the set file of lines of IPv4 networks: lines-to-set LINES SETFILE, two names of files, where - is standard input or standard output.
+//
+// The list is the one that add gives, line after line: a network inside another goes, and two halves of a block are not joined. Where a line is refused, standard error
+// says which and why, and no file is written. The set has at most 100,000 nodes: a line that needs more is refused, OverLimit.
+use libc::STDERR_FILENO;
+use pool::Answer;
+use programs::Input;
+
+const NODES: u32 = 100000;
+
+// The words of a pool of one set and so many nodes.
+const WORDS: usize = 800072;
+
+// The bytes of the largest file: a trie of so many nodes has at most half as many leaves, of 5 bytes each; and 16 of the header.
+const BYTES: usize = 250016;
+
+// The line that is refused.
+fn refused(number: u64, no: u8) {
+    io::write_all(STDERR_FILENO, b"lines-to-set: line ");
+    io::print_decimal(STDERR_FILENO, number);
+    io::write_all(STDERR_FILENO, b" refused: ");
+    programs::say_refusal(no);
+}
+
+// Adds the networks of the lines to the set. Whether none is refused.
+fn take(fd: i32, path: &[u8], pool: &mut [u32]) -> bool {
+    let input = programs::read_lines(fd, pool);
+    match input {
+        Input::Added => true,
+        Input::Refused(number, no) => {
+            refused(number, no);
+            false
+        }
+        Input::Unreadable => {
+            os::fail(path);
+            false
+        }
+    }
+}
+
+// The same from the file that the first argument names.
+fn take_file(pool: &mut [u32]) -> bool {
+    let mut path = io::buffer();
+    let n = os::arg(1, &mut path);
+    if os::errno() != 0 {
+        os::fail(b"LINES");
+        return false;
+    }
+    let fd = programs::open_source(&path[..n]);
+    if fd < 0 {
+        os::fail(&path[..n]);
+        return false;
+    }
+    take(fd, &path[..n], pool)
+}
+
+// Writes a file. One that is cut short, as on a full disk, is no set file: its header has its length.
+fn write(path: &[u8], bytes: &[u8]) {
+    let fd = programs::open_target(path);
+    if fd < 0 {
+        os::fail(path);
+        return;
+    }
+    let is_written = io::write_all(fd, bytes);
+    if !is_written || libc::close(fd) < 0 {
+        os::fail(path);
+    }
+}
+
+// Writes the file of the set, by way of lent bytes.
+fn save(pool: &[u32], path: &[u8], bytes: &mut [u8]) {
+    let saved = setfile::save(pool, 0, bytes);
+    match saved {
+        Answer::Refused(no) => {
+            io::write_all(STDERR_FILENO, b"lines-to-set: ");
+            programs::say_refusal(no.number());
+        }
+        Answer::Granted(k) => {
+            let n = k as usize;
+            write(path, &bytes[..n]);
+        }
+    }
+}
+
+// The same to the file that the second argument names.
+fn save_file(pool: &[u32]) {
+    let mut path = io::buffer();
+    let n = os::arg(2, &mut path);
+    if os::errno() != 0 {
+        os::fail(b"SETFILE");
+        return;
+    }
+    let mut bytes = [0u8; BYTES];
+    save(pool, &path[..n], &mut bytes);
+}
+
+// The whole work, in the words of a pool.
+fn run(pool: &mut [u32]) {
+    pool::layout(pool, 4, 1, NODES, &[NODES], &[NODES]);
+    if take_file(pool) {
+        save_file(pool);
+    }
+}
+
+fn main() {
+    if os::arg_count() != 3 {
+        io::write_all(STDERR_FILENO, b"usage: lines-to-set LINES SETFILE\n");
+        return;
+    }
+    let mut pool = [0u32; WORDS];
+    run(&mut pool);
+}

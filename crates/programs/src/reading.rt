@@ -1,0 +1,50 @@
+// Reading lines from an open file.
+use lines::Reader;
+
+// What became of the input: each line's network is added; or the number of the first refused line, from 1 on, and its refusal; or it cannot be read.
+pub enum Input {
+    Added,
+    Refused(u64, u8),
+    Unreadable,
+}
+
+// Where the reading is after one more piece of the input: got is what the read answered.
+struct Turn {
+    reader: Reader,
+    got: isize,
+}
+
+// Reads one piece.
+fn read_some(fd: i32, pool: &mut [u32], r: Reader) -> Turn {
+    let mut buf = io::buffer();
+    let got = libc::read(fd, &mut buf);
+    let n = io::count(got, &buf);
+    let reader = lines::feed(pool, r, &buf[..n]);
+    Turn { reader, got }
+}
+
+// Reads to the end of the input or to the first refused line. A proved loop has to end, and nothing says that the input does: the loop counts its turns down, from a
+// number that no run uses up.
+fn read_all(fd: i32, pool: &mut [u32]) -> Turn {
+    let mut turn = read_some(fd, pool, lines::start());
+    let mut turns = u64::MAX;
+    while turns > 0 && turn.got > 0 && turn.reader.no == 0 {
+        let r = turn.reader;
+        turn = read_some(fd, pool, r);
+        turns -= 1;
+    }
+    turn
+}
+
+// Adds the networks of the lines to set 0, up to the first that is refused.
+pub fn read_lines(fd: i32, pool: &mut [u32]) -> Input {
+    let turn = read_all(fd, pool);
+    if turn.got < 0 {
+        return Input::Unreadable;
+    }
+    let r = lines::finish(pool, turn.reader);
+    if r.no != 0 {
+        return Input::Refused(r.number, r.no);
+    }
+    Input::Added
+}

@@ -1,0 +1,95 @@
+// Prints an IPv4 set file as lines, in the order of its list: set-to-lines SETFILE, the name of a file, where - is standard input.
+//
+// Where the file is refused, standard error says why and nothing is printed. The set has at most 100,000 nodes: a file with more is refused, OverLimit.
+use libc::STDERR_FILENO;
+use pool::Answer;
+
+const NODES: u32 = 100000;
+
+// The words of a pool of one set and so many nodes.
+const WORDS: usize = 800072;
+
+// The bytes of the largest file: a trie of so many nodes has at most half as many leaves, of 5 bytes each; and 16 of the header.
+const BYTES: usize = 250016;
+
+// As many networks, three numbers each.
+const ROWS: usize = 150000;
+
+// One byte more of a file that was read: how many came, 0 at its end, or -1.
+fn past(fd: i32) -> isize {
+    let mut one = [0u8; 1];
+    libc::read(fd, &mut one)
+}
+
+// Gives the set the list of a file. Whether it is granted.
+fn load(pool: &mut [u32], bytes: &[u8]) -> bool {
+    let loaded = setfile::load(pool, 0, bytes);
+    match loaded {
+        Answer::Granted(_) => true,
+        Answer::Refused(no) => {
+            io::write_all(STDERR_FILENO, b"set-to-lines: ");
+            programs::say_refusal(no.number());
+            false
+        }
+    }
+}
+
+// The same from an open file. A longer one than the largest is not read whole.
+fn load_from(fd: i32, path: &[u8], pool: &mut [u32]) -> bool {
+    let mut bytes = [0u8; BYTES];
+    let n = io::read_full(fd, &mut bytes);
+    let more = past(fd);
+    if more < 0 {
+        os::fail(path);
+        return false;
+    }
+    if more > 0 {
+        io::write_all(
+            STDERR_FILENO,
+            b"set-to-lines: the file has more than 250016 bytes\n",
+        );
+        return false;
+    }
+    load(pool, &bytes[..n])
+}
+
+// The same from the file that the argument names.
+fn load_file(pool: &mut [u32]) -> bool {
+    let mut path = io::buffer();
+    let n = os::arg(1, &mut path);
+    if os::errno() != 0 {
+        os::fail(b"SETFILE");
+        return false;
+    }
+    let fd = programs::open_source(&path[..n]);
+    if fd < 0 {
+        os::fail(&path[..n]);
+        return false;
+    }
+    load_from(fd, &path[..n], pool)
+}
+
+// Prints the networks of the set, by way of lent rows.
+fn print(pool: &[u32], rows: &mut [u64]) {
+    if !programs::print_set(pool, 0, rows) {
+        os::fail(b"standard output");
+    }
+}
+
+// The whole work, in the words of a pool.
+fn run(pool: &mut [u32]) {
+    pool::layout(pool, 4, 1, NODES, &[NODES], &[NODES]);
+    if load_file(pool) {
+        let mut rows = [0u64; ROWS];
+        print(pool, &mut rows);
+    }
+}
+
+fn main() {
+    if os::arg_count() != 2 {
+        io::write_all(STDERR_FILENO, b"usage: set-to-lines SETFILE\n");
+        return;
+    }
+    let mut pool = [0u32; WORDS];
+    run(&mut pool);
+}
