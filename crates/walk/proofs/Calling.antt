@@ -35,8 +35,8 @@ use Rattle.walk.proofs.start as start
 use Rattle.walk.proofs.start.Symbol as start-def
 use Rattle.walk.proofs.turns.first as first
 use Rattle.walk.proofs.turns.first.Symbol as first-def
-use Rattle.walk.proofs.walking.Walk.moved as moved
-use Rattle.walk.proofs.walking.Walk.moved.Symbol as moved-def
+use Rattle.walk.proofs.walking.Walk.next as next
+use Rattle.walk.proofs.walking.Walk.next.Symbol as next-def
 use Rattle.walk.proofs.turns.after as after
 use Rattle.walk.proofs.turns.after.Symbol as after-def
 use Rattle.walk.proofs.turns.told as told
@@ -61,8 +61,8 @@ module _ {M : Type 1} (𝓤 : URA M) (H : Heap 𝓤) (A : Atoms 𝓤) (at-mem : 
   abbrev pub First : Contract 𝓤
   First = tripleOf 𝓤 H A first.signature (first.spec 𝓤 H A at-mem run)
 
-  abbrev pub Moved : Contract 𝓤
-  Moved = tripleOf 𝓤 H A moved.signature (moved.spec 𝓤 H A at-mem run)
+  abbrev pub Next : Contract 𝓤
+  Next = tripleOf 𝓤 H A next.signature (next.spec 𝓤 H A at-mem run)
 
   abbrev pub After : Contract 𝓤
   After = tripleOf 𝓤 H A after.signature (after.spec 𝓤 H A at-mem run)
@@ -74,7 +74,7 @@ module _ {M : Type 1} (𝓤 : URA M) (H : Heap 𝓤) (A : Atoms 𝓤) (at-mem : 
   pub record Known (C : Calls 𝓤 H) : Type 2 where
     pub start : Triple 𝓤 (C start-def.name) Start
     pub first : Triple 𝓤 (C first-def.name) First
-    pub moved : Triple 𝓤 (C moved-def.name) Moved
+    pub next : Triple 𝓤 (C next-def.name) Next
     pub after : Triple 𝓤 (C after-def.name) After
     pub told : Triple 𝓤 (C told-def.name) Tells
 

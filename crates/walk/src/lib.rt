@@ -36,7 +36,7 @@ pub fn nth(pool: &[u32], set: u32, i: u32) -> Follower
     let mut w = start(pool, set);
     let mut t = first(i);
     while t.more {
-        w = w.moved();
+        w.next();
         t = after(w.spot, t);
     }
     told(w.spot, w.no)

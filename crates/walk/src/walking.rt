@@ -22,14 +22,4 @@ impl<'a> Walk<'a> {
         self.spot = s;
         s.more
     }
-
-    // The walk at the next network.
-    pub fn moved(mut self) -> Walk<'a>
-        requires { ⌜ Walking self ⌝ }
-        ensures { λ r. ⌜ r ≡ walkOn (self .entry) ⌝ }
-    {
-        let s = go_on(self.pool, self.spot);
-        self.spot = s;
-        self
-    }
 }
