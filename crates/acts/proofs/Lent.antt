@@ -1,0 +1,102 @@
+-- What is lent to a call whose answer has a tail: rows or bytes that are all the same, which come back as the call leaves them. What is written over a place and then over the
+-- same place again is as if it were written once.
+use mathlib.Core.Bool.{Bool, true, false, cond}
+use mathlib.Core.List.{List, [], _∷_, _++_}
+use mathlib.Core.Path.{_≡_, refl, sym, ap, _∙_}
+use Prim.Native.Nat.{ℕ, zero, suc, _+_, _%_, _≤_}
+use native.Mathlib.Numerals.{add-one}
+use native.Mathlib.Omega.{arith}
+use lib.Dec.{eqb}
+use lib.ListN.{length, getD, take, drop, replicate, length-replicate}
+use lib.Seq.{drop-cons}
+use Rattle.nodes.specs.Words.{put}
+use Rattle.nodes.proofs.Put.{length-put}
+use Rattle.pool.specs.Decode.{Decoded, damaged, sound, decode}
+use Rattle.pool.specs.Rules.{answerAs}
+use Rattle.pool.specs.declared.Answer.{Answer}
+use Rattle.pool.specs.Changes.{listAt}
+use Rattle.listing.specs.Rows as listing
+use Rattle.listing.specs.Calls.{listNo, rowsAfter, Listed}
+use Rattle.text.specs.Answers.{writtenAs, Wrote}
+use Rattle.text.specs.declared.Written.{Written}
+use Rattle.codes.specs.Bytes.{u64Bytes}
+use Rattle.codes.specs.Tails.{wordsFrom, rowBytes}
+use Rattle.codes.specs.declared.Call.{Call}
+use Rattle.codes.specs.declared.Reply.{Reply}
+use Rattle.codes.proofs.Rows.{take-put}
+use Rattle.acts.specs.Replies.{oneReply}
+use Rattle.acts.specs.Tailed.{rowsOf, listReply, lineBytes, lineReply, Listing, Lining}
+
+pub put-over : (w : List ℕ) (p : ℕ) (xs ys : List ℕ) → length xs ≡ length ys → put (put w p xs) p ys ≡ put w p ys
+unfolding put
+put-over [] p xs ys e = refl
+put-over (z ∷ w) (suc p) xs ys e = rw (put-over w p xs ys e)
+put-over (z ∷ w) zero [] [] e = refl
+put-over (z ∷ w) zero [] (y ∷ ys) e = absurd (omega arith)
+put-over (z ∷ w) zero (x ∷ xs) [] e = absurd (omega arith)
+put-over (z ∷ w) zero (x ∷ xs) (y ∷ ys) e = rw (put-over w zero xs ys (omega arith))
+
+-- a part that was lent and comes back is a write over its place
+pub splice : (w : List ℕ) (p k : ℕ) (ys : List ℕ) → length ys ≡ k → p + k ≤ length w → take p w ++ (ys ++ drop k (drop p w)) ≡ put w p ys
+unfolding put
+splice [] zero zero [] e h = refl
+splice [] zero zero (y ∷ ys) e h = absurd (omega arith)
+splice [] zero (suc k) ys e h = absurd (omega arith)
+splice [] (suc p) k ys e h = absurd (omega arith)
+splice (z ∷ w) (suc p) k ys e h = rw (splice w p k ys e (omega arith))
+splice (z ∷ w) zero zero [] e h = refl
+splice (z ∷ w) zero zero (y ∷ ys) e h = absurd (omega arith)
+splice (z ∷ w) zero (suc k) [] e h = absurd (omega arith)
+splice (z ∷ w) zero (suc k) (y ∷ ys) e h = rw (splice w zero k ys (omega arith) (omega arith))
+
+-- what stands at a place that was written
+pub part-put : (w : List ℕ) (p k : ℕ) (xs : List ℕ) → length xs ≡ k → p + k ≤ length w → take k (drop p (put w p xs)) ≡ xs
+unfolding put
+part-put w zero k xs e h = take-put w xs k e (omega arith)
+part-put [] (suc p) k xs e h = absurd (omega arith)
+part-put (z ∷ w) (suc p) k xs e h = part-put w p k xs e (omega arith)
+
+pub wordsFrom-take : (w : List ℕ) (p n : ℕ) → p + n ≤ length w → wordsFrom w p n ≡ take n (drop p w)
+unfolding wordsFrom
+wordsFrom-take w p zero h = refl
+wordsFrom-take w p (suc n) h =
+    rw (drop-cons w p 0 (omega arith)) (ap (λ (l : List ℕ). getD w p 0 ∷ l) (wordsFrom-take w (p + 1) n (omega arith) ∙ rw add-one))
+
+length-either : (t : Bool) (v xs : List ℕ) → length (cond t (put v 0 xs) v) ≡ length v
+length-either true v xs = length-put v 0 xs
+length-either false v xs = refl
+
+length-rowsAfter : (v : List ℕ) (d : Decoded) (k : ℕ) → length (rowsAfter v d k) ≡ length v
+unfolding rowsAfter
+length-rowsAfter v damaged k = refl
+length-rowsAfter v (sound S) k = length-either (eqb (listNo S k (length v)) 0) v (listing.rowsOf (S .family) (listAt S k))
+
+-- the rows of a list
+module _ (w v : List ℕ) (c : Call) (o : List ℕ) (at : ℕ) (fits : c .b ≤ length v) where
+  pub listing-is : {v₁ u o′ : List ℕ} {a : Answer} {r : Reply} → v₁ ≡ put v 0 (replicate (c .b) (c .c)) → Listed w (c .a) (take (c .b) v₁) a u
+      → o′ ≡ put o at (rowBytes u64Bytes (wordsFrom (u ++ drop (c .b) v₁) 0 (c .b))) → r ≡ oneReply (answerAs a) → Listing w v c o at r (u ++ drop (c .b) v₁) o′
+  unfolding rowsOf listReply
+  listing-is {v₁} {u} e l f g =
+      let n : length (replicate (c .b) (c .c)) ≡ c .b = length-replicate (c .b) (c .c) in
+      let t : take (c .b) v₁ ≡ replicate (c .b) (c .c) = rw e (take-put v (replicate (c .b) (c .c)) (c .b) n fits) in
+      let x : u ≡ rowsAfter (replicate (c .b) (c .c)) (decode w) (c .a) = rw t at (l .rows) in
+      let m : length u ≡ c .b = rw x (length-rowsAfter (replicate (c .b) (c .c)) (decode w) (c .a) ∙ n) in
+      let k : length v₁ ≡ length v = rw e (length-put v 0 (replicate (c .b) (c .c))) in
+      let s : u ++ drop (c .b) v₁ ≡ put v₁ 0 u = splice v₁ 0 (c .b) u m (omega arith) in
+      let z : put v₁ 0 u ≡ put v 0 u = rw e (put-over v 0 (replicate (c .b) (c .c)) u (n ∙ sym m)) in
+      let y : wordsFrom (u ++ drop (c .b) v₁) 0 (c .b) ≡ u =
+      rw s (wordsFrom-take (put v₁ 0 u) 0 (c .b) (rw (length-put v₁ 0 u) (omega arith)) ∙ take-put v₁ u (c .b) m (omega arith)) in
+      record { reply = g ∙ ap oneReply (l .answer ∙ rw (t, n)); rows = s ∙ (z ∙ ap (put v 0) x); tail = f ∙ ap (λ q. put o at (rowBytes u64Bytes q)) (y ∙ x) }
+
+-- the bytes of a line; k is how many are lent
+pub lining-is : (c : Call) (o o₁ : List ℕ) (at k : ℕ) {new : List ℕ} {a : Written} {r : Reply} → at + c .b ≤ length o → k ≡ c .b → o₁ ≡ put o at (replicate (c .b) (c .c % 256))
+    → length new ≡ length (take k (drop at o₁)) → Wrote (c .net) (take k (drop at o₁)) new a → r ≡ oneReply (writtenAs a) → Lining c o at r (take at o₁ ++ (new ++ drop k (drop at o₁)))
+unfolding lineBytes lineReply
+lining-is c o o₁ at k {new} h i e m w g =
+    let n : length (replicate (c .b) (c .c % 256)) ≡ c .b = length-replicate (c .b) (c .c % 256) in
+    let t : take k (drop at o₁) ≡ replicate (c .b) (c .c % 256) = rw (e, i) (part-put o at (c .b) (replicate (c .b) (c .c % 256)) n h) in
+    let l : length new ≡ k = m ∙ (ap length t ∙ (n ∙ sym i)) in
+    let j : length o₁ ≡ length o = rw e (length-put o at (replicate (c .b) (c .c % 256))) in
+    let s : take at o₁ ++ (new ++ drop k (drop at o₁)) ≡ put o₁ at new = splice o₁ at k new l (omega arith) in
+    let z : put o₁ at new ≡ put o at new = rw e (put-over o at (replicate (c .b) (c .c % 256)) new (n ∙ (sym i ∙ sym l))) in
+    record { reply = g ∙ ap oneReply (w .answer ∙ rw (t, n)); tail = s ∙ (z ∙ ap (put o at) (w .bytes ∙ rw (t, n))) }

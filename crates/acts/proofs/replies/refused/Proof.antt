@@ -1,0 +1,12 @@
+-- `replies::refused` meets its contract. Assumes nothing.
+use borrow.Author.Needs.{needs}
+use Rattle.acts.proofs.replies.refused.Statement.{statement}
+use Rattle.acts.proofs.replies.refused.Tie as tie
+
+pub refused-spec : {M : Type 1} → statement M
+refused-spec =
+    tie.close
+    (tie.spec
+    (λ c κs. search needs)
+    (λ c κs. search needs)
+    (λ c. cc))

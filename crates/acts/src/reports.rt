@@ -1,0 +1,39 @@
+// The calls that read the pool and answer with numbers, a flag or a network.
+ghost use mathlib.Core.Path.{_≡_};
+ghost use Rattle.acts.specs.Effects.{fromOf, reportOf};
+use crate::replies::of_answer;
+use crate::replies::of_covering;
+use crate::replies::of_follower;
+use crate::replies::of_report;
+use crate::replies::of_told;
+use codes::Call;
+use codes::Reply;
+use codes::table;
+use listing::From;
+
+// From the start, or behind the network.
+fn from_of(c: Call) -> From
+    ensures { λ r. ⌜ r ≡ fromOf c ⌝ }
+{
+    if c.b == 0 {
+        return From::Start;
+    }
+    let net = c.net;
+    From::Past(net)
+}
+
+pub fn report(pool: &[u32], c: Call) -> Reply
+    ensures { λ r. ⌜ r ≡ reportOf (now (pool .entry)) c ⌝ }
+{
+    let code = c.code;
+    match code {
+        table::FREE => of_answer(pool::free(pool)),
+        table::HELD => of_report(pool::held(pool, c.a)),
+        table::PLAN => of_report(pool::plan(pool, c.a)),
+        table::SUPERNET => of_covering(lookup::supernet(pool, c.a, c.net)),
+        table::CONTAINS => of_told(lookup::contains(pool, c.a, c.net)),
+        table::IS_EMPTY => of_told(lookup::is_empty(pool, c.a)),
+        table::EQUAL => of_told(combine::equal(pool, c.a, c.b)),
+        _ => of_follower(listing::next(pool, c.a, from_of(c))),
+    }
+}

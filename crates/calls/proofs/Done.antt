@@ -1,0 +1,116 @@
+-- What a call leaves, group by group, and with its answer written.
+use mathlib.Core.List.{List, []}
+use mathlib.Core.Path.{_≡_, sym, ap, _∙_}
+use Prim.Native.Nat.{ℕ, _+_, _≤_, _<_}
+use native.Mathlib.Omega.{arith}
+use borrow.Author.Tests.{eq-eqb, ne-eqb, le-leb, lt-leb, lt-ltb, le-ltb}
+use Rattle.nodes.specs.Words.{put}
+use Rattle.nodes.proofs.Put.{put-nil, put-before-at}
+use Rattle.codes.specs.Bytes.{u32Bytes, u64Bytes}
+use Rattle.codes.specs.Records.{replyBytes}
+use Rattle.codes.specs.Tails.{wordsFrom, rowBytes}
+use Rattle.codes.specs.declared.Call.{Call}
+use Rattle.codes.specs.declared.Reply.{Reply}
+use Rattle.codes.proofs.Written.{length-reply}
+use Rattle.acts.specs.Replies.{noReply}
+use Rattle.acts.specs.Effects.{layoutOf, writeOf, changeOf, reportOf, networkOf, plainOf}
+use Rattle.acts.specs.Tailed.{rowsOf, listReply, lineBytes, lineReply, Listing, Lining}
+use Rattle.calls.specs.Runs.{Effect, effectOf, Answered, Stepped}
+
+-- which calls are which, by the tests of the code
+module _ (w s : List ℕ) (c : Call) where
+  pub plain-layout : c .code ≡ 1 → plainOf w s c ≡ layoutOf w c s
+  unfolding plainOf
+  plain-layout e = rw (eq-eqb _ _ e)
+
+  pub plain-write : c .code ≡ 48 → plainOf w s c ≡ writeOf w c s
+  unfolding plainOf
+  plain-write e = rw e
+
+  pub plain-report : (c .code ≡ 1 → ⊥) → c .code < 8 → plainOf w s c ≡ (reportOf w c, w)
+  unfolding plainOf
+  plain-report f h = rw (ne-eqb _ _ f, ne-eqb (c .code) 48 (λ e. omega arith), lt-leb 8 (c .code) h, lt-ltb (c .code) 17 (omega arith))
+
+  pub plain-change : 8 ≤ c .code → c .code ≤ 13 → plainOf w s c ≡ changeOf w c
+  unfolding plainOf
+  plain-change h i = rw (ne-eqb (c .code) 1 (λ e. omega arith), ne-eqb (c .code) 48 (λ e. omega arith), le-leb 8 (c .code) h, le-leb (c .code) 13 i)
+
+  pub plain-next : 13 < c .code → c .code < 17 → plainOf w s c ≡ (reportOf w c, w)
+  unfolding plainOf
+  plain-next h i =
+      rw (ne-eqb (c .code) 1 (λ e. omega arith), ne-eqb (c .code) 48 (λ e. omega arith), le-leb 8 (c .code) (omega arith), lt-leb (c .code) 13 h, lt-ltb (c .code) 17 i)
+
+  pub plain-network : (c .code ≡ 48 → ⊥) → 17 ≤ c .code → plainOf w s c ≡ (networkOf s c, w)
+  unfolding plainOf
+  plain-network f h =
+      rw (ne-eqb (c .code) 1 (λ e. omega arith), ne-eqb _ _ f, le-leb 8 (c .code) (omega arith), lt-leb (c .code) 13 (omega arith), le-ltb (c .code) 17 h)
+
+-- what each kind of call with a tail does, and any other
+module _ (w v s : List ℕ) (c : Call) where
+  effect-list : c .code ≡ 15 → effectOf w v s c ≡ record { reply = listReply w c; tail = rowBytes u64Bytes (rowsOf w c); words = w; rows = put v 0 (rowsOf w c) }
+  unfolding effectOf
+  effect-list e = rw (eq-eqb _ _ e)
+
+  effect-line : c .code ≡ 18 → effectOf w v s c ≡ record { reply = lineReply c; tail = lineBytes c; words = w; rows = v }
+  unfolding effectOf
+  effect-line e = rw (ne-eqb (c .code) 15 (λ f. omega arith), eq-eqb _ _ e)
+
+  effect-words : c .code ≡ 49 → effectOf w v s c ≡ record { reply = noReply 0; tail = rowBytes u32Bytes (wordsFrom w (c .a) (c .b)); words = w; rows = v }
+  unfolding effectOf
+  effect-words e = rw (ne-eqb (c .code) 15 (λ f. omega arith), ne-eqb (c .code) 18 (λ f. omega arith), eq-eqb _ _ e)
+
+  effect-plain : (c .code ≡ 15 → ⊥) → (c .code ≡ 18 → ⊥) → (c .code ≡ 49 → ⊥)
+      → effectOf w v s c ≡ record { reply = plainOf w s c .0; tail = []; words = plainOf w s c .1; rows = v }
+  unfolding effectOf
+  effect-plain f g h = rw (ne-eqb _ _ f, ne-eqb _ _ g, ne-eqb _ _ h)
+
+-- an answer with its tail at its place
+pub answered-list : {w v o v′ o′ : List ℕ} {c : Call} {at : ℕ} {r : Reply} (s : List ℕ) → c .code ≡ 15 → Listing w v c o at r v′ o′ → Answered w v s c o at r w v′ o′
+answered-list {w} {v} {c = c} s e l =
+    let q = effect-list w v s c e in
+    record {
+      reply = l .reply ∙ sym (ap (λ (x : Effect). x .reply) q);
+      words = sym (ap (λ (x : Effect). x .words) q);
+      rows = l .rows ∙ sym (ap (λ (x : Effect). x .rows) q);
+      tail = rw q (l .tail);
+    }
+
+pub answered-line : {o o′ : List ℕ} {c : Call} {at : ℕ} {r : Reply} (w v s : List ℕ) → c .code ≡ 18 → Lining c o at r o′ → Answered w v s c o at r w v o′
+answered-line {c = c} w v s e l =
+    let q = effect-line w v s c e in
+    record {
+      reply = l .reply ∙ sym (ap (λ (x : Effect). x .reply) q);
+      words = sym (ap (λ (x : Effect). x .words) q);
+      rows = sym (ap (λ (x : Effect). x .rows) q);
+      tail = rw q (l .tail);
+    }
+
+pub answered-words : {o o′ : List ℕ} {c : Call} {r : Reply} (w v s : List ℕ) (at : ℕ) → c .code ≡ 49 → r ≡ noReply 0 → o′ ≡ put o at (rowBytes u32Bytes (wordsFrom w (c .a) (c .b)))
+    → Answered w v s c o at r w v o′
+answered-words {c = c} w v s at e f g =
+    let q = effect-words w v s c e in
+    record {
+      reply = f ∙ sym (ap (λ (x : Effect). x .reply) q);
+      words = sym (ap (λ (x : Effect). x .words) q);
+      rows = sym (ap (λ (x : Effect). x .rows) q);
+      tail = rw q g;
+    }
+
+pub answered-plain : {w′ : List ℕ} {r : Reply} (w v s : List ℕ) (c : Call) (o : List ℕ) (at : ℕ) → (c .code ≡ 15 → ⊥) → (c .code ≡ 18 → ⊥) → (c .code ≡ 49 → ⊥) → (r, w′) ≡ plainOf w s c
+    → Answered w v s c o at r w′ v o
+answered-plain w v s c o at f g h e =
+    let q = effect-plain w v s c f g h in
+    record {
+      reply = ap (λ x. x .0) e ∙ sym (ap (λ (x : Effect). x .reply) q);
+      words = ap (λ x. x .1) e ∙ sym (ap (λ (x : Effect). x .words) q);
+      rows = sym (ap (λ (x : Effect). x .rows) q);
+      tail = rw q (sym (put-nil o at));
+    }
+
+pub stepped-is : {w v s o w′ v′ o₁ o₂ : List ℕ} {c : Call} {r : Reply} (to : ℕ) → Answered w v s c o (to + 28) r w′ v′ o₁ → o₂ ≡ put o₁ to (replyBytes r) → Stepped w v s c o to w′ v′ o₂
+stepped-is {w} {v} {s} {o} {c = c} {r = r} to a e =
+    record {
+      words = a .words;
+      rows = a .rows;
+      out = e ∙ rw (a .tail, a .reply) (put-before-at o to (to + 28) (replyBytes (effectOf w v s c .reply)) (effectOf w v s c .tail) (rw (length-reply (effectOf w v s c .reply))));
+    }
