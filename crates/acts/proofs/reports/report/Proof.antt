@@ -33,7 +33,7 @@ report-spec =
     (λ c. rw (c .before .before .match .keys4) (rw (c .before .supernet .ensures) at (c .of-covering .ensures)))
     (λ c. rw (c .before .before .match .keys5) (rw (c .before .contains .ensures) at (c .of-told .ensures)))
     (λ c. rw (c .before .before .match .keys6) (rw (c .before .is-empty .ensures) at (c .of-told2 .ensures)))
-    (λ c. rw (c .before .before .match .keys7) (rw (c .before .equal .ensures) at (c .of-compared .ensures)))
+    (λ c. rw (c .before .before .match .keys7) (rw (c .before .equal .ensures) at (c .of-told3 .ensures)))
     (λ c.
     let n = c .before in
     let r = n .before .before .match .rest in
