@@ -72,6 +72,7 @@ sharesOf c s = numbersFrom s 35 (c .net .len)
 abbrev pub limitsOf : Call → List ℕ → List ℕ
 limitsOf c s = numbersFrom s (35 + 4 * c .net .len) (c .c % 256)
 
+-- the answer of layout, and the words that it leaves
 abbrev pub laidBy : List ℕ → ℕ → ℕ → ℕ → List ℕ → List ℕ → Reply × List ℕ
 laidBy w f n m xs ys = (noReply (layoutNo w f n m xs ys), cond (eqb (layoutNo w f n m xs ys) 0) (laid w f n m xs ys) w)
 

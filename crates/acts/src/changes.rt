@@ -1,7 +1,5 @@
 // The calls that change the pool.
 ghost use mathlib.Core.Path.{_≡_};
-ghost use Prim.Native.Nat.{_≤_, _<_, _^_};
-ghost use lib.ListN.{length};
 ghost use Rattle.acts.specs.Effects.{changeOf, layoutOf, writeOf};
 use crate::replies::of_answer;
 use crate::replies::only;
@@ -14,6 +12,7 @@ use codes::tails::store_words;
 // A layout has at most 255 shares and 255 limits here.
 const ROW: usize = 255;
 
+// A call that changes a set, by its code; exclude is the one that is left.
 pub fn change(pool: &mut [u32], c: Call) -> Reply
     ensures { λ r. ⌜ (r, now (pool .exit)) ≡ changeOf (now (pool .entry)) c ⌝ }
 {

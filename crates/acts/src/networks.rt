@@ -64,6 +64,7 @@ fn groups(s: &[u8]) -> Net
     ])
 }
 
+// What the bit iterator has left, as the call gives it.
 fn bits_of(net: Net) -> PrefixBits
     ensures { λ r. ⌜ r ≡ bitsWords (net .hi) (net .lo) (net .len) ⌝ }
 {
@@ -74,7 +75,7 @@ fn bits_of(net: Net) -> PrefixBits
     }
 }
 
-// Networks of addresses.
+// A network of an address, by its code; that of two words is the one that is left.
 fn made(s: &[u8], c: Call) -> Reply
     ensures { λ r. ⌜ r ≡ madeOf (now (s .entry)) c ⌝ }
 {
@@ -87,6 +88,7 @@ fn made(s: &[u8], c: Call) -> Reply
     }
 }
 
+// A call without a pool, by its code; the networks of addresses are left.
 pub fn network(s: &[u8], c: Call) -> Reply
     requires { ⌜ 35 ≤ length (now s) ⌝ }
     ensures { λ r. ⌜ r ≡ networkOf (now (s .entry)) c ⌝ }

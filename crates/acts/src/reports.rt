@@ -22,6 +22,7 @@ fn from_of(c: Call) -> From
     From::Past(net)
 }
 
+// A call that reads the pool, by its code; next is the one that is left.
 pub fn report(pool: &[u32], c: Call) -> Reply
     ensures { λ r. ⌜ r ≡ reportOf (now (pool .entry)) c ⌝ }
 {

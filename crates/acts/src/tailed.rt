@@ -1,9 +1,9 @@
 // The calls whose answers have a tail. Each writes the tail at its place in out, and gives the rest of its answer.
 ghost use mathlib.Core.Path.{_≡_};
-ghost use Prim.Native.Nat.{_+_, _*_, _≤_, _%_};
+ghost use Prim.Native.Nat.{_+_, _*_, _≤_};
 ghost use lib.ListN.{length};
 ghost use Rattle.nodes.specs.Words.{put};
-ghost use Rattle.codes.specs.Bytes.{u32Bytes, u64Bytes};
+ghost use Rattle.codes.specs.Bytes.{u32Bytes};
 ghost use Rattle.codes.specs.Tails.{wordsFrom, rowBytes};
 ghost use Rattle.acts.specs.Replies.{noReply};
 ghost use Rattle.acts.specs.Tailed.{Listing, Lining};
