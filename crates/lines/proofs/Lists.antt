@@ -31,7 +31,7 @@ module _ (w : List ℕ) (S : State) (n : Net) (d : decode w ≡ sound S) (e : ad
   added = record { answer = rw (d, granted); words = refl }
 
   decode-added : decode (addWords w n) ≡ sound (withList S 0 (listWith 0 n S))
-  decode-added = let x = add-leaves n d added in x .holds ∙ ap sound (x .is ∙ rw granted)
+  decode-added = add-leaves n d added .holds ∙ ap (λ m. sound (cond (eqb m 0) (withList S 0 (listWith 0 n S)) S)) granted
 
 -- An added line.
 line-added : (w l : List ℕ) → lineNo w l ≡ 0 → (addNo w (readLine l .1) ≡ 0) × (wordsWith w l ≡ addWords w (readLine l .1))

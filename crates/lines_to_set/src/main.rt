@@ -4,15 +4,10 @@
 // says which and why, and no file is written. The set has at most 100,000 nodes: a line that needs more is refused, OverLimit.
 use libc::STDERR_FILENO;
 use pool::Answer;
+use programs::BYTES;
 use programs::Input;
-
-const NODES: u32 = 100000;
-
-// The words of a pool of one set and so many nodes.
-const WORDS: usize = 800072;
-
-// The bytes of the largest file: a trie of so many nodes has at most half as many leaves, of 5 bytes each; and 16 of the header.
-const BYTES: usize = 250016;
+use programs::NODES;
+use programs::WORDS;
 
 // The line that is refused.
 fn refused(number: u64, no: u8) {

@@ -3,6 +3,7 @@
 mod opening;
 mod printing;
 mod reading;
+mod room;
 
 pub use opening::open_source;
 pub use opening::open_target;
@@ -10,3 +11,7 @@ pub use printing::print_set;
 pub use printing::say_refusal;
 pub use reading::Input;
 pub use reading::read_lines;
+pub use room::BYTES;
+pub use room::NODES;
+pub use room::ROWS;
+pub use room::WORDS;

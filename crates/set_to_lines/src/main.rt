@@ -1,19 +1,13 @@
 // Prints an IPv4 set file as lines, in the order of its list: set-to-lines SETFILE, the name of a file, where - is standard input.
 //
-// Where the file is refused, standard error says why and nothing is printed. The set has at most 100,000 nodes: a file with more is refused, OverLimit.
+// Where the file is refused, standard error says why and nothing is printed. The set has at most 100,000 nodes: a file with more is refused, OverLimit. One
+// with more bytes than the file of such a set can have is not read whole, and standard error says so.
 use libc::STDERR_FILENO;
 use pool::Answer;
-
-const NODES: u32 = 100000;
-
-// The words of a pool of one set and so many nodes.
-const WORDS: usize = 800072;
-
-// The bytes of the largest file: a trie of so many nodes has at most half as many leaves, of 5 bytes each; and 16 of the header.
-const BYTES: usize = 250016;
-
-// As many networks, three numbers each.
-const ROWS: usize = 150000;
+use programs::BYTES;
+use programs::NODES;
+use programs::ROWS;
+use programs::WORDS;
 
 // One byte more of a file that was read: how many came, 0 at its end, or -1.
 fn past(fd: i32) -> isize {
@@ -34,7 +28,7 @@ fn load(pool: &mut [u32], bytes: &[u8]) -> bool {
     }
 }
 
-// The same from an open file. A longer one than the largest is not read whole.
+// The same from an open file.
 fn load_from(fd: i32, path: &[u8], pool: &mut [u32]) -> bool {
     let mut bytes = [0u8; BYTES];
     let n = io::read_full(fd, &mut bytes);

@@ -2,10 +2,10 @@
 use tally::Tally;
 
 mod broken;
+mod expect;
 mod loaded;
 mod made;
 mod saved;
-mod tally;
 mod unloaded;
 mod unsaved;
 
@@ -43,8 +43,5 @@ fn main() {
     let mut t = saving(tally::none());
     t = loading(t);
     t = breaking(t);
-    io::print_decimal(1, t.cases as u64);
-    io::write_all(1, b" cases, ");
-    io::print_decimal(1, t.wrong as u64);
-    io::write_all(1, b" wrong\n");
+    tally::say(t);
 }

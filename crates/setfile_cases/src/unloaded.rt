@@ -1,18 +1,18 @@
 // Files that a pool refuses: the smallest number that applies, and that no word changes. And what just fits.
+use crate::expect;
 use crate::made;
 use crate::made::WORDS;
-use crate::tally;
-use crate::tally::Tally;
 use pool::Answer;
+use tally::Tally;
 
 // 64 nodes and three sets: the second has the limit 31, the third the share 30 and holds 0.0.0.0/1.
 fn three(t: Tally, pool: &mut [u32]) -> Tally {
-    let t = tally::gives(
+    let t = expect::gives(
         t,
         pool::layout(pool, 4, 3, 64, &[0, 0, 30], &[64, 31, 64]),
         0,
     );
-    tally::gives(t, change::add(pool, 2, made::v4(0, 1)), 2)
+    expect::gives(t, change::add(pool, 2, made::v4(0, 1)), 2)
 }
 
 // The root's number of the third set, and one that is another node's.
@@ -26,8 +26,8 @@ fn refused(t: Tally, root: u32, set: u32, bytes: &[u8], no: u8) -> Tally {
     let t = three(t, &mut pool);
     pool[80] = root;
     let was = pool;
-    let t = tally::gets(t, setfile::load(&mut pool, set, bytes), no);
-    tally::keeps(t, &was, &pool)
+    let t = expect::gets(t, setfile::load(&mut pool, set, bytes), no);
+    expect::keeps(t, &was, &pool)
 }
 
 // 10.0.0.0/8 and 192.168.0.0/23: 32 nodes.
@@ -109,10 +109,10 @@ pub fn behind(t: Tally) -> Tally {
 pub fn fitting(t: Tally) -> Tally {
     let mut pool = [0u32; WORDS];
     let mut t = three(t, &mut pool);
-    t = tally::gives(t, load_two(&mut pool, 0), 32);
-    t = tally::gives(t, change::remove(&mut pool, 2, made::v4(0, 0)), 0);
-    t = tally::gives(t, load_two(&mut pool, 2), 32);
-    tally::gives(t, pool::free(&pool), 0)
+    t = expect::gives(t, load_two(&mut pool, 0), 32);
+    t = expect::gives(t, change::remove(&mut pool, 2, made::v4(0, 0)), 0);
+    t = expect::gives(t, load_two(&mut pool, 2), 32);
+    expect::gives(t, pool::free(&pool), 0)
 }
 
 fn load_two(pool: &mut [u32], set: u32) -> Answer {

@@ -1,7 +1,7 @@
 // The sets, and their lists: shorter length first, then smaller address.
-use crate::tally;
-use crate::tally::Tally;
+use crate::expect;
 use nets::Net;
+use tally::Tally;
 use walk::nth;
 
 // The words of the largest pool here: two sets, 300 nodes.
@@ -30,7 +30,7 @@ fn v6(hi: u64, lo: u64, len: u8) -> Net {
 
 // Two sets without a share in 300 nodes.
 fn two(t: Tally, pool: &mut [u32], family: u8) -> Tally {
-    tally::gives(
+    expect::gives(
         t,
         pool::layout(pool, family, 2, 300, &[0, 0], &[300, 300]),
         0,
@@ -40,30 +40,30 @@ fn two(t: Tally, pool: &mut [u32], family: u8) -> Tally {
 pub fn empty(t: Tally) -> Tally {
     let mut pool = [0u32; WORDS];
     let mut t = two(t, &mut pool, 4);
-    t = tally::ends(t, nth(&pool, 0, 0));
-    t = tally::ends(t, nth(&pool, 1, 0));
-    tally::ends(t, nth(&pool, 1, 4294967295))
+    t = expect::ends(t, nth(&pool, 0, 0));
+    t = expect::ends(t, nth(&pool, 1, 0));
+    expect::ends(t, nth(&pool, 1, 4294967295))
 }
 
 // In another order than the list's, with bits past the length.
 fn some_added(t: Tally, pool: &mut [u32]) -> Tally {
     let mut t = two(t, pool, 4);
-    t = tally::gives(t, change::add(pool, 1, v4(0xc0a8_0100, 24)), 25);
-    tally::gives(t, change::add(pool, 1, v4(0x0a09_0807, 8)), 33)
+    t = expect::gives(t, change::add(pool, 1, v4(0xc0a8_0100, 24)), 25);
+    expect::gives(t, change::add(pool, 1, v4(0x0a09_0807, 8)), 33)
 }
 
 fn others_added(t: Tally, pool: &mut [u32]) -> Tally {
-    let t = tally::gives(t, change::add(pool, 1, v4(0xc0a8_0000, 24)), 34);
-    tally::gives(t, change::add(pool, 1, v4(0x0808_0808, 32)), 60)
+    let t = expect::gives(t, change::add(pool, 1, v4(0xc0a8_0000, 24)), 34);
+    expect::gives(t, change::add(pool, 1, v4(0x0808_0808, 32)), 60)
 }
 
 fn ordered(t: Tally, pool: &[u32]) -> Tally {
-    let mut t = tally::is(t, nth(pool, 1, 0), v4(0x0a00_0000, 8));
-    t = tally::is(t, nth(pool, 1, 1), v4(0xc0a8_0000, 24));
-    t = tally::is(t, nth(pool, 1, 2), v4(0xc0a8_0100, 24));
-    t = tally::is(t, nth(pool, 1, 3), v4(0x0808_0808, 32));
-    t = tally::ends(t, nth(pool, 1, 4));
-    tally::ends(t, nth(pool, 0, 0))
+    let mut t = expect::is(t, nth(pool, 1, 0), v4(0x0a00_0000, 8));
+    t = expect::is(t, nth(pool, 1, 1), v4(0xc0a8_0000, 24));
+    t = expect::is(t, nth(pool, 1, 2), v4(0xc0a8_0100, 24));
+    t = expect::is(t, nth(pool, 1, 3), v4(0x0808_0808, 32));
+    t = expect::ends(t, nth(pool, 1, 4));
+    expect::ends(t, nth(pool, 0, 0))
 }
 
 pub fn order(t: Tally) -> Tally {
@@ -76,21 +76,21 @@ pub fn order(t: Tally) -> Tally {
 // All addresses.
 fn all(t: Tally, pool: &mut [u32]) -> Tally {
     let t = two(t, pool, 4);
-    tally::gives(t, change::add(pool, 0, v4(0, 0)), 1)
+    expect::gives(t, change::add(pool, 0, v4(0, 0)), 1)
 }
 
 fn one_listed(t: Tally, pool: &[u32]) -> Tally {
-    let t = tally::is(t, nth(pool, 0, 0), v4(0, 0));
-    tally::ends(t, nth(pool, 0, 1))
+    let t = expect::is(t, nth(pool, 0, 0), v4(0, 0));
+    expect::ends(t, nth(pool, 0, 1))
 }
 
 // One network of each length from 1 to 32.
 fn all_lengths(t: Tally, pool: &[u32]) -> Tally {
-    let mut t = tally::is(t, nth(pool, 0, 0), v4(0, 1));
-    t = tally::is(t, nth(pool, 0, 1), v4(0x8000_0000, 2));
-    t = tally::is(t, nth(pool, 0, 30), v4(0xffff_fffc, 31));
-    t = tally::is(t, nth(pool, 0, 31), v4(0xffff_fffe, 32));
-    tally::ends(t, nth(pool, 0, 32))
+    let mut t = expect::is(t, nth(pool, 0, 0), v4(0, 1));
+    t = expect::is(t, nth(pool, 0, 1), v4(0x8000_0000, 2));
+    t = expect::is(t, nth(pool, 0, 30), v4(0xffff_fffc, 31));
+    t = expect::is(t, nth(pool, 0, 31), v4(0xffff_fffe, 32));
+    expect::ends(t, nth(pool, 0, 32))
 }
 
 // All addresses, and then all but the last one.
@@ -98,48 +98,48 @@ pub fn split(t: Tally) -> Tally {
     let mut pool = [0u32; WORDS];
     let mut t = all(t, &mut pool);
     t = one_listed(t, &pool);
-    t = tally::gives(t, change::remove(&mut pool, 0, v4(0xffff_ffff, 32)), 64);
+    t = expect::gives(t, change::remove(&mut pool, 0, v4(0xffff_ffff, 32)), 64);
     all_lengths(t, &pool)
 }
 
 // Both address words, and the same length on both sides of a bit.
 fn wide_added(t: Tally, pool: &mut [u32]) -> Tally {
     let mut t = two(t, pool, 6);
-    t = tally::gives(t, change::add(pool, 0, v6(LAST, LAST, 64)), 65);
-    tally::gives(t, change::add(pool, 0, v6(0, LAST, 128)), 193)
+    t = expect::gives(t, change::add(pool, 0, v6(LAST, LAST, 64)), 65);
+    expect::gives(t, change::add(pool, 0, v6(0, LAST, 128)), 193)
 }
 
 fn wide_listed(t: Tally, pool: &[u32]) -> Tally {
-    let mut t = tally::is(t, nth(pool, 0, 0), v6(1, 0, 64));
-    t = tally::is(t, nth(pool, 0, 1), v6(LAST, 0, 64));
-    t = tally::is(t, nth(pool, 0, 2), v6(0, LAST, 128));
-    tally::ends(t, nth(pool, 0, 3))
+    let mut t = expect::is(t, nth(pool, 0, 0), v6(1, 0, 64));
+    t = expect::is(t, nth(pool, 0, 1), v6(LAST, 0, 64));
+    t = expect::is(t, nth(pool, 0, 2), v6(0, LAST, 128));
+    expect::ends(t, nth(pool, 0, 3))
 }
 
 pub fn wide(t: Tally) -> Tally {
     let mut pool = [0u32; WORDS];
     let mut t = wide_added(t, &mut pool);
-    t = tally::gives(t, change::add(&mut pool, 0, v6(1, 0, 64)), 194);
+    t = expect::gives(t, change::add(&mut pool, 0, v6(1, 0, 64)), 194);
     wide_listed(t, &pool)
 }
 
 // Two sets, the first of which was added to last.
 fn neighbours(t: Tally, pool: &mut [u32]) -> Tally {
     let mut t = two(t, pool, 4);
-    t = tally::gives(t, change::add(pool, 1, v4(0x8000_0000, 1)), 2);
-    tally::gives(t, change::add(pool, 0, v4(0x4000_0000, 2)), 3)
+    t = expect::gives(t, change::add(pool, 1, v4(0x8000_0000, 1)), 2);
+    expect::gives(t, change::add(pool, 0, v4(0x4000_0000, 2)), 3)
 }
 
 fn both_listed(t: Tally, pool: &[u32]) -> Tally {
-    let mut t = tally::is(t, nth(pool, 0, 0), v4(0x4000_0000, 2));
-    t = tally::ends(t, nth(pool, 0, 1));
-    t = tally::is(t, nth(pool, 1, 0), v4(0x8000_0000, 1));
-    tally::ends(t, nth(pool, 1, 1))
+    let mut t = expect::is(t, nth(pool, 0, 0), v4(0x4000_0000, 2));
+    t = expect::ends(t, nth(pool, 0, 1));
+    t = expect::is(t, nth(pool, 1, 0), v4(0x8000_0000, 1));
+    expect::ends(t, nth(pool, 1, 1))
 }
 
 fn second_listed(t: Tally, pool: &[u32]) -> Tally {
-    let t = tally::ends(t, nth(pool, 0, 0));
-    tally::is(t, nth(pool, 1, 0), v4(0x8000_0000, 1))
+    let t = expect::ends(t, nth(pool, 0, 0));
+    expect::is(t, nth(pool, 1, 0), v4(0x8000_0000, 1))
 }
 
 // A set that stands behind another reads its own list, also when the other was emptied.
@@ -147,15 +147,15 @@ pub fn beside(t: Tally) -> Tally {
     let mut pool = [0u32; WORDS];
     let mut t = neighbours(t, &mut pool);
     t = both_listed(t, &pool);
-    t = tally::gives(t, change::remove(&mut pool, 0, v4(0, 0)), 0);
+    t = expect::gives(t, change::remove(&mut pool, 0, v4(0, 0)), 0);
     second_listed(t, &pool)
 }
 
 pub fn refused(t: Tally) -> Tally {
     let mut pool = [0u32; WORDS];
-    let mut t = tally::gets(t, nth(&pool, 0, 0), 2);
+    let mut t = expect::gets(t, nth(&pool, 0, 0), 2);
     t = two(t, &mut pool, 4);
-    t = tally::gets(t, nth(&pool, 2, 0), 3);
+    t = expect::gets(t, nth(&pool, 2, 0), 3);
     pool[2] = 65;
-    tally::gets(t, nth(&pool, 70, 0), 2)
+    expect::gets(t, nth(&pool, 70, 0), 2)
 }

@@ -1,13 +1,8 @@
 -- `main` is safe and ends. The words of the pool are too many to be counted one by one: a law gives their number. Assumes nothing.
-use mathlib.Core.Path.{_≡_, sym}
-use Prim.Native.Nat.{ℕ}
 use borrow.Author.Needs.{needs}
-use lib.ListN.{length, replicate, length-replicate}
+use Rattle.programs.proofs.Zeros.{count-zeros}
 use Rattle.set_to_lines.proofs.main.Statement.{statement}
 use Rattle.set_to_lines.proofs.main.Tie as tie
-
-count : (n : ℕ) → n ≡ length {A = ℕ} (replicate n 0)
-count n = sym (length-replicate n 0)
 
 pub main-spec : {M : Type 1} → statement M
 main-spec =
@@ -17,6 +12,6 @@ main-spec =
     (λ c. search needs)
     (λ c κs. search needs)
     (λ c. search needs)
-    (λ c. count 800072)
+    (λ c. count-zeros 800072)
     (λ c κs. search needs)
     (λ c. search needs))

@@ -1,31 +1,10 @@
-// What is counted, and how each kind of case is held to what it must give.
+// How each kind of case is held to what it must give.
 use crate::made;
 use crate::made::WORDS;
 use nets::Refusal;
 use pool::Answer;
-
-pub struct Tally {
-    pub cases: u32,
-    pub wrong: u32,
-}
-
-pub fn none() -> Tally {
-    Tally { cases: 0, wrong: 0 }
-}
-
-fn count(t: Tally, right: bool) -> Tally {
-    let cases = std::num::wrapping_add_u32(t.cases, 1);
-    if right {
-        return Tally {
-            cases,
-            wrong: t.wrong,
-        };
-    }
-    Tally {
-        cases,
-        wrong: std::num::wrapping_add_u32(t.wrong, 1),
-    }
-}
+use tally::Tally;
+use tally::count;
 
 // The call is granted and answers this number.
 pub fn gives(t: Tally, a: Answer, n: usize) -> Tally {

@@ -1,30 +1,9 @@
-// What is counted, and how each answer is held to what it must be.
+// How each answer is held to what it must be.
 use listing::Follower;
 use nets::Net;
 use pool::Answer;
-
-pub struct Tally {
-    pub cases: u32,
-    pub wrong: u32,
-}
-
-pub fn none() -> Tally {
-    Tally { cases: 0, wrong: 0 }
-}
-
-fn count(t: Tally, right: bool) -> Tally {
-    let cases = std::num::wrapping_add_u32(t.cases, 1);
-    if right {
-        return Tally {
-            cases,
-            wrong: t.wrong,
-        };
-    }
-    Tally {
-        cases,
-        wrong: std::num::wrapping_add_u32(t.wrong, 1),
-    }
-}
+use tally::Tally;
+use tally::count;
 
 // The call is granted and answers this number.
 pub fn gives(t: Tally, a: Answer, n: u32) -> Tally {

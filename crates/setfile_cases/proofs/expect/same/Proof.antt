@@ -1,10 +1,10 @@
--- `tally::same` is safe and ends. The number of turns is the length of both rows. Assumes nothing.
+-- `expect::same` is safe and ends. The number of turns is the length of both rows. Assumes nothing.
 use Prim.Native.Nat.{_-_, _≤_}
 use mathlib.Core.Path.{_≡_}
 use borrow.Author.Needs.{needs}
 use lib.ListN.{length}
-use Rattle.setfile_cases.proofs.tally.same.Statement.{statement}
-use Rattle.setfile_cases.proofs.tally.same.Tie as tie
+use Rattle.setfile_cases.proofs.expect.same.Statement.{statement}
+use Rattle.setfile_cases.proofs.expect.same.Tie as tie
 
 abbrev Inv-loop : tie.InvT-loop
 Inv-loop a b i₀ i-end i = (i ≤ i-end) × (i-end ≡ length a) × (i-end ≡ length b)

@@ -1,10 +1,10 @@
--- `tally::cuts` is safe and ends. Assumes nothing.
+-- `expect::cuts` is safe and ends. Assumes nothing.
 use mathlib.Core.Path.{_≡_}
 use Prim.Native.Nat.{_-_, _≤_}
 use borrow.Author.Needs.{needs}
 use lib.ListN.{length}
-use Rattle.setfile_cases.proofs.tally.cuts.Statement.{statement}
-use Rattle.setfile_cases.proofs.tally.cuts.Tie as tie
+use Rattle.setfile_cases.proofs.expect.cuts.Statement.{statement}
+use Rattle.setfile_cases.proofs.expect.cuts.Tie as tie
 
 abbrev Inv-loop : tie.InvT-loop
 Inv-loop family bytes t₀ n₀ n-end t n = (n ≤ n-end) × (n-end ≡ length bytes)

@@ -1,0 +1,213 @@
+//! Runs the same calls through the library, the model and iprange, and compares every answer, every list and every word after every step.
+use crate::layout::decode;
+use crate::model::apply;
+use crate::oracle::Oracle;
+use crate::plan::{Dice, Plan};
+use crate::wire::*;
+use std::collections::{BTreeMap, BTreeSet};
+
+/// A pool to begin with, and the calls on it.
+#[derive(Clone)]
+pub struct Case {
+    pub words: usize,
+    pub calls: Vec<Call>,
+}
+
+/// The calls with what they have to answer; after each, all words and the list of each set are asked for.
+pub struct Script {
+    pub calls: Vec<Call>,
+    pub answers: Vec<Answer>,
+    /// for each call, which call of the case it is or follows
+    pub steps: Vec<usize>,
+}
+
+pub fn script(case: &Case) -> Result<Script, String> {
+    let mut words = vec![0u32; case.words];
+    let mut oracle: Option<Oracle> = None;
+    let mut s = Script { calls: vec![], answers: vec![], steps: vec![] };
+    for (i, c) in case.calls.iter().enumerate() {
+        let a = apply(&mut words, c);
+        let state = decode(&words);
+        match (c.code, &state) {
+            (LAYOUT, Some(st)) if a.no == 0 => oracle = Some(Oracle::new(st.family, st.sets.len())),
+            (WRITE_WORDS, _) => oracle = None,
+            _ => {}
+        }
+        if let (Some(o), Some(st)) = (&mut oracle, &state) {
+            let differs = if a.no == 0 { o.follow(c, &a) } else { None };
+            if let Some(what) = differs.or_else(|| o.differs(st)) {
+                return Err(format!("call {i} {c:?}: model {a:?}, {what}"));
+            }
+        }
+        s.push(i, c.clone(), a);
+        let all = Call { b: case.words as u32, ..Call::new(READ_WORDS) };
+        let a = apply(&mut words, &all);
+        s.push(i, all, a);
+        for (k, set) in state.iter().flat_map(|st| st.sets.iter().enumerate()) {
+            let l = Call { a: k as u32, b: 3 * set.list.len() as u32, c: i as u32, ..Call::new(LIST) };
+            let a = apply(&mut words, &l);
+            s.push(i, l, a);
+        }
+    }
+    Ok(s)
+}
+
+impl Script {
+    fn push(&mut self, i: usize, c: Call, a: Answer) {
+        self.calls.push(c);
+        self.answers.push(a);
+        self.steps.push(i);
+    }
+}
+
+/// How often each code was answered by each number.
+pub type Tally = BTreeMap<(u8, u8), u64>;
+
+/// The first difference, if there is one.
+pub fn compare(case: &Case, tally: &mut Tally) -> Option<String> {
+    let s = match script(case) {
+        Ok(s) => s,
+        Err(what) => return Some(what),
+    };
+    for (k, c) in s.calls.iter().enumerate().filter(|(k, _)| *k == 0 || s.steps[*k] != s.steps[*k - 1]) {
+        *tally.entry((c.code, s.answers[k].no)).or_default() += 1;
+    }
+    let mut bytes = vec![];
+    s.calls.iter().for_each(|c| c.put(&mut bytes));
+    let size: usize = s.calls.iter().map(|c| 28 + c.answer_tail()).sum();
+    let rows = s.calls.iter().filter(|c| c.code == LIST).map(|c| c.b as usize).max().unwrap_or(0);
+    let (mut pool, mut lent, mut out) = (vec![0u32; case.words], vec![7u64; rows], vec![0xa5u8; size + 9]);
+    let r = run(&mut pool, &mut lent, &bytes, &mut out);
+    if r != 8 * s.calls.len() as u64 {
+        return Some(format!("ended after {} of {} calls, why {}", r / 8, s.calls.len(), r % 8));
+    }
+    if out[size..] != [0xa5; 9] {
+        return Some("bytes past the last answer changed".to_string());
+    }
+    let mut at = 0;
+    for (k, c) in s.calls.iter().enumerate() {
+        let a = Answer::take(c, &out[at..]);
+        if a != s.answers[k] {
+            return Some(format!("call {} {:?}, seen by {:?}: answered {a:?}, expected {:?}", s.steps[k], case.calls[s.steps[k]], c, s.answers[k]));
+        }
+        at += 28 + c.answer_tail();
+    }
+    None
+}
+
+/// A shortest case that still differs, by leaving out one call after the other.
+pub fn shortest(mut case: Case) -> Case {
+    loop {
+        let n = case.calls.len();
+        for k in (0..n).rev() {
+            let mut less = case.clone();
+            less.calls.remove(k);
+            if !less.calls.is_empty() && compare(&less, &mut Tally::new()).is_some() {
+                case = less;
+            }
+        }
+        if case.calls.len() == n {
+            return case;
+        }
+    }
+}
+
+/// A sequence of calls on one pool.
+pub fn sequence(d: &mut Dice, steps: usize) -> Case {
+    let plan = Plan::new(d);
+    let mut words = vec![0u32; plan.words()];
+    let mut calls = vec![];
+    let mut push = |words: &mut Vec<u32>, c: Call| {
+        apply(words, &c);
+        calls.push(c);
+    };
+    if d.one_in(20) {
+        push(&mut words, Call::new(FREE)); // words that no layout has seen
+    }
+    push(&mut words, plan.layout());
+    for _ in 0..steps {
+        let state = decode(&words).expect("granted calls leave sound words");
+        let c = plan.call(d, &state);
+        push(&mut words, c);
+    }
+    Case { words: plan.words(), calls }
+}
+
+/// A pool with something in it, then one word after another set to another value, a few calls on what that gives, and the word set back.
+pub fn damage(d: &mut Dice) -> Case {
+    let mut case = sequence(d, 12);
+    let mut words = vec![0u32; case.words];
+    case.calls.iter().for_each(|c| {
+        apply(&mut words, c);
+    });
+    let Some(state) = decode(&words) else { return case };
+    let plan = Plan::new(d);
+    let used = case.words.min(64 + 8 * state.sets.len() + state.nodes as usize + 2);
+    for at in 0..used {
+        // most of the header's unread words are alike
+        if (8..60).contains(&at) && !d.one_in(16) {
+            continue;
+        }
+        let old = words[at];
+        let beside = words[(at + 1).min(case.words - 1)];
+        for x in [0, 1, beside, u32::MAX, d.roll() as u32, old.wrapping_add(1), old.wrapping_sub(1), old ^ 2] {
+            if !d.one_in(3) {
+                continue;
+            }
+            let write = |x: u32| Call { a: at as u32, tail: x.to_le_bytes().to_vec(), ..Call::new(WRITE_WORDS) };
+            case.calls.push(write(x));
+            for _ in 0..2 {
+                let mut c = plan.call(d, &state_of(&plan));
+                if c.code == LAYOUT {
+                    c = Call::new(FREE);
+                }
+                if !(ADD..=EXCLUDE).contains(&c.code) || x == old {
+                    c.net.family = state.family;
+                    case.calls.push(c);
+                } else {
+                    // a changing call on a copy: the words are written back whole
+                    case.calls.push(c);
+                    let tail = words.iter().flat_map(|y| y.to_le_bytes()).collect();
+                    case.calls.push(Call { tail, ..Call::new(WRITE_WORDS) });
+                    case.calls.push(write(x));
+                }
+            }
+            case.calls.push(write(old));
+        }
+    }
+    case
+}
+
+fn state_of(p: &Plan) -> crate::layout::State {
+    let mut w = vec![0u32; p.words()];
+    apply(&mut w, &p.layout());
+    decode(&w).unwrap()
+}
+
+pub fn main(calls: u64, seed: u64) -> bool {
+    let mut d = Dice(seed);
+    let mut tally = Tally::new();
+    let (mut done, mut wrong, mut round) = (0u64, 0u64, 0u64);
+    while done < calls {
+        round += 1;
+        let case = if round % 40 == 0 { damage(&mut d) } else { sequence(&mut d, 60) };
+        if let Some(what) = compare(&case, &mut tally) {
+            wrong += 1;
+            println!("round {round}: {what}");
+            let least = shortest(case.clone());
+            println!("shortest: {} words, {}", least.words, compare(&least, &mut Tally::new()).unwrap_or_default());
+            least.calls.iter().for_each(|c| println!("  {c:?}"));
+            if wrong >= 3 {
+                break;
+            }
+        }
+        done += case.calls.len() as u64;
+    }
+    let codes: BTreeSet<u8> = tally.keys().map(|k| k.0).collect();
+    for code in codes {
+        let numbers: Vec<String> = tally.range((code, 0)..=(code, u8::MAX)).map(|(k, n)| format!("{} x {n}", k.1)).collect();
+        println!("code {code}, answered by number: {}", numbers.join(", "));
+    }
+    println!("calls={done} mismatches={wrong}");
+    wrong == 0
+}

@@ -1,0 +1,108 @@
+//! Lists of networks as document 01 describes them, sentence by sentence. Written apart from the library, to be held against it.
+use std::collections::BTreeSet;
+
+/// Length and address; the address is left-aligned in the width of the family.
+pub type Member = (u8, u128);
+pub type List = BTreeSet<Member>;
+
+pub fn width(family: u8) -> u8 {
+    if family == 4 { 32 } else { 128 }
+}
+
+/// The bits of an address past the length, as a mask.
+pub fn past(w: u8, len: u8) -> u128 {
+    let k = (w - len) as u32;
+    if k >= 128 { u128::MAX } else { (1u128 << k) - 1 }
+}
+
+pub fn cleared(w: u8, len: u8, a: u128) -> u128 {
+    a & !past(w, len)
+}
+
+/// The network m contains the network n.
+pub fn holds(w: u8, m: Member, n: Member) -> bool {
+    m.0 <= n.0 && cleared(w, m.0, n.1) == m.1
+}
+
+pub fn supernet(w: u8, l: &List, n: Member) -> Option<Member> {
+    (0..=n.0).map(|k| (k, cleared(w, k, n.1))).find(|m| l.contains(m))
+}
+
+pub fn add(w: u8, l: &List, n: Member) -> List {
+    if supernet(w, l, n).is_some() {
+        return l.clone();
+    }
+    let mut r: List = l.iter().copied().filter(|&m| !holds(w, n, m)).collect();
+    r.insert(n);
+    r
+}
+
+/// The other half of the block that a network of length k around the address halves.
+fn sibling(w: u8, k: u8, a: u128) -> Member {
+    (k, cleared(w, k, a) ^ (1u128 << (w - k)))
+}
+
+pub fn remove(w: u8, l: &List, n: Member) -> List {
+    let mut r = List::new();
+    for &m in l {
+        if holds(w, n, m) {
+            continue;
+        }
+        if holds(w, m, n) {
+            r.extend((m.0 + 1..=n.0).map(|k| sibling(w, k, n.1)));
+        } else {
+            r.insert(m);
+        }
+    }
+    r
+}
+
+/// The same addresses, with no two halves of one block and no member inside another.
+pub fn simplify(w: u8, l: &List) -> List {
+    let mut r: List = l.iter().copied().filter(|&m| supernet(w, l, m) == Some(m)).collect();
+    for k in (1..=w).rev() {
+        let halves: Vec<Member> = r.range((k, 0)..=(k, u128::MAX)).copied().collect();
+        for m in halves {
+            let s = sibling(w, k, m.1);
+            if r.contains(&m) && r.contains(&s) {
+                r.remove(&m);
+                r.remove(&s);
+                r.insert((k - 1, cleared(w, k - 1, m.1)));
+            }
+        }
+    }
+    r
+}
+
+pub fn merge(w: u8, l: &List, m: &List) -> List {
+    simplify(w, &l.union(m).copied().collect())
+}
+
+pub fn intersect(w: u8, l: &List, m: &List) -> List {
+    let inside = |x: &List, y: &List| -> Vec<Member> { x.iter().copied().filter(|&p| supernet(w, y, p).is_some()).collect() };
+    simplify(w, &inside(l, m).into_iter().chain(inside(m, l)).collect())
+}
+
+pub fn exclude(w: u8, l: &List, m: &List) -> List {
+    m.iter().fold(l.clone(), |r, &n| remove(w, &r, n))
+}
+
+/// The different leading bit strings of the members.
+pub fn nodes(w: u8, l: &List) -> u64 {
+    let mut seen: BTreeSet<Member> = BTreeSet::new();
+    for &(len, a) in l {
+        for k in (0..=len).rev() {
+            if !seen.insert((k, cleared(w, k, a))) {
+                break;
+            }
+        }
+    }
+    seen.len() as u64
+}
+
+pub fn next(l: &List, from: Option<Member>) -> Option<Member> {
+    match from {
+        None => l.iter().next().copied(),
+        Some(m) => l.range((std::ops::Bound::Excluded(m), std::ops::Bound::Unbounded)).next().copied(),
+    }
+}

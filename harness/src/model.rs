@@ -1,0 +1,324 @@
+//! What each call has to answer and to leave, by document 01 and docs/CALLS.md: refusals, room, limits, shares, reports, text, damaged memory.
+use crate::layout::{decode, encode, header, held, room, State};
+use crate::lists::{self, cleared, width, List, Member};
+use crate::wire::*;
+
+pub fn is_family(f: u8) -> bool {
+    f == 4 || f == 6
+}
+
+pub fn address(n: &Net) -> u128 {
+    (n.hi as u128) << 64 | n.lo as u128
+}
+
+pub fn net(family: u8, m: Member) -> Net {
+    Net { family, hi: (m.1 >> 64) as u64, lo: m.1 as u64, len: m.0 }
+}
+
+/// 6 for another family than 4 and 6, 7 for a length or an address outside the range.
+fn net_no(n: &Net) -> u8 {
+    if !is_family(n.family) {
+        return 6;
+    }
+    let small = n.family == 6 || address(n) < 1 << 32;
+    if n.len > width(n.family) || !small { 7 } else { 0 }
+}
+
+/// The refusal of a network as an argument in a pool of the family.
+fn in_pool(family: u8, n: &Net) -> u8 {
+    if n.family != family { 6 } else { net_no(n) }
+}
+
+fn member(n: &Net) -> Member {
+    (n.len, cleared(width(n.family), n.len, address(n)))
+}
+
+fn answered(no: u8, a: impl FnOnce() -> Answer) -> Answer {
+    if no != 0 { Answer::refused(no) } else { a() }
+}
+
+fn given(n: Net) -> Answer {
+    Answer { net: n, ..Answer::default() }
+}
+
+fn number(x: u32) -> Answer {
+    Answer { x, ..Answer::default() }
+}
+
+fn told(b: bool) -> Answer {
+    Answer { flag: b as u8, ..Answer::default() }
+}
+
+fn found(family: u8, m: Option<Member>) -> Answer {
+    match m {
+        Some(m) => Answer { flag: 1, net: net(family, m), ..Answer::default() },
+        None => Answer::default(),
+    }
+}
+
+fn numbers(tail: &[u8], from: usize, count: usize) -> Vec<u32> {
+    (from..from + count).map(|k| (0..4).map(|j| (*tail.get(4 * k + j).unwrap_or(&0) as u32) << (8 * j)).sum()).collect()
+}
+
+fn layout(w: &mut [u32], c: &Call) -> Answer {
+    let (family, sets, nodes) = (c.net.family, c.a as u64, c.b as u64);
+    let shares = numbers(&c.tail, 0, c.net.len as usize);
+    let limits = numbers(&c.tail, c.net.len as usize, (c.c % 256) as usize);
+    let right = is_family(family)
+        && (1..=64).contains(&sets)
+        && (1..=4_194_304).contains(&nodes)
+        && 64 + 8 * sets + 8 * nodes <= w.len() as u64
+        && shares.len() as u64 == sets
+        && limits.len() as u64 == sets
+        && shares.iter().zip(&limits).all(|(s, l)| s <= l)
+        && shares.iter().map(|&s| s as u64).sum::<u64>() <= nodes;
+    if !right {
+        return Answer::refused(1);
+    }
+    w[..(64 + 8 * sets + 8 * nodes) as usize].fill(0);
+    w[..4].copy_from_slice(&[crate::layout::MARK, family as u32, c.a, c.b]);
+    for k in 0..sets as usize {
+        w[65 + 8 * k] = shares[k];
+        w[66 + 8 * k] = limits[k];
+    }
+    number(0)
+}
+
+/// A changing call on set k, where the arguments get the number `no` and the result is the list.
+fn change(w: &mut [u32], mut s: State, k: u32, no: u8, list: impl FnOnce(&State) -> List) -> Answer {
+    let k = k as usize;
+    if k >= s.sets.len() {
+        return Answer::refused(3);
+    }
+    if no != 0 {
+        return Answer::refused(no);
+    }
+    let l = list(&s);
+    let n = lists::nodes(width(s.family), &l);
+    if n > s.sets[k].limit as u64 {
+        return Answer::refused(9);
+    }
+    if n > room(&s, k) {
+        return Answer::refused(10);
+    }
+    s.sets[k].list = l;
+    encode(w, &s);
+    number(n as u32)
+}
+
+fn combine(w: &mut [u32], s: State, c: &Call, f: fn(u8, &List, &List) -> List) -> Answer {
+    let sets = s.sets.len() as u32;
+    let no = if c.b >= sets || c.c >= sets {
+        3
+    } else if c.a < sets && !s.sets[c.a as usize].list.is_empty() {
+        8
+    } else {
+        0
+    };
+    change(w, s, c.a, no, |s| f(width(s.family), &s.sets[c.b as usize].list, &s.sets[c.c as usize].list))
+}
+
+/// The number of the root of a set, once the header is right and the set is there.
+fn root(w: &[u32], set: u32) -> Result<(u8, usize, u64, u64), u8> {
+    let (family, sets, nodes) = header(w).ok_or(2)?;
+    if set as usize >= sets {
+        return Err(3);
+    }
+    Ok((family, 64 + 8 * sets, nodes as u64, w[64 + 8 * set as usize] as u64))
+}
+
+/// A lookup reads its own path: the length of the member met on the way down, if there is one.
+fn path(w: &[u32], set: u32, n: &Net) -> Result<Option<u8>, u8> {
+    let (family, base, nodes, root) = root(w, set)?;
+    match in_pool(family, n) {
+        0 => {}
+        no => return Err(no),
+    }
+    if root > nodes {
+        return Err(2);
+    }
+    if root == 0 {
+        return Ok(None);
+    }
+    let (mut i, wide, a) = (root, width(family), address(n));
+    for depth in 0.. {
+        let x = w[base + (i - 1) as usize] as u64;
+        if x == 0 {
+            return Ok(Some(depth));
+        }
+        if i + x % 2 > nodes || i + x / 2 > nodes {
+            return Err(2);
+        }
+        if depth == n.len {
+            return Ok(None);
+        }
+        let step = if a >> (wide - 1 - depth) & 1 == 1 { x / 2 } else { x % 2 };
+        if step == 0 {
+            return Ok(None);
+        }
+        i += step;
+    }
+    unreachable!()
+}
+
+fn is_empty(w: &[u32], set: u32) -> Answer {
+    match root(w, set) {
+        Err(no) => Answer::refused(no),
+        Ok((_, _, nodes, root)) => answered(if root > nodes { 2 } else { 0 }, || told(root == 0)),
+    }
+}
+
+fn list(s: &State, c: &Call) -> Answer {
+    let mut rows = vec![c.c as u64; c.b as usize];
+    let a = if c.a as usize >= s.sets.len() {
+        Answer::refused(3)
+    } else {
+        let l = &s.sets[c.a as usize].list;
+        if 3 * l.len() > rows.len() {
+            Answer::refused(11)
+        } else {
+            for (k, m) in l.iter().enumerate() {
+                rows[3 * k..3 * k + 3].copy_from_slice(&[(m.1 >> 64) as u64, m.1 as u64, m.0 as u64]);
+            }
+            number(l.len() as u32)
+        }
+    };
+    Answer { tail: rows.iter().flat_map(|r| r.to_le_bytes()).collect(), ..a }
+}
+
+fn next(s: &State, c: &Call) -> Answer {
+    if c.a as usize >= s.sets.len() {
+        return Answer::refused(3);
+    }
+    let no = if c.b == 0 { 0 } else { in_pool(s.family, &c.net) };
+    answered(no, || found(s.family, lists::next(&s.sets[c.a as usize].list, if c.b == 0 { None } else { Some(member(&c.net)) })))
+}
+
+fn decimal(s: &str, digits: usize, most: u32) -> Option<u32> {
+    if s.is_empty() || s.len() > digits || !s.bytes().all(|b| b.is_ascii_digit()) {
+        return None;
+    }
+    s.parse().ok().filter(|&n| n <= most)
+}
+
+fn read_line(line: &[u8]) -> Option<Net> {
+    let (a, n) = std::str::from_utf8(line).ok()?.split_once('/')?;
+    let parts: Vec<u32> = a.split('.').map(|p| decimal(p, 3, 255)).collect::<Option<_>>()?;
+    if parts.len() != 4 {
+        return None;
+    }
+    let lo = parts.iter().fold(0, |x, &p| x * 256 + p as u64);
+    Some(Net { family: 4, hi: 0, lo, len: decimal(n, 2, 32)? as u8 })
+}
+
+fn write_line(c: &Call) -> Answer {
+    let mut out = vec![c.c as u8; c.b as usize];
+    let n = &c.net;
+    let text = format!("{}.{}.{}.{}/{}", n.lo >> 24 & 255, n.lo >> 16 & 255, n.lo >> 8 & 255, n.lo & 255, n.len);
+    let no = if n.family != 4 {
+        6
+    } else if net_no(n) != 0 {
+        7
+    } else if text.len() > out.len() {
+        11
+    } else {
+        0
+    };
+    let a = answered(no, || {
+        out[..text.len()].copy_from_slice(text.as_bytes());
+        number(text.len() as u32)
+    });
+    Answer { tail: out, ..a }
+}
+
+/// The calls without a pool.
+fn alone(c: &Call) -> Answer {
+    let n = &c.net;
+    let no = net_no(n);
+    match c.code {
+        NEW => answered(no, || given(n.clone())),
+        TO_NETWORK => answered(no, || given(net(n.family, member(n)))),
+        WITH_NEW_PREFIX => {
+            let m = Net { len: c.a as u8, ..n.clone() };
+            answered(net_no(&m), || given(net(m.family, member(&m))))
+        }
+        PREFIX_BITS => answered(no, || {
+            let a = address(n) << (128 - width(n.family));
+            given(Net { family: 0, ..net(0, (n.len, a)) })
+        }),
+        NEXT_BIT if n.len == 0 => Answer::default(),
+        NEXT_BIT => {
+            let a = address(n);
+            Answer { flag: 1, x: (a >> 127) as u32, net: net(0, (n.len - 1, a << 1)), ..Answer::default() }
+        }
+        OCTETS => given(net(4, (32, u32::from_be_bytes(c.a.to_le_bytes()) as u128))),
+        BYTES | GROUPS => {
+            let b: Vec<u8> = n.hi.to_le_bytes().into_iter().chain(n.lo.to_le_bytes()).collect();
+            let a = if c.code == BYTES {
+                b.iter().fold(0u128, |x, &y| x << 8 | y as u128)
+            } else {
+                b.chunks(2).fold(0u128, |x, y| x << 16 | u16::from_le_bytes([y[0], y[1]]) as u128)
+            };
+            given(net(6, (128, a)))
+        }
+        _ => {
+            let m = Net { len: width(n.family), ..n.clone() };
+            answered(net_no(&m), || given(m))
+        }
+    }
+}
+
+/// What the call answers, and the words afterwards.
+pub fn apply(w: &mut [u32], c: &Call) -> Answer {
+    match c.code {
+        LAYOUT => return layout(w, c),
+        SUPERNET | CONTAINS => {
+            return match path(w, c.a, &c.net) {
+                Err(no) => Answer::refused(no),
+                Ok(len) if c.code == CONTAINS => told(len.is_some()),
+                Ok(len) => found(c.net.family, len.map(|k| (k, cleared(width(c.net.family), k, address(&c.net))))),
+            }
+        }
+        IS_EMPTY => return is_empty(w, c.a),
+        READ_LINE => return read_line(&c.tail).map_or(Answer::refused(4), given),
+        WRITE_LINE => return write_line(c),
+        NEW..=WORDS => return alone(c),
+        WRITE_WORDS => {
+            for (k, x) in c.tail.chunks_exact(4).enumerate() {
+                if let Some(y) = w.get_mut(c.a as usize + k) {
+                    *y = u32::from_le_bytes(x.try_into().unwrap());
+                }
+            }
+            return Answer::default();
+        }
+        READ_WORDS => {
+            let words = (0..c.b as usize).flat_map(|k| w.get(c.a as usize + k).unwrap_or(&0).to_le_bytes());
+            return Answer { tail: words.collect(), ..Answer::default() };
+        }
+        _ => {}
+    }
+    let Some(s) = decode(w) else {
+        let tail = if c.code == LIST { vec![c.c as u64; c.b as usize].iter().flat_map(|r| r.to_le_bytes()).collect() } else { vec![] };
+        return Answer { tail, ..Answer::refused(2) };
+    };
+    let (f, k) = (s.family, c.a as usize);
+    let known = k < s.sets.len();
+    match c.code {
+        FREE => number(s.nodes - (0..s.sets.len()).map(|j| held(&s, j)).sum::<u64>() as u32),
+        HELD => answered(if known { 0 } else { 3 }, || Answer { y: s.sets[k].list.len() as u32, ..number(held(&s, k) as u32) }),
+        PLAN => answered(if known { 0 } else { 3 }, || Answer { y: s.sets[k].limit, ..number(s.sets[k].share) }),
+        ADD => change(w, s, c.a, in_pool(f, &c.net), |s| lists::add(width(f), &s.sets[k].list, member(&c.net))),
+        REMOVE => change(w, s, c.a, in_pool(f, &c.net), |s| lists::remove(width(f), &s.sets[k].list, member(&c.net))),
+        SIMPLIFY => change(w, s, c.a, 0, |s| lists::simplify(width(f), &s.sets[k].list)),
+        MERGE => combine(w, s, c, lists::merge),
+        INTERSECT => combine(w, s, c, lists::intersect),
+        EXCLUDE => combine(w, s, c, lists::exclude),
+        EQUAL => {
+            let j = c.b as usize;
+            answered(if known && j < s.sets.len() { 0 } else { 3 }, || told(s.sets[k].list == s.sets[j].list))
+        }
+        LIST => list(&s, c),
+        NEXT => next(&s, c),
+        code => panic!("no call has the code {code}"),
+    }
+}

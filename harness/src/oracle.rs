@@ -1,0 +1,105 @@
+//! The Rust crate iprange beside the model: one IpRange for each set, changed by each granted call.
+use crate::layout::State;
+use crate::lists::{List, Member};
+use crate::model::address;
+use crate::wire::*;
+use ipnet::{Ipv4Net, Ipv6Net};
+use iprange::{IpNet, IpRange};
+
+/// A network of one family, to and from length and address.
+pub trait Numbers: IpNet {
+    fn of(m: Member) -> Self;
+    fn member(&self) -> Member;
+}
+
+impl Numbers for Ipv4Net {
+    fn of(m: Member) -> Self {
+        Ipv4Net::new((m.1 as u32).into(), m.0).unwrap()
+    }
+    fn member(&self) -> Member {
+        (self.prefix_len(), u32::from(self.addr()) as u128)
+    }
+}
+
+impl Numbers for Ipv6Net {
+    fn of(m: Member) -> Self {
+        Ipv6Net::new(m.1.into(), m.0).unwrap()
+    }
+    fn member(&self) -> Member {
+        (self.prefix_len(), u128::from(self.addr()))
+    }
+}
+
+pub struct Ranges<N: Numbers>(Vec<IpRange<N>>);
+
+pub enum Oracle {
+    Four(Ranges<Ipv4Net>),
+    Six(Ranges<Ipv6Net>),
+}
+
+impl Oracle {
+    pub fn new(family: u8, sets: usize) -> Oracle {
+        if family == 4 { Oracle::Four(Ranges::new(sets)) } else { Oracle::Six(Ranges::new(sets)) }
+    }
+
+    /// Follows a granted call; what it says beside the answer, where the two differ.
+    pub fn follow(&mut self, c: &Call, a: &Answer) -> Option<String> {
+        match self {
+            Oracle::Four(r) => r.follow(c, a),
+            Oracle::Six(r) => r.follow(c, a),
+        }
+    }
+
+    /// Where a list of the state is another than that of the IpRange.
+    pub fn differs(&self, s: &State) -> Option<String> {
+        match self {
+            Oracle::Four(r) => r.differs(s),
+            Oracle::Six(r) => r.differs(s),
+        }
+    }
+}
+
+impl<N: Numbers + Clone> Ranges<N> {
+    fn new(sets: usize) -> Self {
+        Ranges((0..sets).map(|_| IpRange::new()).collect())
+    }
+
+    fn follow(&mut self, c: &Call, a: &Answer) -> Option<String> {
+        let (i, j, k) = (c.a as usize, c.b as usize, c.c as usize);
+        let n = || N::of((c.net.len, address(&c.net)));
+        let said = |b: bool| (b as u8 != a.flag).then(|| format!("iprange says {b}"));
+        match c.code {
+            ADD => {
+                self.0[i].add(n());
+            }
+            REMOVE => {
+                self.0[i].remove(n());
+            }
+            SIMPLIFY => self.0[i].simplify(),
+            MERGE => self.0[i] = self.0[j].merge(&self.0[k]),
+            INTERSECT => self.0[i] = self.0[j].intersect(&self.0[k]),
+            EXCLUDE => self.0[i] = self.0[j].exclude(&self.0[k]),
+            CONTAINS => return said(self.0[i].contains(&n())),
+            IS_EMPTY => return said(self.0[i].is_empty()),
+            EQUAL => return said(self.0[i] == self.0[j]),
+            SUPERNET => {
+                let m = self.0[i].supernet(&n()).map(|m| m.member());
+                let b = (a.flag == 1).then(|| (a.net.len, address(&a.net)));
+                return (m != b).then(|| format!("iprange says {m:?}"));
+            }
+            _ => {}
+        }
+        None
+    }
+
+    fn differs(&self, s: &State) -> Option<String> {
+        for (k, set) in s.sets.iter().enumerate() {
+            let order: Vec<Member> = self.0[k].iter().map(|m| m.member()).collect();
+            let list: List = order.iter().copied().collect();
+            if list != set.list || !order.iter().eq(set.list.iter()) {
+                return Some(format!("set {k}: iprange lists {order:?}"));
+            }
+        }
+        None
+    }
+}

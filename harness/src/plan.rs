@@ -1,0 +1,220 @@
+//! Seeded sequences of calls: several sets, both families, dense small universes and wide ones, networks around the ends of the words, and arguments that are wrong.
+use crate::layout::State;
+use crate::lists::{cleared, width, Member};
+use crate::model::net;
+use crate::wire::*;
+
+/// splitmix64
+pub struct Dice(pub u64);
+
+impl Dice {
+    pub fn roll(&mut self) -> u64 {
+        self.0 = self.0.wrapping_add(0x9e37_79b9_7f4a_7c15);
+        let mut z = self.0;
+        z = (z ^ z >> 30).wrapping_mul(0xbf58_476d_1ce4_e5b9);
+        z = (z ^ z >> 27).wrapping_mul(0x94d0_49bb_1331_11eb);
+        z ^ z >> 31
+    }
+    pub fn below(&mut self, n: u64) -> u64 {
+        self.roll() % n
+    }
+    pub fn one_in(&mut self, n: u64) -> bool {
+        self.below(n) == 0
+    }
+    pub fn pick<T: Copy>(&mut self, xs: &[T]) -> T {
+        xs[self.below(xs.len() as u64) as usize]
+    }
+}
+
+#[derive(Clone, Copy)]
+pub enum Universe {
+    Dense(u8),
+    Wide,
+    Edges,
+}
+
+const EDGES: [u8; 11] = [0, 1, 2, 31, 32, 33, 63, 64, 65, 127, 128];
+
+pub struct Plan {
+    pub family: u8,
+    pub universe: Universe,
+    pub sets: u32,
+    pub nodes: u32,
+    pub shares: Vec<u32>,
+    pub limits: Vec<u32>,
+}
+
+impl Plan {
+    pub fn new(d: &mut Dice) -> Plan {
+        let family = d.pick(&[4, 6]);
+        let universe = match d.below(3) {
+            0 => Universe::Dense(2 + d.below(5) as u8),
+            1 => Universe::Wide,
+            _ => Universe::Edges,
+        };
+        let sets = 1 + d.below(5) as u32;
+        let nodes = match universe {
+            Universe::Dense(k) => 2 + d.below(4 << k) as u32,
+            _ => 8 + d.below(6 * width(family) as u64) as u32,
+        };
+        let mut left = nodes;
+        let (mut shares, mut limits) = (vec![], vec![]);
+        for _ in 0..sets {
+            let share = d.below(left as u64 / 2 + 1) as u32;
+            left -= share;
+            shares.push(share);
+            limits.push(if d.one_in(8) { u32::MAX } else { share + d.below(nodes as u64 + 2) as u32 });
+        }
+        Plan { family, universe, sets, nodes, shares, limits }
+    }
+
+    pub fn words(&self) -> usize {
+        (64 + 8 * self.sets + 8 * self.nodes) as usize
+    }
+
+    pub fn layout(&self) -> Call {
+        let tail = self.shares.iter().chain(&self.limits).flat_map(|n| n.to_le_bytes()).collect();
+        Call { a: self.sets, b: self.nodes, c: self.sets, net: Net { family: self.family, len: self.sets as u8, ..Net::default() }, tail, ..Call::new(LAYOUT) }
+    }
+
+    fn member(&self, d: &mut Dice) -> Member {
+        let w = width(self.family);
+        let all = if w == 32 { u32::MAX as u128 } else { u128::MAX };
+        let any = ((d.roll() as u128) << 64 | d.roll() as u128) & all;
+        let (len, a) = match self.universe {
+            Universe::Dense(k) => (d.below(k as u64 + 1) as u8, (d.below(1 << k) as u128) << (w - k)),
+            Universe::Wide => (d.below(w as u64 + 1) as u8, any),
+            Universe::Edges => {
+                let len = d.pick(&EDGES).min(w);
+                let flipped = if len == 0 { 0 } else { 1u128 << (w - 1 - d.below(len as u64) as u8) };
+                (len, d.pick(&[0, all, any, 1u128 << (w - 1), flipped, all ^ flipped]))
+            }
+        };
+        (len, cleared(w, len, a))
+    }
+
+    /// A network, often one of those listed or beside one, sometimes with bits past its length, sometimes none.
+    fn net(&self, d: &mut Dice, s: &State) -> Net {
+        let w = width(self.family);
+        let mut m = self.member(d);
+        let list = &s.sets[d.below(s.sets.len() as u64) as usize].list;
+        if !list.is_empty() && d.one_in(2) {
+            m = *list.iter().nth(d.below(list.len() as u64) as usize).unwrap();
+            match d.below(4) {
+                0 if m.0 > 0 => m.1 ^= 1u128 << (w - m.0),
+                1 if m.0 > 0 => m = (m.0 - 1, cleared(w, m.0 - 1, m.1)),
+                2 if m.0 < w => m.0 += 1,
+                _ => {}
+            }
+        }
+        let mut n = net(self.family, m);
+        if d.one_in(4) {
+            n.lo |= d.below(1 << 32);
+        }
+        match d.below(60) {
+            0 => n.family = d.pick(&[0, 4, 5, 6, 255]),
+            1 => n.len = d.pick(&[33, 64, 128, 129, 255]),
+            2 => n.hi |= 1 << d.below(64),
+            3 => n.lo |= 1 << d.below(64),
+            _ => {}
+        }
+        n
+    }
+
+    fn set(&self, d: &mut Dice) -> u32 {
+        if d.one_in(50) { d.pick(&[self.sets, 64, u32::MAX]) } else { d.below(self.sets as u64) as u32 }
+    }
+
+    fn line(&self, d: &mut Dice) -> Vec<u8> {
+        let n = |d: &mut Dice| d.pick(&[0u64, 1, 9, 10, 99, 100, 199, 255, 256, 300, 1000]);
+        let mut s = format!("{}.{}.{}.{}/{}", n(d), n(d), n(d), n(d), d.below(40)).into_bytes();
+        if d.one_in(3) {
+            s = format!("{}.{}.{}.{}/{}", d.below(256), d.below(256), d.below(256), d.below(256), d.below(33)).into_bytes();
+        }
+        if d.one_in(6) {
+            let at = d.below(s.len() as u64) as usize;
+            s[at] = d.pick(b"0/. \r\n-+9x\xff");
+        }
+        if d.one_in(10) {
+            s.insert(d.below(s.len() as u64) as usize, d.pick(b"0./1"));
+        }
+        if d.one_in(10) {
+            s.truncate(d.below(s.len() as u64 + 1) as usize);
+        }
+        s
+    }
+
+    /// One call, in the state that the words have.
+    pub fn call(&self, d: &mut Dice, s: &State) -> Call {
+        let (a, b, c) = (self.set(d), self.set(d), self.set(d));
+        let net = self.net(d, s);
+        let code = match d.below(100) {
+            0..=29 => ADD,
+            30..=41 => REMOVE,
+            42..=46 => SIMPLIFY,
+            47..=51 => MERGE,
+            52..=56 => INTERSECT,
+            57..=61 => EXCLUDE,
+            62..=67 => SUPERNET,
+            68..=72 => CONTAINS,
+            73..=74 => IS_EMPTY,
+            75..=77 => EQUAL,
+            78..=79 => FREE,
+            80..=81 => HELD,
+            82 => PLAN,
+            83..=86 => NEXT,
+            87..=89 => LIST,
+            90..=92 => READ_LINE,
+            93..=94 => WRITE_LINE,
+            95..=98 => NEW + d.below(9) as u8,
+            _ => LAYOUT,
+        };
+        let mut call = Call { a, b, c, net, ..Call::new(code) };
+        match code {
+            MERGE..=EXCLUDE => {
+                let empty: Vec<u32> = (0..self.sets).filter(|&k| s.sets[k as usize].list.is_empty()).collect();
+                if !empty.is_empty() && !d.one_in(6) {
+                    call.a = d.pick(&empty);
+                } else if !d.one_in(6) {
+                    return Call { a, net: Net { family: self.family, ..Net::default() }, ..Call::new(REMOVE) };
+                }
+            }
+            LIST => {
+                call.b = d.below(40) as u32;
+                call.c = d.roll() as u32;
+            }
+            NEXT => call.b = d.below(4) as u32,
+            READ_LINE => call.tail = self.line(d),
+            WRITE_LINE => {
+                call.b = d.below(24) as u32;
+                call.c = d.below(256) as u32;
+                if d.one_in(2) {
+                    call.net = Net { family: 4, hi: 0, lo: d.below(1 << 32), len: d.below(34) as u8 };
+                }
+            }
+            NEXT_BIT | WITH_NEW_PREFIX => {
+                call.a = d.below(130) as u32;
+                call.net.hi = d.roll();
+            }
+            OCTETS | BYTES | GROUPS | WORDS => {
+                call.a = d.roll() as u32;
+                call.net.hi = if d.one_in(2) { d.roll() } else { 0 };
+                call.net.lo = d.roll() >> d.pick(&[0, 32]);
+            }
+            LAYOUT => {
+                // most are refused; a granted one begins anew
+                call = self.layout();
+                match d.below(6) {
+                    0 => call.a = d.pick(&[0, 65, self.sets + 1]),
+                    1 => call.b = d.pick(&[0, self.nodes + 1, 4_194_305, u32::MAX]),
+                    2 => call.net.family = d.pick(&[0, 5, 255]),
+                    3 => call.net.len ^= 1,
+                    4 => call.c = d.pick(&[0, self.sets + 1]),
+                    _ => call.tail[0] = 255,
+                }
+            }
+            _ => {}
+        }
+        call
+    }
+}
