@@ -6,9 +6,12 @@ use mathlib.Core.Path.{_≡_, refl, sym, ap, _∙_}
 use Prim.Native.Nat.{ℕ, zero, suc, _+_, _%_, _≤_}
 use native.Mathlib.Numerals.{add-one}
 use native.Mathlib.Omega.{arith}
-use lib.Dec.{eqb}
-use lib.ListN.{length, getD, take, drop, replicate, length-replicate}
+use lib.Dec.{eqb, leb}
+use lib.ListN.{length, getD, take, drop, replicate, length-replicate, length-append, length-drop}
 use lib.Seq.{drop-cons}
+use borrow.Author.Tests.{eqb-true, leb-true}
+use Rattle.nets.specs.Networks.{inRange}
+use Rattle.nets.specs.declared.Net.{Net}
 use Rattle.nodes.specs.Words.{put}
 use Rattle.nodes.proofs.Put.{length-put}
 use Rattle.pool.specs.Decode.{Decoded, damaged, sound, decode}
@@ -17,7 +20,8 @@ use Rattle.pool.specs.declared.Answer.{Answer}
 use Rattle.pool.specs.Changes.{listAt}
 use Rattle.listing.specs.Rows as listing
 use Rattle.listing.specs.Calls.{listNo, rowsAfter, Listed}
-use Rattle.text.specs.Answers.{writtenAs, Wrote}
+use Rattle.text.specs.Ipv4.{lineOf}
+use Rattle.text.specs.Answers.{writtenAs, lineRefusal, over, Wrote}
 use Rattle.text.specs.declared.Written.{Written}
 use Rattle.codes.specs.Bytes.{u64Bytes}
 use Rattle.codes.specs.Tails.{wordsFrom, rowBytes}
@@ -100,3 +104,28 @@ lining-is c o o₁ at k {new} h i e m w g =
     let s : take at o₁ ++ (new ++ drop k (drop at o₁)) ≡ put o₁ at new = splice o₁ at k new l (omega arith) in
     let z : put o₁ at new ≡ put o at new = rw e (put-over o at (replicate (c .b) (c .c % 256)) new (n ∙ (sym i ∙ sym l))) in
     record { reply = g ∙ ap oneReply (w .answer ∙ rw (t, n)); tail = s ∙ (z ∙ ap (put o at) (w .bytes ∙ rw (t, n))) }
+
+-- a tail has as many numbers or bytes as the call asks for
+pub length-rowsOf : (w : List ℕ) (c : Call) → length (rowsOf w c) ≡ c .b
+unfolding rowsOf
+length-rowsOf w c = length-rowsAfter (replicate (c .b) (c .c)) (decode w) (c .a) ∙ length-replicate (c .b) (c .c)
+
+fits-of : (p q r : Bool) → _≡_ {A = ℕ} (cond p (cond q (cond r 0 11) 7) 6) 0 → r ≡ true
+fits-of false q r e = absurd (omega arith)
+fits-of true false r e = absurd (omega arith)
+fits-of true true false e = absurd (omega arith)
+fits-of true true true e = refl
+
+line-fits : (n : Net) (room : ℕ) → lineRefusal n room ≡ 0 → length (lineOf n) ≤ room
+unfolding lineRefusal
+line-fits n room e = leb-true _ _ (fits-of (eqb (n .family) 4) (inRange n) (leb (length (lineOf n)) room) e)
+
+length-line : (t : Bool) (s old : List ℕ) → (t ≡ true → length s ≤ length old) → length (cond t (over s old) old) ≡ length old
+length-line false s old h = refl
+length-line true s old h = let i = h refl in simp (length-append, length-drop) (omega arith)
+
+pub length-lineBytes : (c : Call) → length (lineBytes c) ≡ c .b
+unfolding lineBytes
+length-lineBytes c =
+    let n : length (replicate (c .b) (c .c % 256)) ≡ c .b = length-replicate (c .b) (c .c % 256) in
+    length-line (eqb (lineRefusal (c .net) (c .b)) 0) (lineOf (c .net)) (replicate (c .b) (c .c % 256)) (λ e. rw n (line-fits (c .net) (c .b) (eqb-true _ _ e))) ∙ n

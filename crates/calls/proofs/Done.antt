@@ -47,19 +47,19 @@ module _ (w s : List ℕ) (c : Call) where
 
 -- what each kind of call with a tail does, and any other
 module _ (w v s : List ℕ) (c : Call) where
-  effect-list : c .code ≡ 15 → effectOf w v s c ≡ record { reply = listReply w c; tail = rowBytes u64Bytes (rowsOf w c); words = w; rows = put v 0 (rowsOf w c) }
+  pub effect-list : c .code ≡ 15 → effectOf w v s c ≡ record { reply = listReply w c; tail = rowBytes u64Bytes (rowsOf w c); words = w; rows = put v 0 (rowsOf w c) }
   unfolding effectOf
   effect-list e = rw (eq-eqb _ _ e)
 
-  effect-line : c .code ≡ 18 → effectOf w v s c ≡ record { reply = lineReply c; tail = lineBytes c; words = w; rows = v }
+  pub effect-line : c .code ≡ 18 → effectOf w v s c ≡ record { reply = lineReply c; tail = lineBytes c; words = w; rows = v }
   unfolding effectOf
   effect-line e = rw (ne-eqb (c .code) 15 (λ f. omega arith), eq-eqb _ _ e)
 
-  effect-words : c .code ≡ 49 → effectOf w v s c ≡ record { reply = noReply 0; tail = rowBytes u32Bytes (wordsFrom w (c .a) (c .b)); words = w; rows = v }
+  pub effect-words : c .code ≡ 49 → effectOf w v s c ≡ record { reply = noReply 0; tail = rowBytes u32Bytes (wordsFrom w (c .a) (c .b)); words = w; rows = v }
   unfolding effectOf
   effect-words e = rw (ne-eqb (c .code) 15 (λ f. omega arith), ne-eqb (c .code) 18 (λ f. omega arith), eq-eqb _ _ e)
 
-  effect-plain : (c .code ≡ 15 → ⊥) → (c .code ≡ 18 → ⊥) → (c .code ≡ 49 → ⊥)
+  pub effect-plain : (c .code ≡ 15 → ⊥) → (c .code ≡ 18 → ⊥) → (c .code ≡ 49 → ⊥)
       → effectOf w v s c ≡ record { reply = plainOf w s c .0; tail = []; words = plainOf w s c .1; rows = v }
   unfolding effectOf
   effect-plain f g h = rw (ne-eqb _ _ f, ne-eqb _ _ g, ne-eqb _ _ h)
