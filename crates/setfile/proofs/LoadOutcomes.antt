@@ -9,7 +9,8 @@ use lib.Dec.{eqb}
 use lib.ListN.{length, take}
 use borrow.Author.Tests.{lt-ltb, le-leb, lt-leb, eqb-true}
 use Rattle.nets.specs.Bits.{Bits}
-use Rattle.nets.specs.Lists.{nodesL}
+use Rattle.nets.specs.Lists.{isList, nodesL}
+use Rattle.nets.specs.Networks.{width}
 use Rattle.nets.specs.Refusals.{number}
 use Rattle.nets.specs.declared.Refusal.{Refusal}
 use Rattle.nets.specs.declared.Refusal.the-variants.{Damaged, NoSet, BadFile, WrongFamily, Occupied, OverLimit, NoRoom}
