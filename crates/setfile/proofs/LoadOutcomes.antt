@@ -108,8 +108,10 @@ module _ {w v : List ℕ} {k : ℕ} {r : Answer} (d : List ℕ) (h : Loaded w k 
                 pub load-list : (r ≡ answer.Granted (nodesL l)) × (decode v ≡ sound (withList S k l))
                 unfolding changeRule
                 load-list =
-                    let x = load-leaves d e h in
-                    (answerAs-one r (answer.Granted (nodesL l)) (h .answer ∙ rw (e, granted, i)), x .holds ∙ ap sound (x .is ∙ rw (granted, i)))
+                    let list = fileList (readFile d) in (
+                      answerAs-one r (answer.Granted (nodesL l)) (h .answer ∙ rw (e, granted, i)),
+                      load-leaves d e h .holds ∙ ap (λ m. sound (cond (eqb m 0) (withList S k list) S)) granted ∙ ap (λ x. sound (withList S k (fileList x))) i,
+                    )
 
 -- What save wrote of a set loads as the list of that set, into any empty set that may have it.
 pub save-load : {w x u : List ℕ} {k : ℕ} {q : Answer} → Saved w k x q u → (S : State) → decode w ≡ sound S → k < length (S .sets) → length (fileAt S k) ≤ length x
