@@ -211,3 +211,64 @@ pub fn main(calls: u64, seed: u64) -> bool {
     println!("calls={done} mismatches={wrong}");
     wrong == 0
 }
+
+/// The size of a frame of the sample, and where its calls begin.
+const FRAME: usize = 65_536;
+const HEAD: usize = 136;
+
+/// The words of the pool, and the rows, that the program `replay` has.
+const WORDS: usize = 8_192;
+const ROWS: u32 = 4_096;
+
+/// One frame: 128 bytes that say how it was made, how many bytes of calls and of answers there are, the calls, the answers, zeros. As many sequences as fit, each with its words and lists at its end.
+fn frame(d: &mut Dice, seed: u64) -> Result<Vec<u8>, String> {
+    let (mut calls, mut answers) = (vec![], vec![]);
+    loop {
+        let mut case = sequence(d, 40);
+        // each begins with a layout, as the pool of a frame goes on from one to the next
+        if case.words > WORDS || case.calls[0].code != LAYOUT {
+            continue;
+        }
+        case.words = WORDS;
+        let s = script(&case)?;
+        let (mut c, mut a) = (vec![], vec![]);
+        for (k, call) in s.calls.iter().enumerate() {
+            let first = k == 0 || s.steps[k] != s.steps[k - 1];
+            let last = s.steps[k] == case.calls.len() - 1 && call.code == LIST && call.b <= ROWS;
+            if first || last {
+                call.put(&mut c);
+                s.answers[k].put(&mut a);
+            }
+        }
+        if HEAD + calls.len() + answers.len() + c.len() + a.len() > FRAME {
+            break;
+        }
+        calls.extend(c);
+        answers.extend(a);
+    }
+    let words = format!("Answers of iprange 0.6.7 and of the model in harness/src; made by: harness/run sample --seed {seed}");
+    let mut f = words.into_bytes();
+    f.resize(127, b' ');
+    f.push(b'\n');
+    f.extend((calls.len() as u32).to_le_bytes());
+    f.extend((answers.len() as u32).to_le_bytes());
+    f.extend(calls);
+    f.extend(answers);
+    f.resize(FRAME, 0);
+    Ok(f)
+}
+
+/// Writes the sample that the program `replay` compares with: so many frames, on standard output.
+pub fn sample(frames: u64, seed: u64) -> bool {
+    let mut d = Dice(seed);
+    for _ in 0..frames {
+        match frame(&mut d, seed) {
+            Ok(f) => std::io::Write::write_all(&mut std::io::stdout(), &f).expect("standard output"),
+            Err(what) => {
+                eprintln!("{what}");
+                return false;
+            }
+        }
+    }
+    true
+}

@@ -17,9 +17,10 @@ fn main() {
     let args: Vec<String> = std::env::args().skip(1).collect();
     let right = match args.first().map(String::as_str) {
         Some("differential") => differential::main(option(&args, "--calls", 100_000), option(&args, "--seed", 1)),
+        Some("sample") => differential::sample(option(&args, "--frames", 6), option(&args, "--seed", 1)),
         Some("bench") => bench::main(),
         _ => {
-            eprintln!("usage: run differential [--calls N] [--seed S], or run bench");
+            eprintln!("usage: run differential [--calls N] [--seed S], run sample [--frames N] [--seed S], or run bench");
             false
         }
     };

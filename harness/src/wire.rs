@@ -100,6 +100,17 @@ impl Answer {
         Answer { no, ..Answer::default() }
     }
 
+    pub fn put(&self, out: &mut Vec<u8>) {
+        out.extend([self.no, self.flag]);
+        out.extend(self.x.to_le_bytes());
+        out.extend(self.y.to_le_bytes());
+        out.push(self.net.family);
+        out.extend(self.net.hi.to_le_bytes());
+        out.extend(self.net.lo.to_le_bytes());
+        out.push(self.net.len);
+        out.extend(&self.tail);
+    }
+
     /// The answer to the call at the front of `b`.
     pub fn take(call: &Call, b: &[u8]) -> Answer {
         let n = call.answer_tail();
