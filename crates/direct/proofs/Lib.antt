@@ -1,0 +1,2 @@
+-- The laws of answers in one number.
+pub mod Outcomes
