@@ -1,4 +1,4 @@
-// Goes through whole sets, place by place, and counts the networks that are not those of the lists made by hand.
+// Goes through whole sets, place by place and to the end, and counts the networks that are not those of the lists made by hand.
 mod cases;
 mod expect;
 
