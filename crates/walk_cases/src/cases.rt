@@ -6,12 +6,12 @@ use walk::last;
 use walk::nth;
 
 // The words of the largest pool here: two sets, 300 nodes.
-const WORDS: usize = 2480;
+pub const WORDS: usize = 2480;
 
 // The largest address word.
-const LAST: u64 = 0xffff_ffff_ffff_ffff;
+pub const LAST: u64 = 0xffff_ffff_ffff_ffff;
 
-fn v4(address: u64, len: u8) -> Net {
+pub fn v4(address: u64, len: u8) -> Net {
     Net {
         family: 4,
         hi: 0,
@@ -20,7 +20,7 @@ fn v4(address: u64, len: u8) -> Net {
     }
 }
 
-fn v6(hi: u64, lo: u64, len: u8) -> Net {
+pub fn v6(hi: u64, lo: u64, len: u8) -> Net {
     Net {
         family: 6,
         hi,
@@ -30,7 +30,7 @@ fn v6(hi: u64, lo: u64, len: u8) -> Net {
 }
 
 // Two sets without a share in 300 nodes.
-fn two(t: Tally, pool: &mut [u32], family: u8) -> Tally {
+pub fn two(t: Tally, pool: &mut [u32], family: u8) -> Tally {
     expect::gives(
         t,
         pool::layout(pool, family, 2, 300, &[0, 0], &[300, 300]),
