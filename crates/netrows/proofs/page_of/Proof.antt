@@ -1,6 +1,6 @@
 -- `page_of` meets its contract: a walk of its MIR, by hand. A local array of 16 networks is lent to `list` as a slice, for a lifetime that is made for the call, and comes back at the row that `list` left.
 -- Assumes nothing.
-use mathlib.Core.Path.{_≡_, refl, sym, _∙_, subst}
+use mathlib.Core.Path.{refl, sym, _∙_, subst}
 use Prim.Native.Nat.{ℕ, zero, suc, _<_, _^_}
 use native.Mathlib.Omega.{arith}
 use mathlib.Core.List.{[], _∷_, List}
