@@ -22,6 +22,8 @@ use Rattle.pool.proofs.Seen.{trieAt}
 use Rattle.listing.specs.Seats.{Sits, Refuses, Seats}
 use Rattle.listing.specs.declared.seats.Seat.{Seat}
 use Rattle.listing.specs.declared.seats.Seated.the-variants.{Refused}
+use Rattle.listing.proofs.Reading.{spans-small}
+use Rattle.listing.proofs.Counting.{listOf-size}
 use Rattle.listing.proofs.Calls.{sits-at}
 use Rattle.going.specs.Spots.{nowhere, beforeAll, goneOn, Right, StandsIn, Goes}
 use Rattle.going.specs.declared.spots.Spot.{Spot}
@@ -68,6 +70,11 @@ holds w k = go (decode w) refl
 
 pub lists : (w : List ℕ) (k : ℕ) → Lists (seatIn (decode w) k .family) (listIn (decode w) k)
 lists w k = let h = holds w k in rw (h .list) at (lists-trie (seatIn (decode w) k .family) (h .trie) (h .stands .deep) (h .family))
+
+pub list-small : (w : List ℕ) (k : ℕ) → length (listIn (decode w) k) < 1073741824
+list-small w k =
+    let h = holds w k in
+    omega (arith, ap length (h .list), listOf-size (h .trie), h .stands .stands .is .end, spans-small (h .stands .stands))
 
 -- A walk that was made can take a step, and then another.
 abbrev pub words : Walk → List ℕ

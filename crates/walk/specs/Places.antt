@@ -1,9 +1,13 @@
--- The network at a place of a list: the answer as a function of the words, and the turns on the way to it.
+-- The networks at a place and at the end of a list: the answers as functions of the words, and the turns on the way there.
 --
 --   nthL l i         the member of l at place i, counted from 0
---   nthRule d k i    the answer: 2 damaged, 3 no such set, else the network at place i of its list, if there is one
+--   lastL l          the last member of l
+--   placeRule f d k  the answer: 2 damaged, 3 no such set, else the network that f finds in its list, if there is one
+--   nthRule, lastRule            the same for these two
+--   spotAfter n l s  the spot n steps behind s in the list l
+--   stageIn d k n    where a walk through set k is behind n networks and one step more
 --   firstTurn, turnAfter s t     the turns: before the first network, and at the next spot s
---   toldAt s x       the answer at the spot s of a walk with the number x
+--   toldOf b n x     the answer of a walk with the number x, where the network n is there or not
 use mathlib.Core.Path.{_≡_}
 use mathlib.Core.Bool.{Bool, true, false, cond}
 use mathlib.Core.List.{List, [], _∷_}
@@ -17,8 +21,10 @@ use Rattle.nets.specs.declared.Net.{Net}
 use Rattle.pool.specs.Decode.{Decoded, damaged, sound}
 use Rattle.pool.specs.Changes.{listAt}
 use Rattle.listing.specs.Calls.{nothing, foundAs}
+use Rattle.going.specs.Spots.{beforeAll, goneOn}
 use Rattle.going.specs.declared.spots.Spot.{Spot}
-use Rattle.walk.specs.Walks.{walkNo}
+use Rattle.walk.specs.Walks.{walkNo, listIn, seatIn}
+use Rattle.walk.specs.declared.beginning.Stage.{Stage}
 use Rattle.walk.specs.declared.turns.Turn.{Turn}
 
 unfoldable pub nthL : List Bits → ℕ → Found
@@ -26,9 +32,27 @@ nthL [] i = missing
 nthL (p ∷ l) zero = found p
 nthL (p ∷ l) (suc i) = nthL l i
 
-unfoldable pub nthRule : Decoded → ℕ → ℕ → ℕ × (Bool × Net)
-nthRule damaged k i = (2, nothing)
-nthRule (sound S) k i = answered (walkNo (sound S) k) nothing (foundAs (S .family) (nthL (listAt S k) i))
+unfoldable pub lastL : List Bits → Found
+lastL [] = missing
+lastL (p ∷ []) = found p
+lastL (p ∷ q ∷ l) = lastL (q ∷ l)
+
+unfoldable pub placeRule : (List Bits → Found) → Decoded → ℕ → ℕ × (Bool × Net)
+placeRule f damaged k = (2, nothing)
+placeRule f (sound S) k = answered (walkNo (sound S) k) nothing (foundAs (S .family) (f (listAt S k)))
+
+abbrev pub nthRule : Decoded → ℕ → ℕ → ℕ × (Bool × Net)
+nthRule d k i = placeRule (λ l. nthL l i) d k
+
+abbrev pub lastRule : Decoded → ℕ → ℕ × (Bool × Net)
+lastRule d k = placeRule lastL d k
+
+unfoldable pub spotAfter : ℕ → List Bits → Spot → Spot
+spotAfter zero l s = s
+spotAfter (suc n) l s = spotAfter n l (goneOn l s)
+
+abbrev pub stageIn : Decoded → ℕ → ℕ → Stage
+stageIn d k n = record { spot = spotAfter (suc n) (listIn d k) (beforeAll (seatIn d k)); no = walkNo d k }
 
 abbrev pub firstTurn : ℕ → Turn
 firstTurn n = record { more = true; left = n }
@@ -43,5 +67,5 @@ turnAfter s t = cond (s .more) (cond (eqb (t .left) 0) (idle t) (firstTurn (t .l
 abbrev pub IsNo : ℕ → Type 0
 IsNo x = (x ≡ 0) ⊎ ((x ≡ 2) ⊎ (x ≡ 3))
 
-abbrev pub toldAt : Spot → ℕ → ℕ × (Bool × Net)
-toldAt s x = answered x nothing (cond (s .more) (true, s .net) nothing)
+abbrev pub toldOf : Bool → Net → ℕ → ℕ × (Bool × Net)
+toldOf b n x = answered x nothing (cond b (true, n) nothing)

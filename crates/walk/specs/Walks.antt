@@ -21,7 +21,7 @@ use Rattle.pool.specs.Changes.{listAt}
 use Rattle.listing.specs.Seats.{seatAt}
 use Rattle.listing.specs.declared.seats.Seat.{Seat}
 use Rattle.going.specs.Spots.{nowhere, beforeAll, goneOn, Right}
-use Rattle.walk.specs.declared.beginning.Begun.{Begun}
+use Rattle.walk.specs.declared.beginning.Stage.{Stage}
 use Rattle.walk.specs.declared.walking.Walk.{Walk}
 
 unfoldable pub walkNo : Decoded → ℕ → ℕ
@@ -36,7 +36,7 @@ unfoldable pub seatIn : Decoded → ℕ → Seat
 seatIn damaged k = nowhere
 seatIn (sound S) k = cond (ltb k (length (S .sets))) (seatAt S k) nowhere
 
-abbrev pub beginIn : Decoded → ℕ → Begun
+abbrev pub beginIn : Decoded → ℕ → Stage
 beginIn d k = record { spot = beforeAll (seatIn d k); no = walkNo d k }
 
 abbrev pub walkFrom : RefT (List ℕ) → ℕ → Walk

@@ -8,22 +8,23 @@ use going::spots::nowhere;
 use listing::seats::Seated;
 use listing::seats::seat_of;
 
-pub struct Begun {
+// How far a walk has come, and its number of the table.
+pub struct Stage {
     pub spot: Spot,
     pub no: u8,
 }
 
 // Before the first network of a set, or nowhere with the number of the refusal.
-pub fn begin(pool: &[u32], set: u32) -> Begun
+pub fn begin(pool: &[u32], set: u32) -> Stage
     ensures { λ r. ⌜ r ≡ beginIn (decode (now (pool .entry))) set ⌝ }
 {
     let seated = seat_of(pool, set);
     match seated {
-        Seated::Refused(no) => Begun {
+        Seated::Refused(no) => Stage {
             spot: before_all(nowhere()),
             no: no.number(),
         },
-        Seated::At(seat) => Begun {
+        Seated::At(seat) => Stage {
             spot: before_all(seat),
             no: 0,
         },

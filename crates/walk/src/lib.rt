@@ -4,17 +4,20 @@ ghost use mathlib.Core.Path.{_≡_};
 ghost use Rattle.pool.specs.Decode.{decode};
 ghost use Rattle.listing.specs.Calls.{followerAs};
 ghost use Rattle.walk.specs.Walks.{walkFrom};
-ghost use Rattle.walk.specs.Places.{nthRule};
+ghost use Rattle.walk.specs.Places.{nthRule, lastRule};
 use beginning::begin;
 use listing::Follower;
-use turns::after;
-use turns::first;
+use reaching::reach;
 use turns::told;
 use walking::Walk;
 
 mod beginning;
+mod reaching;
 mod turns;
 pub mod walking;
+
+// More networks than a set can have.
+const ALL: u32 = 0xffff_ffff;
 
 // Before the first network of a set.
 pub fn start<'a>(pool: &'a [u32], set: u32) -> Walk<'a>
@@ -33,11 +36,16 @@ pub fn start<'a>(pool: &'a [u32], set: u32) -> Walk<'a>
 pub fn nth(pool: &[u32], set: u32, i: u32) -> Follower
     ensures { λ r. ⌜ followerAs r ≡ nthRule (decode (now (pool .entry))) set i ⌝ }
 {
-    let mut w = start(pool, set);
-    let mut t = first(i);
-    while t.more {
-        w.next();
-        t = after(w.spot, t);
-    }
-    told(w.spot, w.no)
+    let stage = reach(pool, set, i);
+    let s = stage.spot;
+    told(s.more, s.net, stage.no)
+}
+
+// The last network of a set's list, by a walk through all of it, which keeps the last at its end.
+pub fn last(pool: &[u32], set: u32) -> Follower
+    ensures { λ r. ⌜ followerAs r ≡ lastRule (decode (now (pool .entry))) set ⌝ }
+{
+    let stage = reach(pool, set, ALL);
+    let s = stage.spot;
+    told(s.begun, s.net, stage.no)
 }

@@ -1,9 +1,10 @@
-// The turns of going to a place of a list.
+// The turns of going to a place of a list, and what is told there.
 ghost use mathlib.Core.Path.{_≡_};
 ghost use Rattle.listing.specs.Calls.{followerAs};
-ghost use Rattle.walk.specs.Places.{firstTurn, turnAfter, IsNo, toldAt};
+ghost use Rattle.walk.specs.Places.{firstTurn, turnAfter, IsNo, toldOf};
 use going::spots::Spot;
 use listing::Follower;
+use nets::Net;
 use nets::Refusal;
 
 // Whether to go on, and how many networks are still to be passed.
@@ -36,9 +37,9 @@ pub fn after(s: Spot, t: Turn) -> Turn
     Turn { more: false, left }
 }
 
-// What is answered at a spot, by the number of the walk.
-pub fn told(s: Spot, no: u8) -> Follower
-    ensures { λ r. ⌜ (IsNo no → followerAs r ≡ toldAt s no) ⌝ }
+// What is answered where a network is there or not, by the number of the walk.
+pub fn told(there: bool, net: Net, no: u8) -> Follower
+    ensures { λ r. ⌜ (IsNo no → followerAs r ≡ toldOf there net no) ⌝ }
 {
     if no == 2 {
         return Follower::Refused(Refusal::Damaged);
@@ -46,8 +47,7 @@ pub fn told(s: Spot, no: u8) -> Follower
     if no == 3 {
         return Follower::Refused(Refusal::NoSet);
     }
-    let net = s.net;
-    if s.more {
+    if there {
         return Follower::Network(net);
     }
     Follower::End

@@ -45,11 +45,11 @@ use Rattle.going.proofs.spots.Spot as O
 use Rattle.going.proofs.spots.Spot.Laws as O′
 use Rattle.walk.specs.Walks.{beginIn}
 use Rattle.walk.specs.declared.walking.Walk.{Walk}
-use Rattle.walk.specs.declared.beginning.Begun.{Begun}
+use Rattle.walk.specs.declared.beginning.Stage.{Stage}
 use Rattle.walk.proofs.walking.Walk as T
 use Rattle.walk.proofs.walking.Walk.Laws as T′
-use Rattle.walk.proofs.beginning.Begun as S
-use Rattle.walk.proofs.beginning.Begun.Laws as S′
+use Rattle.walk.proofs.beginning.Stage as S
+use Rattle.walk.proofs.beginning.Stage.Laws as S′
 use Rattle.walk.proofs.beginning.begin as begin
 use Rattle.walk.proofs.beginning.begin.Symbol as begin-def
 use Rattle.walk.proofs.beginning.begin.Symbol.{name as #begin}
@@ -85,7 +85,7 @@ module _ {M : Type 1} (𝓤 : URA M) (H : Heap 𝓤) (A : Atoms 𝓤) (W : Given
   v = sliceVal (s .ptr) (length (s .now))
 
   -- the walk that is made of what `begin` answers
-  abbrev made : Begun → Walk
+  abbrev made : Stage → Walk
   made r = record { pool = s; spot = r .spot; set = n; no = r .no }
 
   abbrev x : RefT (List ℕ) × (ℕ × Unit {0})
@@ -113,11 +113,11 @@ module _ {M : Type 1} (𝓤 : URA M) (H : Heap 𝓤) (A : Atoms 𝓤) (W : Given
       use1 W (‵ Own ⊛ ‵ Own) (shr-slice-copy 𝓤 H A W (named 0) κ u32 .twice s (v ∷ [])) $ split ! $ move ! (0 ∷ 2 ∷ []) $ fjoin ! $
       move ! (2 ∷ 0 ∷ []) $ use2 W (raw (Begin 𝓤 H A at-mem run .pre to-begin)) (qed W (tok ∷ ‵ (owns (ShrSlice (named 0) κ u32 ∷ u32 ∷ []) x at) ∷ []) ∵ join ! $ frame ! $ done !) $ frame ! $ done !
 
-  begin-said : (r : Begun) → ent 𝓤 (ensured 𝓤 H A begin.ended (begin.clauses 𝓤 H A at-mem run) (κ, tt) x tt r) (fact 𝓤 (r ≡ beginIn (decode (now s)) n))
+  begin-said : (r : Stage) → ent 𝓤 (ensured 𝓤 H A begin.ended (begin.clauses 𝓤 H A at-mem run) (κ, tt) x tt r) (fact 𝓤 (r ≡ beginIn (decode (now s)) n))
   begin-said r = exE 𝓤 _ (λ ws. snd∗ 𝓤 (sem 𝓤 H A (lasts begin.ended (κ, tt) x ws)) (fact 𝓤 (r ≡ beginIn (decode (now s)) n)))
 
   -- ---- the exit: what the fields own together is what the struct owns
-  exits : (r : Begun) → Is O.the-row (r .spot) (O′.lowered (r .spot) ∷ []) → r .no < 2 ^ 8 → r ≡ beginIn (decode (now s)) n → ent 𝓤 (⋆ 𝓤 H A (tok ∷ ‵ Own ∷ [])) (Post (LL.val D L (made r)))
+  exits : (r : Stage) → Is O.the-row (r .spot) (O′.lowered (r .spot) ∷ []) → r .no < 2 ^ 8 → r ≡ beginIn (decode (now s)) n → ent 𝓤 (⋆ 𝓤 H A (tok ∷ ‵ Own ∷ [])) (Post (LL.val D L (made r)))
   exits r is-spot gno e =
       qed W (tok ∷ ‵ Own ∷ []) ∵
       suffices ! _ (ends-at 𝓤 H A f.ended stayed (f.clauses 𝓤 H A at-mem run) W (((κ, tt), (q, tt), tt, x, at), tt) (LL.val D L (made r)) (made r) (tt, (tt, tt)) (tt, (tt, tt))) $ says ! (ap made e) $
@@ -135,7 +135,7 @@ module _ {M : Type 1} (𝓤 : URA M) (H : Heap 𝓤) (A : Atoms 𝓤) (W : Given
         -- [_3; …; _2; …; _1; …; _0; …; what is had at entry]
         move ! (8 ∷ []) $ use1 W (raw (Begin 𝓤 H A at-mem run .pre to-begin) ⊛ ‵ Own) goes-begin $ split ! $
         calls-at ! fm (Begin 𝓤 H A at-mem run) known to-begin (and-then ! (load ! (from ! (stop !)) (look ! 6 refl)) (and-then ! (load ! (from ! (stop !)) (look ! 4 refl)) (no-more !))) (λ u.
-        use1 W (later (some (λ (r : Begun). (tok ⊛ ‵ (R .own r (u ∷ []))) ⊛ raw (ensured 𝓤 H A begin.ended (begin.clauses 𝓤 H A at-mem run) (κ, tt) x tt r)))) (id⊢ 𝓤 _) $ await ! tt $ pick ! (λ r.
+        use1 W (later (some (λ (r : Stage). (tok ⊛ ‵ (R .own r (u ∷ []))) ⊛ raw (ensured 𝓤 H A begin.ended (begin.clauses 𝓤 H A at-mem run) (κ, tt) x tt r)))) (id⊢ 𝓤 _) $ await ! tt $ pick ! (λ r.
         split ! $ move ! (1 ∷ []) $ use1 W (raw (fact 𝓤 (r ≡ beginIn (decode (now s)) n))) (begin-said r) $ heard ! (r ≡ beginIn (decode (now s)) n) (λ e. split ! $ move ! (1 ∷ []) $
         peeks ! R (Is R) (shows 𝓤 H A R) r (u ∷ []) (λ is. drop ! $
         -- [the token; what pool owns; _3; …; _2; …; _1; …; _0; …]

@@ -7,7 +7,7 @@ pub told-spec : {M : Type 1} → statement M
 told-spec =
     tie.close
     (tie.spec
-    (λ c i. let a = c .before .args in told-damaged (a .s) (a .no) (c .if1 .taken))
-    (λ c i. let a = c .before .before .args in told-noset (a .s) (a .no) (c .if2 .taken))
-    (λ c i. let e = c .before .before in let a = e .before .before .args in told-network (a .s) (a .no) (e .before .if1 .left) (e .if2 .left) i (c .if3 .taken))
-    (λ c i. let e = c .before .before in let a = e .before .before .args in told-end (a .s) (a .no) (e .before .if1 .left) (e .if2 .left) i (c .if3 .left)))
+    (λ c i. let a = c .before .args in told-damaged (a .there) (a .net) (a .no) (c .if1 .taken))
+    (λ c i. let a = c .before .before .args in told-noset (a .there) (a .net) (a .no) (c .if2 .taken))
+    (λ c i. let e = c .before in let a = e .before .before .args in told-network (a .there) (a .net) (a .no) (e .before .if1 .left) (e .if2 .left) i (c .if3 .taken))
+    (λ c i. let e = c .before in let a = e .before .before .args in told-end (a .there) (a .net) (a .no) (e .before .if1 .left) (e .if2 .left) i (c .if3 .left)))
