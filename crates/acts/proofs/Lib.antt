@@ -1,3 +1,2 @@
--- The laws of the calls as bytes: what the changing calls leave, and the tails that are lent to a call.
-pub mod Changing
-pub mod Lent
+-- The law of layout.
+pub mod Laying

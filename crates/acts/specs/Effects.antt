@@ -1,14 +1,13 @@
 -- What each call answers and leaves, by its code. w are the pool's words, s the bytes of the call, c its fixed part.
 --
---   reportOf w c        the calls that read the pool: 2 to 7, 14, 16
+--   reportOf w c        the calls that read the pool: 2 to 7, 14, 16, 22, 23
 --   changeOf w c        the calls that change a set: 8 to 13
 --   layoutOf w c s, writeOf w c s     layout, 1, and words written over the pool's, 48
 --   networkOf s c       the calls without a pool: 17, 32 to 40; madeOf: those from 37 on
---   plainOf w s c       all of these: the answer, and the words afterwards
-use mathlib.Core.Bool.{cond, _&&_}
+use mathlib.Core.Bool.{cond}
 use mathlib.Core.List.{List, [], _∷_}
 use Prim.Native.Nat.{ℕ, _+_, _*_, _/_, _%_}
-use lib.Dec.{eqb, leb, ltb}
+use lib.Dec.{eqb}
 use lib.ListN.{drop}
 use Rattle.nets.specs.Bits.{Bits}
 use Rattle.nets.specs.Lists.{mergeL, intersectL, excludeL}
@@ -16,10 +15,9 @@ use Rattle.nets.specs.Refusals.{answered}
 use Rattle.nets.specs.Networks.{width, netWords, netOf, noNet, judged, refusalOf, withLen, cleared, bigEndian, startOf, noBits, bitsWords, nextOf}
 use Rattle.nets.specs.declared.Net.{Net}
 use Rattle.nodes.specs.Words.{put}
-use Rattle.pool.specs.States.{State}
 use Rattle.pool.specs.Decode.{decode}
 use Rattle.pool.specs.Rules.{freeRule, heldRule, planRule, layoutNo, laid}
-use Rattle.pool.specs.Changes.{listAt, changeRule, wordsAfter, netNo}
+use Rattle.pool.specs.Changes.{listAt, netNo}
 use Rattle.lookup.specs.Rules.{supernetRule, containsRule, emptyRule}
 use Rattle.change.specs.Calls.{listWith, listWithout}
 use Rattle.change.specs.Simplified.{listSimple, noArgs}
@@ -27,12 +25,13 @@ use Rattle.combine.specs.Rules.{combineNo, equalRule}
 use Rattle.listing.specs.Calls.{nextRule}
 use Rattle.listing.specs.declared.From.{From}
 use Rattle.listing.specs.declared.From.the-variants.{Start, Past}
+use Rattle.walk.specs.Places.{nthRule, lastRule}
 use Rattle.text.specs.Ipv4.{readLine}
 use Rattle.codes.specs.Bytes.{u16At}
 use Rattle.codes.specs.Tails.{wordsFrom, numbersFrom}
 use Rattle.codes.specs.declared.Call.{Call}
 use Rattle.codes.specs.declared.Reply.{Reply}
-use Rattle.acts.specs.Replies.{noReply, oneReply, twoReply, flagReply, netReply, foundReply, bitsReply, bitReply}
+use Rattle.replies.specs.Replies.{noReply, oneReply, twoReply, flagReply, netReply, foundReply, bitsReply, bitReply, changed}
 
 abbrev pub fromOf : Call → From
 fromOf c = cond (eqb (c .b) 0) Start (Past (c .net))
@@ -46,11 +45,9 @@ reportOf w c =
     (cond (eqb (c .code) 6) (flagReply (containsRule w (c .a) (c .net)))
     (cond (eqb (c .code) 7) (flagReply (emptyRule w (c .a)))
     (cond (eqb (c .code) 14) (flagReply (equalRule (decode w) (c .a) (c .b)))
-    (foundReply (nextRule (decode w) (c .a) (fromOf c)))))))))
-
--- a changing call on set k: its answer, and the words that it leaves
-unfoldable pub changed : List ℕ → ℕ → (State → ℕ) → (State → List Bits) → Reply × List ℕ
-changed w k a f = (oneReply (changeRule (decode w) k a f), wordsAfter w (decode w) k a f)
+    (cond (eqb (c .code) 22) (foundReply (nthRule (decode w) (c .a) (c .b)))
+    (cond (eqb (c .code) 23) (foundReply (lastRule (decode w) (c .a)))
+    (foundReply (nextRule (decode w) (c .a) (fromOf c)))))))))))
 
 -- the list that a call makes of sets b and c goes to set a
 abbrev pub combined : (List Bits → List Bits → List Bits) → List ℕ → Call → Reply × List ℕ
@@ -111,11 +108,3 @@ networkOf s c =
     (cond (eqb (c .code) 35) (bitsReply (answered (refusalOf (c .net)) noBits (startOf (c .net))))
     (cond (eqb (c .code) 36) (bitReply (nextOf (bitsWords (c .net .hi) (c .net .lo) (c .net .len))))
     (madeOf s c))))))
-
-unfoldable pub plainOf : List ℕ → List ℕ → Call → Reply × List ℕ
-plainOf w s c =
-    cond (eqb (c .code) 1) (layoutOf w c s)
-    (cond (eqb (c .code) 48) (writeOf w c s)
-    (cond (leb 8 (c .code) && leb (c .code) 13) (changeOf w c)
-    (cond (ltb (c .code) 17) (reportOf w c, w)
-    (networkOf s c, w))))

@@ -1,4 +1,2 @@
--- What a reader must believe of the calls as bytes: the answers as records, what each call answers and leaves, and the tails of answers.
-pub mod Replies
+-- What a reader must believe of the calls as bytes: what each answers and leaves.
 pub mod Effects
-pub mod Tailed

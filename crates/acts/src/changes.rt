@@ -1,13 +1,13 @@
 // The calls that change the pool.
 ghost use mathlib.Core.Path.{_≡_};
 ghost use Rattle.acts.specs.Effects.{changeOf, layoutOf, writeOf};
-use crate::replies::of_answer;
-use crate::replies::only;
 use codes::Call;
 use codes::Reply;
 use codes::records::CALL;
 use codes::table;
 use codes::tails::store_words;
+use replies::of_answer;
+use replies::only;
 
 // A layout has at most 255 shares and 255 limits here.
 const ROW: usize = 255;

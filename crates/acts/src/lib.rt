@@ -1,6 +1,4 @@
-// Each call of docs/CALLS.md by its code: its arguments from the bytes, its answer as a record, the tail of the answer where there is one.
+// The calls of docs/CALLS.md that answer with a record only, by their codes: their arguments from the bytes, their answers as records. Those that read a set from a tail are in bulk.
 pub mod changes;
 pub mod networks;
-mod replies;
 pub mod reports;
-pub mod tailed;

@@ -4,10 +4,6 @@ ghost use Prim.Native.Nat.{_≤_};
 ghost use lib.ListN.{length};
 ghost use Rattle.nets.specs.Networks.{bitsWords};
 ghost use Rattle.acts.specs.Effects.{octetsOf, bytesOf, groupsOf, madeOf, networkOf};
-use crate::replies::of_bit;
-use crate::replies::of_net;
-use crate::replies::of_prefix;
-use crate::replies::of_taken;
 use codes::Call;
 use codes::Reply;
 use codes::bytes::byte_at;
@@ -16,6 +12,10 @@ use codes::records::CALL;
 use codes::table;
 use nets::Net;
 use nets::PrefixBits;
+use replies::of_bit;
+use replies::of_net;
+use replies::of_prefix;
+use replies::of_taken;
 
 // The network of the bytes of a.
 fn octets(s: &[u8]) -> Net

@@ -1,15 +1,15 @@
 // The calls that read the pool and answer with numbers, a flag or a network.
 ghost use mathlib.Core.Path.{_≡_};
 ghost use Rattle.acts.specs.Effects.{fromOf, reportOf};
-use crate::replies::of_answer;
-use crate::replies::of_covering;
-use crate::replies::of_follower;
-use crate::replies::of_report;
-use crate::replies::of_told;
 use codes::Call;
 use codes::Reply;
 use codes::table;
 use listing::From;
+use replies::of_answer;
+use replies::of_covering;
+use replies::of_follower;
+use replies::of_report;
+use replies::of_told;
 
 // From the start, or behind the network.
 fn from_of(c: Call) -> From
@@ -35,6 +35,8 @@ pub fn report(pool: &[u32], c: Call) -> Reply
         table::CONTAINS => of_told(lookup::contains(pool, c.a, c.net)),
         table::IS_EMPTY => of_told(lookup::is_empty(pool, c.a)),
         table::EQUAL => of_told(combine::equal(pool, c.a, c.b)),
+        table::NTH => of_follower(walk::nth(pool, c.a, c.b)),
+        table::LAST => of_follower(walk::last(pool, c.a)),
         _ => of_follower(listing::next(pool, c.a, from_of(c))),
     }
 }

@@ -3,7 +3,7 @@ use mathlib.Core.List.{List, []}
 use mathlib.Core.Path.{_≡_, sym, ap, _∙_}
 use Prim.Native.Nat.{ℕ, _+_, _≤_, _<_}
 use native.Mathlib.Omega.{arith}
-use borrow.Author.Tests.{eq-eqb, ne-eqb, le-leb, lt-leb, lt-ltb, le-ltb}
+use borrow.Author.Tests.{eq-eqb, ne-eqb, le-leb, lt-leb}
 use Rattle.nodes.specs.Words.{put}
 use Rattle.nodes.proofs.Put.{put-nil, put-before-at}
 use Rattle.codes.specs.Bytes.{u32Bytes, u64Bytes}
@@ -12,38 +12,53 @@ use Rattle.codes.specs.Tails.{wordsFrom, rowBytes}
 use Rattle.codes.specs.declared.Call.{Call}
 use Rattle.codes.specs.declared.Reply.{Reply}
 use Rattle.codes.proofs.Written.{length-reply}
-use Rattle.acts.specs.Replies.{noReply}
-use Rattle.acts.specs.Effects.{layoutOf, writeOf, changeOf, reportOf, networkOf, plainOf}
-use Rattle.acts.specs.Tailed.{rowsOf, listReply, lineBytes, lineReply, Listing, Lining}
-use Rattle.calls.specs.Runs.{Effect, effectOf, Answered, Stepped}
+use Rattle.replies.specs.Replies.{noReply}
+use Rattle.acts.specs.Effects.{layoutOf, writeOf, changeOf, reportOf, networkOf}
+use Rattle.bulk.specs.Reading.{loadOf, linesOf}
+use Rattle.bulk.specs.Tailed.{rowsOf, listReply, lineBytes, lineReply, saveBytes, saveReply, Listing, Lining, Saving}
+use Rattle.calls.specs.Runs.{groupOf, plainOf, Effect, effectOf, Answered, Stepped}
 
 -- which calls are which, by the tests of the code
 module _ (w s : List ℕ) (c : Call) where
   pub plain-layout : c .code ≡ 1 → plainOf w s c ≡ layoutOf w c s
   unfolding plainOf
-  plain-layout e = rw (eq-eqb _ _ e)
+  plain-layout e = rw e
+
+  pub plain-load : c .code ≡ 20 → plainOf w s c ≡ loadOf w c s
+  unfolding plainOf
+  plain-load e = rw e
+
+  pub plain-lines : c .code ≡ 21 → plainOf w s c ≡ linesOf w c s
+  unfolding plainOf
+  plain-lines e = rw e
 
   pub plain-write : c .code ≡ 48 → plainOf w s c ≡ writeOf w c s
   unfolding plainOf
   plain-write e = rw e
 
-  pub plain-report : (c .code ≡ 1 → ⊥) → c .code < 8 → plainOf w s c ≡ (reportOf w c, w)
+  pub plain-group : (c .code ≡ 1 → ⊥) → (c .code ≡ 20 → ⊥) → (c .code ≡ 21 → ⊥) → (c .code ≡ 48 → ⊥) → plainOf w s c ≡ groupOf w s c
   unfolding plainOf
-  plain-report f h = rw (ne-eqb _ _ f, ne-eqb (c .code) 48 (λ e. omega arith), lt-leb 8 (c .code) h, lt-ltb (c .code) 17 (omega arith))
+  plain-group f g h i = rw (ne-eqb _ _ f, ne-eqb _ _ g, ne-eqb _ _ h, ne-eqb _ _ i)
 
-  pub plain-change : 8 ≤ c .code → c .code ≤ 13 → plainOf w s c ≡ changeOf w c
-  unfolding plainOf
-  plain-change h i = rw (ne-eqb (c .code) 1 (λ e. omega arith), ne-eqb (c .code) 48 (λ e. omega arith), le-leb 8 (c .code) h, le-leb (c .code) 13 i)
+  pub group-low : c .code < 8 → groupOf w s c ≡ (reportOf w c, w)
+  unfolding groupOf
+  group-low h = rw (lt-leb 8 (c .code) h, ne-eqb (c .code) 17 (λ e. omega arith), lt-leb 32 (c .code) (omega arith))
 
-  pub plain-next : 13 < c .code → c .code < 17 → plainOf w s c ≡ (reportOf w c, w)
-  unfolding plainOf
-  plain-next h i =
-      rw (ne-eqb (c .code) 1 (λ e. omega arith), ne-eqb (c .code) 48 (λ e. omega arith), le-leb 8 (c .code) (omega arith), lt-leb (c .code) 13 h, lt-ltb (c .code) 17 i)
+  pub group-change : 8 ≤ c .code → c .code ≤ 13 → groupOf w s c ≡ changeOf w c
+  unfolding groupOf
+  group-change h i = rw (le-leb 8 (c .code) h, le-leb (c .code) 13 i)
 
-  pub plain-network : (c .code ≡ 48 → ⊥) → 17 ≤ c .code → plainOf w s c ≡ (networkOf s c, w)
-  unfolding plainOf
-  plain-network f h =
-      rw (ne-eqb (c .code) 1 (λ e. omega arith), ne-eqb _ _ f, le-leb 8 (c .code) (omega arith), lt-leb (c .code) 13 (omega arith), le-ltb (c .code) 17 h)
+  pub group-line : c .code ≡ 17 → groupOf w s c ≡ (networkOf s c, w)
+  unfolding groupOf
+  group-line e = rw e
+
+  pub group-report : 13 < c .code → (c .code ≡ 17 → ⊥) → c .code < 32 → groupOf w s c ≡ (reportOf w c, w)
+  unfolding groupOf
+  group-report h f i = rw (le-leb 8 (c .code) (omega arith), lt-leb (c .code) 13 h, ne-eqb _ _ f, lt-leb 32 (c .code) i)
+
+  pub group-network : 32 ≤ c .code → groupOf w s c ≡ (networkOf s c, w)
+  unfolding groupOf
+  group-network h = rw (le-leb 8 (c .code) (omega arith), lt-leb (c .code) 13 (omega arith), ne-eqb (c .code) 17 (λ e. omega arith), le-leb 32 (c .code) h)
 
 -- what each kind of call with a tail does, and any other
 module _ (w v s : List ℕ) (c : Call) where
@@ -55,14 +70,19 @@ module _ (w v s : List ℕ) (c : Call) where
   unfolding effectOf
   effect-line e = rw (ne-eqb (c .code) 15 (λ f. omega arith), eq-eqb _ _ e)
 
+  pub effect-save : c .code ≡ 19 → effectOf w v s c ≡ record { reply = saveReply w c; tail = saveBytes w c; words = w; rows = v }
+  unfolding effectOf
+  effect-save e = rw (ne-eqb (c .code) 15 (λ f. omega arith), ne-eqb (c .code) 18 (λ f. omega arith), eq-eqb _ _ e)
+
   pub effect-words : c .code ≡ 49 → effectOf w v s c ≡ record { reply = noReply 0; tail = rowBytes u32Bytes (wordsFrom w (c .a) (c .b)); words = w; rows = v }
   unfolding effectOf
-  effect-words e = rw (ne-eqb (c .code) 15 (λ f. omega arith), ne-eqb (c .code) 18 (λ f. omega arith), eq-eqb _ _ e)
+  effect-words e =
+      rw (ne-eqb (c .code) 15 (λ f. omega arith), ne-eqb (c .code) 18 (λ f. omega arith), ne-eqb (c .code) 19 (λ f. omega arith), eq-eqb _ _ e)
 
-  pub effect-plain : (c .code ≡ 15 → ⊥) → (c .code ≡ 18 → ⊥) → (c .code ≡ 49 → ⊥)
+  pub effect-plain : (c .code ≡ 15 → ⊥) → (c .code ≡ 18 → ⊥) → (c .code ≡ 19 → ⊥) → (c .code ≡ 49 → ⊥)
       → effectOf w v s c ≡ record { reply = plainOf w s c .0; tail = []; words = plainOf w s c .1; rows = v }
   unfolding effectOf
-  effect-plain f g h = rw (ne-eqb _ _ f, ne-eqb _ _ g, ne-eqb _ _ h)
+  effect-plain f g h i = rw (ne-eqb _ _ f, ne-eqb _ _ g, ne-eqb _ _ h, ne-eqb _ _ i)
 
 -- an answer with its tail at its place
 pub answered-list : {w v o v′ o′ : List ℕ} {c : Call} {at : ℕ} {r : Reply} (s : List ℕ) → c .code ≡ 15 → Listing w v c o at r v′ o′ → Answered w v s c o at r w v′ o′
@@ -85,6 +105,16 @@ answered-line {c = c} w v s e l =
       tail = rw q (l .tail);
     }
 
+pub answered-save : {w o o′ : List ℕ} {c : Call} {at : ℕ} {r : Reply} (v s : List ℕ) → c .code ≡ 19 → Saving w c o at r o′ → Answered w v s c o at r w v o′
+answered-save {w} {c = c} v s e l =
+    let q = effect-save w v s c e in
+    record {
+      reply = l .reply ∙ sym (ap (λ (x : Effect). x .reply) q);
+      words = sym (ap (λ (x : Effect). x .words) q);
+      rows = sym (ap (λ (x : Effect). x .rows) q);
+      tail = rw q (l .tail);
+    }
+
 pub answered-words : {o o′ : List ℕ} {c : Call} {r : Reply} (w v s : List ℕ) (at : ℕ) → c .code ≡ 49 → r ≡ noReply 0 → o′ ≡ put o at (rowBytes u32Bytes (wordsFrom w (c .a) (c .b)))
     → Answered w v s c o at r w v o′
 answered-words {c = c} w v s at e f g =
@@ -96,10 +126,11 @@ answered-words {c = c} w v s at e f g =
       tail = rw q g;
     }
 
-pub answered-plain : {w′ : List ℕ} {r : Reply} (w v s : List ℕ) (c : Call) (o : List ℕ) (at : ℕ) → (c .code ≡ 15 → ⊥) → (c .code ≡ 18 → ⊥) → (c .code ≡ 49 → ⊥) → (r, w′) ≡ plainOf w s c
+pub answered-plain : {w′ : List ℕ} {r : Reply} (w v s : List ℕ) (c : Call) (o : List ℕ) (at : ℕ) → (c .code ≡ 15 → ⊥) → (c .code ≡ 18 → ⊥) → (c .code ≡ 19 → ⊥) → (c .code ≡ 49 → ⊥)
+    → (r, w′) ≡ plainOf w s c
     → Answered w v s c o at r w′ v o
-answered-plain w v s c o at f g h e =
-    let q = effect-plain w v s c f g h in
+answered-plain w v s c o at f g h i e =
+    let q = effect-plain w v s c f g h i in
     record {
       reply = ap (λ x. x .0) e ∙ sym (ap (λ (x : Effect). x .reply) q);
       words = ap (λ x. x .1) e ∙ sym (ap (λ (x : Effect). x .words) q);

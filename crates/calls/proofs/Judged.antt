@@ -16,25 +16,25 @@ pub code-none : (k : ℕ) → k < 1 → isCode k ≡ false
 unfolding isCode
 code-none k h = rw (lt-leb 1 k h, lt-leb 32 k (omega arith), lt-leb 48 k (omega arith))
 
-pub code-first : (k : ℕ) → 1 ≤ k → k ≤ 18 → isCode k ≡ true
+pub code-first : (k : ℕ) → 1 ≤ k → k ≤ 23 → isCode k ≡ true
 unfolding isCode
-code-first k h i = rw (le-leb 1 k h, le-leb k 18 i)
+code-first k h i = rw (le-leb 1 k h, le-leb k 23 i)
 
-pub code-gap : (k : ℕ) → 18 < k → k < 32 → isCode k ≡ false
+pub code-gap : (k : ℕ) → 23 < k → k < 32 → isCode k ≡ false
 unfolding isCode
-code-gap k h i = rw (le-leb 1 k (omega arith), lt-leb k 18 h, lt-leb 32 k i, lt-leb 48 k (omega arith))
+code-gap k h i = rw (le-leb 1 k (omega arith), lt-leb k 23 h, lt-leb 32 k i, lt-leb 48 k (omega arith))
 
 pub code-second : (k : ℕ) → 32 ≤ k → k ≤ 40 → isCode k ≡ true
 unfolding isCode
-code-second k h i = rw (le-leb 1 k (omega arith), lt-leb k 18 (omega arith), le-leb 32 k h, le-leb k 40 i)
+code-second k h i = rw (le-leb 1 k (omega arith), lt-leb k 23 (omega arith), le-leb 32 k h, le-leb k 40 i)
 
 pub code-gap2 : (k : ℕ) → 40 < k → k < 48 → isCode k ≡ false
 unfolding isCode
-code-gap2 k h i = rw (le-leb 1 k (omega arith), lt-leb k 18 (omega arith), le-leb 32 k (omega arith), lt-leb k 40 h, lt-leb 48 k i)
+code-gap2 k h i = rw (le-leb 1 k (omega arith), lt-leb k 23 (omega arith), le-leb 32 k (omega arith), lt-leb k 40 h, lt-leb 48 k i)
 
 pub code-third : (k : ℕ) → 48 ≤ k → isCode k ≡ leb k 49
 unfolding isCode
-code-third k h = rw (le-leb 1 k (omega arith), lt-leb k 18 (omega arith), le-leb 32 k (omega arith), lt-leb k 40 (omega arith), le-leb 48 k h)
+code-third k h = rw (le-leb 1 k (omega arith), lt-leb k 23 (omega arith), le-leb 32 k (omega arith), lt-leb k 40 (omega arith), le-leb 48 k h)
 
 -- the tails
 pub tail-list : (c : Call) → c .code ≡ 15 → tailLength c ≡ 8 * c .b
@@ -45,13 +45,17 @@ pub tail-line : (c : Call) → c .code ≡ 18 → tailLength c ≡ c .b
 unfolding tailLength
 tail-line c e = rw e
 
+pub tail-save : (c : Call) → c .code ≡ 19 → tailLength c ≡ c .b
+unfolding tailLength
+tail-save c e = rw e
+
 pub tail-words : (c : Call) → c .code ≡ 49 → tailLength c ≡ 4 * c .b
 unfolding tailLength
 tail-words c e = rw e
 
-pub tail-none : (c : Call) → (c .code ≡ 15 → ⊥) → (c .code ≡ 18 → ⊥) → (c .code ≡ 49 → ⊥) → tailLength c ≡ 0
+pub tail-none : (c : Call) → (c .code ≡ 15 → ⊥) → (c .code ≡ 18 → ⊥) → (c .code ≡ 19 → ⊥) → (c .code ≡ 49 → ⊥) → tailLength c ≡ 0
 unfolding tailLength
-tail-none c f g h = rw (ne-eqb _ _ f, ne-eqb _ _ g, ne-eqb _ _ h)
+tail-none c f g h i = rw (ne-eqb _ _ f, ne-eqb _ _ g, ne-eqb _ _ h, ne-eqb _ _ i)
 
 -- a call by its fixed part
 module _ (c : Call) (rows room : ℕ) where

@@ -14,11 +14,11 @@ use Rattle.codes.specs.Records.{callAt, replyBytes}
 use Rattle.codes.specs.Tails.{wordsFrom, rowBytes}
 use Rattle.codes.specs.declared.Call.{Call}
 use Rattle.codes.proofs.Written.{length-u32, length-u64, length-reply}
-use Rattle.acts.specs.Tailed.{rowsOf}
-use Rattle.acts.proofs.Lent.{length-rowsOf, length-lineBytes}
+use Rattle.bulk.specs.Tailed.{rowsOf}
+use Rattle.bulk.proofs.Lent.{length-rowsOf, length-lineBytes, length-saveBytes}
 use Rattle.calls.specs.Runs.{callBytes, effectOf, effectAt, tailLength, Machine, machine, stopsAt, stepOf, runFrom, runOf}
-use Rattle.calls.proofs.Judged.{tail-list, tail-line, tail-words, tail-none}
-use Rattle.calls.proofs.Done.{effect-list, effect-line, effect-words, effect-plain}
+use Rattle.calls.proofs.Judged.{tail-list, tail-line, tail-save, tail-words, tail-none}
+use Rattle.calls.proofs.Done.{effect-list, effect-line, effect-save, effect-words, effect-plain}
 use Rattle.calls.proofs.Turns.{run-on, run-stop}
 
 length-rowBytes : (f : ℕ → List ℕ) (k : ℕ) → ((x : ℕ) → length (f x) ≡ k) → (xs : List ℕ) → length (rowBytes f xs) ≡ k * length xs
@@ -31,22 +31,25 @@ unfolding wordsFrom
 length-wordsFrom w p zero = refl
 length-wordsFrom w p (suc n) = rw (length-wordsFrom w (p + 1) n)
 
-length-by : (w v s : List ℕ) (c : Call) (p q r : Bool) → eqb (c .code) 15 ≡ p → eqb (c .code) 18 ≡ q → eqb (c .code) 49 ≡ r → length (effectOf w v s c .tail) ≡ tailLength c
-length-by w v s c true q r e f g =
-    let h = eqb-true _ _ e in
-    rw (effect-list w v s c h, tail-list c h, length-rowBytes u64Bytes 8 length-u64 (rowsOf w c), length-rowsOf w c)
-length-by w v s c false true r e f g = let h = eqb-true _ _ f in rw (effect-line w v s c h, tail-line c h, length-lineBytes c)
-length-by w v s c false false true e f g =
-    let h = eqb-true _ _ g in
-    rw (effect-words w v s c h, tail-words c h, length-rowBytes u32Bytes 4 length-u32 (wordsFrom w (c .a) (c .b)), length-wordsFrom w (c .a) (c .b))
-length-by w v s c false false false e f g =
-    let h = eqb-false _ _ e in
-    let i = eqb-false _ _ f in
-    let j = eqb-false _ _ g in
-    rw (effect-plain w v s c h i j, tail-none c h i j)
+length-by : (w v s : List ℕ) (c : Call) (p q r t : Bool) → eqb (c .code) 15 ≡ p → eqb (c .code) 18 ≡ q → eqb (c .code) 19 ≡ r → eqb (c .code) 49 ≡ t
+    → length (effectOf w v s c .tail) ≡ tailLength c
+length-by w v s c true q r t e f g h =
+    let i = eqb-true _ _ e in
+    rw (effect-list w v s c i, tail-list c i, length-rowBytes u64Bytes 8 length-u64 (rowsOf w c), length-rowsOf w c)
+length-by w v s c false true r t e f g h = let i = eqb-true _ _ f in rw (effect-line w v s c i, tail-line c i, length-lineBytes c)
+length-by w v s c false false true t e f g h = let i = eqb-true _ _ g in rw (effect-save w v s c i, tail-save c i, length-saveBytes w c)
+length-by w v s c false false false true e f g h =
+    let i = eqb-true _ _ h in
+    rw (effect-words w v s c i, tail-words c i, length-rowBytes u32Bytes 4 length-u32 (wordsFrom w (c .a) (c .b)), length-wordsFrom w (c .a) (c .b))
+length-by w v s c false false false false e f g h =
+    let i = eqb-false _ _ e in
+    let j = eqb-false _ _ f in
+    let k = eqb-false _ _ g in
+    let l = eqb-false _ _ h in
+    rw (effect-plain w v s c i j k l, tail-none c i j k l)
 
 pub length-tail : (w v s : List ℕ) (c : Call) → length (effectOf w v s c .tail) ≡ tailLength c
-length-tail w v s c = length-by w v s c (eqb (c .code) 15) (eqb (c .code) 18) (eqb (c .code) 49) refl refl refl
+length-tail w v s c = length-by w v s c (eqb (c .code) 15) (eqb (c .code) 18) (eqb (c .code) 19) (eqb (c .code) 49) refl refl refl refl
 
 -- from a machine on
 record Kept (m e : Machine) : Type 0 where

@@ -2,6 +2,7 @@
 --
 --   callBytes b at      the bytes of the call that begins at `at`, its tail included
 --   stopAt              why a run ends there: the numbers of docs/CALLS.md, the smallest that applies; 5 where it goes on
+--   plainOf w s c       what a call whose answer has no tail answers, and the words that it leaves; groupOf: those that are told apart by where their codes lie
 --   Effect, effectOf    what a call answers and leaves: the answer, its tail, the pool's words, the rows
 --   Machine, stepOf     what a run has come to, and the next call done
 --   runFrom n b m       n calls more, or less where the run ends before; after length b it has ended
@@ -18,9 +19,10 @@ use Rattle.codes.specs.Records.{callAt, replyBytes}
 use Rattle.codes.specs.Tails.{wordsFrom, rowBytes}
 use Rattle.codes.specs.declared.Call.{Call}
 use Rattle.codes.specs.declared.Reply.{Reply}
-use Rattle.acts.specs.Replies.{noReply}
-use Rattle.acts.specs.Effects.{plainOf}
-use Rattle.acts.specs.Tailed.{rowsOf, listReply, lineBytes, lineReply}
+use Rattle.replies.specs.Replies.{noReply}
+use Rattle.acts.specs.Effects.{layoutOf, writeOf, changeOf, reportOf, networkOf}
+use Rattle.bulk.specs.Reading.{loadOf, linesOf}
+use Rattle.bulk.specs.Tailed.{rowsOf, listReply, lineBytes, lineReply, saveBytes, saveReply}
 use Rattle.calls.specs.declared.running.Ended.{Ended}
 
 unfoldable pub callBytes : List ℕ → ℕ → List ℕ
@@ -28,10 +30,11 @@ callBytes b at = take (35 + callAt b at .tail) (drop at b)
 
 -- how many bytes the tail of an answer has
 unfoldable pub tailLength : Call → ℕ
-tailLength c = cond (eqb (c .code) 15) (8 * c .b) (cond (eqb (c .code) 18) (c .b) (cond (eqb (c .code) 49) (4 * c .b) 0))
+tailLength c =
+    cond (eqb (c .code) 15) (8 * c .b) (cond (eqb (c .code) 18) (c .b) (cond (eqb (c .code) 19) (c .b) (cond (eqb (c .code) 49) (4 * c .b) 0)))
 
 unfoldable pub isCode : ℕ → Bool
-isCode k = (leb 1 k && leb k 18) || ((leb 32 k && leb k 40) || (leb 48 k && leb k 49))
+isCode k = (leb 1 k && leb k 23) || ((leb 32 k && leb k 40) || (leb 48 k && leb k 49))
 
 -- a call is judged by its fixed part, the rows that are lent and the bytes that are left for answers
 unfoldable pub stopOf : Call → ℕ → ℕ → ℕ
@@ -43,6 +46,18 @@ stopAt b at rows room =
     cond (leb (length b) at) 0
     (cond (leb (at + 35) (length b)) (cond (leb (at + 35 + callAt b at .tail) (length b)) (stopOf (callAt b at) rows room) 1) 1)
 
+unfoldable pub groupOf : List ℕ → List ℕ → Call → Reply × List ℕ
+groupOf w s c =
+    cond (leb 8 (c .code) && leb (c .code) 13) (changeOf w c) (cond (eqb (c .code) 17 || leb 32 (c .code)) (networkOf s c, w) (reportOf w c, w))
+
+unfoldable pub plainOf : List ℕ → List ℕ → Call → Reply × List ℕ
+plainOf w s c =
+    cond (eqb (c .code) 1) (layoutOf w c s)
+    (cond (eqb (c .code) 20) (loadOf w c s)
+    (cond (eqb (c .code) 21) (linesOf w c s)
+    (cond (eqb (c .code) 48) (writeOf w c s)
+    (groupOf w s c))))
+
 pub record Effect : Type 0 where
   pub reply : Reply
   pub tail : List ℕ
@@ -53,8 +68,9 @@ unfoldable pub effectOf : List ℕ → List ℕ → List ℕ → Call → Effect
 effectOf w v s c =
     cond (eqb (c .code) 15) (record { reply = listReply w c; tail = rowBytes u64Bytes (rowsOf w c); words = w; rows = put v 0 (rowsOf w c) })
     (cond (eqb (c .code) 18) (record { reply = lineReply c; tail = lineBytes c; words = w; rows = v })
+    (cond (eqb (c .code) 19) (record { reply = saveReply w c; tail = saveBytes w c; words = w; rows = v })
     (cond (eqb (c .code) 49) (record { reply = noReply 0; tail = rowBytes u32Bytes (wordsFrom w (c .a) (c .b)); words = w; rows = v })
-    (record { reply = plainOf w s c .0; tail = []; words = plainOf w s c .1; rows = v })))
+    (record { reply = plainOf w s c .0; tail = []; words = plainOf w s c .1; rows = v }))))
 
 -- what a call needs: its tail's place in the answers, and rows
 pub record Fits (v s : List ℕ) (c : Call) (o : List ℕ) (at : ℕ) : Type 0 where

@@ -2,14 +2,14 @@
 ghost use mathlib.Core.Path.{_≡_};
 ghost use Prim.Native.Nat.{_+_, _*_, _≤_};
 ghost use lib.ListN.{length};
-ghost use Rattle.acts.specs.Effects.{plainOf};
-ghost use Rattle.calls.specs.Runs.{tailLength, isCode, stopOf, stopAt, Fits, Answered, Stepped, Ran};
+ghost use Rattle.calls.specs.Runs.{tailLength, isCode, stopOf, stopAt, groupOf, plainOf, Fits, Answered, Stepped, Ran};
 use acts::changes::change;
 use acts::changes::lay;
 use acts::changes::write;
 use acts::networks::network;
 use acts::reports::report;
-use acts::tailed;
+use bulk::reading;
+use bulk::tailed;
 use codes::Call;
 use codes::Reply;
 use codes::records::CALL;
@@ -48,6 +48,7 @@ fn tail_length(c: Call) -> usize
     match code {
         table::LIST => 8 * b,
         table::WRITE_LINE => b,
+        table::SAVE => b,
         table::READ_WORDS => 4 * b,
         _ => 0,
     }
@@ -59,7 +60,7 @@ fn is_code(k: u8) -> bool
     if k < table::LAYOUT {
         return false;
     }
-    if k <= table::WRITE_LINE {
+    if k <= table::LAST {
         return true;
     }
     if k < table::NEW {
@@ -112,28 +113,40 @@ fn stop_at(calls: &[u8], at: usize, rows: usize, room: usize) -> u8
     stop_of(c, rows, room)
 }
 
-// A call whose answer has no tail.
-fn plain(pool: &mut [u32], s: &[u8], c: Call) -> Reply
+// A call of a group: one that changes a set, needs no pool, or reads it.
+fn grouped(pool: &mut [u32], s: &[u8], c: Call) -> Reply
     requires { ⌜ 35 ≤ length (now s) ⌝ }
-    ensures { λ r. ⌜ (r, now (pool .exit)) ≡ plainOf (now (pool .entry)) (now (s .entry)) c ⌝ }
+    ensures { λ r. ⌜ (r, now (pool .exit)) ≡ groupOf (now (pool .entry)) (now (s .entry)) c ⌝ }
 {
     let code = c.code;
-    if code == table::LAYOUT {
-        return lay(pool, c, s);
-    }
-    if code == table::WRITE_WORDS {
-        return write(pool, c, s);
-    }
     if code < table::ADD {
         return report(pool, c);
     }
     if code <= table::EXCLUDE {
         return change(pool, c);
     }
-    if code < table::READ_LINE {
+    if code == table::READ_LINE {
+        return network(s, c);
+    }
+    if code < table::NEW {
         return report(pool, c);
     }
     network(s, c)
+}
+
+// A call whose answer has no tail.
+fn plain(pool: &mut [u32], s: &[u8], c: Call) -> Reply
+    requires { ⌜ 35 ≤ length (now s) ⌝ }
+    ensures { λ r. ⌜ (r, now (pool .exit)) ≡ plainOf (now (pool .entry)) (now (s .entry)) c ⌝ }
+{
+    let code = c.code;
+    match code {
+        table::LAYOUT => lay(pool, c, s),
+        table::LOAD => reading::load(pool, c, s),
+        table::LINES => reading::lines(pool, c, s),
+        table::WRITE_WORDS => write(pool, c, s),
+        _ => grouped(pool, s, c),
+    }
 }
 
 // Any call: the tail of its answer is written, the rest given.
@@ -145,6 +158,7 @@ fn answer(pool: &mut [u32], rows: &mut [u64], s: &[u8], c: Call, out: &mut [u8],
     match code {
         table::LIST => tailed::list(pool, rows, c, out, at),
         table::WRITE_LINE => tailed::line(c, out, at),
+        table::SAVE => tailed::save(pool, c, out, at),
         table::READ_WORDS => tailed::words(pool, c, out, at),
         _ => plain(pool, s, c),
     }

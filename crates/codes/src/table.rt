@@ -35,6 +35,16 @@ pub const READ_LINE: u8 = 17;
 
 pub const WRITE_LINE: u8 = 18;
 
+pub const SAVE: u8 = 19;
+
+pub const LOAD: u8 = 20;
+
+pub const LINES: u8 = 21;
+
+pub const NTH: u8 = 22;
+
+pub const LAST: u8 = 23;
+
 pub const NEW: u8 = 32;
 
 pub const TO_NETWORK: u8 = 33;

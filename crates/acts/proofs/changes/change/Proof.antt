@@ -1,7 +1,7 @@
 -- `changes::change` meets its contract, arm by arm. Assumes nothing.
 use borrow.Author.Tests.{ne-eqb}
 use Rattle.acts.specs.Effects.{changeOf}
-use Rattle.acts.proofs.Changing.{changed-is}
+use Rattle.replies.proofs.Changing.{changed-is}
 use borrow.Author.Needs.{needs}
 use Rattle.acts.proofs.changes.change.Statement.{statement}
 use Rattle.acts.proofs.changes.change.Tie as tie

@@ -3,7 +3,7 @@ use Prim.Native.Nat.{_+_, _*_, _%_, _≤_}
 use lib.ListN.{replicate}
 use Rattle.codes.proofs.Rows.{take-numbers, count-numbers}
 use Rattle.acts.specs.Effects.{layoutOf}
-use Rattle.acts.proofs.Changing.{laid-is}
+use Rattle.acts.proofs.Laying.{laid-is}
 use borrow.Author.Needs.{needs}
 use native.Mathlib.Omega.{arith}
 use Rattle.acts.proofs.changes.lay.Statement.{statement}

@@ -1,0 +1,3 @@
+-- The laws of the calls that carry more than a record: what is read from a tail, and the tails that are lent to a call.
+pub mod Read
+pub mod Lent

@@ -1,0 +1,2 @@
+-- The law of the changing calls.
+pub mod Changing
