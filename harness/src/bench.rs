@@ -1,8 +1,9 @@
 //! The library and iprange on the same data in one process, in turns. Reports the least and the median of each, and how many times faster the library is by the least.
+use crate::files::{file, file_of};
 use crate::layout::{encode, held, Set, State, MARK};
 use crate::lists::{cleared, holds, past, supernet, width, List, Member};
 use crate::model::net;
-use crate::oracle::Numbers;
+use crate::oracle::{ranges, Numbers};
 use crate::plan::Dice;
 use crate::wire::*;
 use ipnet::{Ipv4Net, Ipv6Net};
@@ -98,135 +99,165 @@ fn row(what: &str, family: u8, n: usize, each: usize, (a, b): (Timed, Timed)) {
     println!("| {what} | IPv{family} | {n} | {:.1} | {:.1} | {:.1} | {:.1} | {:.2} |", ns(a.least), ns(a.median), ns(b.least), ns(b.median), b.least / a.least);
 }
 
-/// A pool with these lists, and empty sets up to four.
+const NODES: u32 = 4_194_304;
+
+/// A pool of the most nodes with these lists, and empty sets up to four.
 fn pool(family: u8, lists: &[&List]) -> Vec<u32> {
-    let nodes = 4_194_304;
-    let mut sets: Vec<Set> = lists.iter().map(|&l| Set { share: 0, limit: nodes, list: l.clone() }).collect();
-    while sets.len() < 4 {
-        sets.push(Set { share: 0, limit: nodes, list: List::new() });
-    }
-    let mut w = vec![0u32; 64 + 8 * sets.len() + 8 * nodes as usize];
-    w[..4].copy_from_slice(&[MARK, family as u32, sets.len() as u32, nodes]);
+    let mut sets: Vec<Set> = lists.iter().map(|&l| Set { share: 0, limit: NODES, list: l.clone() }).collect();
+    sets.resize(4, Set { share: 0, limit: NODES, list: List::new() });
+    let mut w = vec![0u32; 64 + 8 * sets.len() + 8 * NODES as usize];
+    w[..4].copy_from_slice(&[MARK, family as u32, sets.len() as u32, NODES]);
     for k in 0..sets.len() {
-        w[66 + 8 * k] = nodes;
+        w[66 + 8 * k] = NODES;
     }
-    encode(&mut w, &State { family, nodes, sets });
+    encode(&mut w, &State { family, nodes: NODES, sets });
     w
 }
 
-/// Runs calls on the pool; each has to be granted.
-fn calls(w: &mut [u32], rows: &mut [u64], list: &[Call], out: &mut [u8]) -> f64 {
-    let mut bytes = vec![];
-    list.iter().for_each(|c| c.put(&mut bytes));
-    let mut r = 0;
-    let t = seconds(|| r = run(w, rows, &bytes, out));
-    assert_eq!(r, 8 * list.len() as u64);
-    assert_eq!(out[0], 0, "{:?}", list[0]);
+/// Runs one call on the pool; it has to be granted.
+fn call(w: &mut [u32], c: &Call) -> f64 {
+    let (mut bytes, mut out, mut r) = (vec![], [0; 64], 0);
+    c.put(&mut bytes);
+    let t = seconds(|| r = run(w, &mut [], &bytes, &mut out));
+    assert_eq!((r, out[0]), (8, 0), "{c:?}");
     t
 }
 
-fn ranges<N: Numbers>(l: &List) -> IpRange<N> {
-    let mut r = IpRange::new();
-    for &m in l {
-        r.add(N::of(m));
+/// Addresses of which each is in a member, or each in none.
+fn queries(d: &mut Dice, w: u8, a: &List, hit: bool) -> Vec<Member> {
+    let members: Vec<Member> = a.iter().copied().collect();
+    let mut q = vec![];
+    while q.len() < QUERIES {
+        let any = ((d.roll() as u128) << 64 | d.roll() as u128) & past(w, 0);
+        let m = d.pick(&members);
+        let beside = if hit { m.1 } else { m.1 ^ 1u128 << (w - m.0 + d.below(4) as u8).min(w - 1) };
+        let x = (w, if hit || d.one_in(2) { beside | any & past(w, m.0) } else { any });
+        if hit || supernet(w, a, x).is_none() {
+            q.push(x);
+        }
     }
-    r
+    q
 }
 
-fn measure<N: Numbers>(family: u8, n: usize, whole: bool) {
-    let w = width(family);
-    let d = &mut Dice(n as u64 + family as u64);
-    let a = table(d, family, n);
-    let r = ranges::<N>(&a);
-    let members: Vec<Member> = a.iter().copied().collect();
-    let mut p = pool(family, &[&a]);
-    let nodes = held(&crate::layout::decode(&p).expect("sound"), 0) as usize;
-    let mut out = vec![0u8; 64 + 28 * QUERIES + 24 * n];
-    let mut rows = vec![0u64; 3 * n];
-
-    let queries = |d: &mut Dice, hit: bool| -> Vec<Member> {
-        let mut q = vec![];
-        while q.len() < QUERIES {
-            let any = ((d.roll() as u128) << 64 | d.roll() as u128) & past(w, 0);
-            let m = members[d.below(n as u64) as usize];
-            if hit {
-                q.push((w, m.1 | any & past(w, m.0)));
-            } else {
-                let beside = m.1 ^ 1u128 << (w - m.0.min(w) + d.below(4) as u8).min(w - 1);
-                let x = (w, beside | any & past(w, m.0));
-                if supernet(w, &a, x).is_none() {
-                    q.push(x);
-                }
-            }
-        }
-        q
-    };
+fn lookups<N: Numbers + Clone>(d: &mut Dice, family: u8, a: &List, p: &[u32], r: &IpRange<N>) {
     for hit in [true, false] {
-        let q = queries(d, hit);
-        let list: Vec<Call> = q.iter().map(|&m| Call { net: net(family, m), ..Call::new(CONTAINS) }).collect();
-        let nets: Vec<N> = q.iter().map(|&m| N::of(m)).collect();
-        let t = turns(|| calls(&mut p, &mut rows, &list, &mut out), || seconds(|| assert_eq!(nets.iter().filter(|x| r.contains(*x)).count() == QUERIES, hit)));
-        row(if hit { "contains, hit" } else { "contains, miss" }, family, n, QUERIES, t);
+        let q = queries(d, width(family), a, hit);
+        let (ours, theirs): (Vec<Net>, Vec<N>) = q.iter().map(|&m| (net(family, m), N::of(m))).unzip();
+        let right = |n: usize| assert_eq!(n, if hit { QUERIES } else { 0 });
+        let t = turns(|| seconds(|| right(ours.iter().filter(|n| contains(p, 0, n) == 1).count())), || seconds(|| right(theirs.iter().filter(|n| r.contains(*n)).count())));
+        row(if hit { "contains, hit" } else { "contains, miss" }, family, a.len(), QUERIES, t);
     }
-    let list = [Call { b: 3 * n as u32, ..Call::new(LIST) }];
+}
+
+/// Lookups, listing, building, saving and the check of one table.
+fn measure<N: Numbers + Clone>(d: &mut Dice, family: u8, a: &List) {
+    let n = a.len();
+    let r = ranges::<N>(a);
+    let mut p = pool(family, &[a]);
+    let nodes = held(&crate::layout::decode(&p).expect("sound"), 0) as usize;
+    lookups(d, family, a, &p, &r);
+    let mut rows = vec![0u64; 3 * n];
     let t = turns(
-        || calls(&mut p, &mut rows, &list, &mut out),
+        || seconds(|| assert_eq!(list(&p, 0, &mut rows), n as u64)),
         || {
             let mut v: Vec<N> = Vec::with_capacity(n);
             seconds(|| v.extend(black_box(&r).iter()))
         },
     );
     row("list / iterate", family, n, n, t);
-    let t = turns(|| calls(&mut p, &mut rows, &[Call::new(FREE)], &mut out), || f64::NAN);
-    println!("| check of the pool, a node | IPv{family} | {n} | {:.2} | {:.2} | | | |", t.0.least * 1e9 / nodes as f64, t.0.median * 1e9 / nodes as f64);
+    let f = file(family, a);
+    let sorted: Vec<N> = a.iter().map(|&m| N::of(m)).collect();
+    let mut out = vec![0u8; f.len()];
+    let empty = pool(family, &[]);
+    let mut w = empty.clone();
+    let t = turns(
+        || {
+            w[..96 + nodes].copy_from_slice(&empty[..96 + nodes]);
+            seconds(|| assert_eq!(load(&mut w, 0, &f), nodes as u64))
+        },
+        || seconds(|| drop(black_box(sorted.iter().cloned().collect::<IpRange<N>>()))),
+    );
+    row("build from file / collect", family, n, n, t);
+    let alone = |what: &str, each: usize, t: (Timed, Timed)| println!("| {what} | IPv{family} | {n} | {:.2} | {:.2} | | | |", t.0.least * 1e9 / each as f64, t.0.median * 1e9 / each as f64);
+    alone("save", n, turns(|| seconds(|| assert_eq!(save(&p, 0, &mut out), f.len() as u64)), || 0.0));
+    alone("check of the pool, a node", nodes, turns(|| call(&mut p, &Call::new(FREE)), || 0.0));
     println!("| nodes a network | IPv{family} | {n} | {:.2} | | | | |", nodes as f64 / n as f64);
-    if whole {
-        combinations::<N>(d, family, n, &a, &r);
-    }
 }
 
-fn combinations<N: Numbers>(d: &mut Dice, family: u8, n: usize, a: &List, r: &IpRange<N>) {
+/// The calls on two tables of one pool.
+fn combinations<N: Numbers + Clone>(d: &mut Dice, family: u8, a: &List) {
+    let n = a.len();
+    let r = ranges::<N>(a);
     let b = second(d, family, a);
     let s = ranges::<N>(&b);
-    let same = ranges::<N>(a);
     let start = pool(family, &[a, &b]);
-    let mut out = vec![0u8; 64];
+    let mut p = start.clone();
     let mut fresh = |code: u8, first: u32, second: u32| {
-        let mut p = start.clone();
-        let to = if code == EQUAL { 0 } else { 2 };
-        let c = if code == EQUAL { Call { a: first, b: second, ..Call::new(code) } } else { Call { a: to, b: first, c: second, ..Call::new(code) } };
-        calls(&mut p, &mut [], &[c], &mut out)
+        p.copy_from_slice(&start);
+        call(&mut p, &Call { a: 2, b: first, c: second, ..Call::new(code) })
     };
-    let all = a.len() + b.len();
+    let all = n + b.len();
     row("merge", family, n, all, turns(|| fresh(MERGE, 0, 1), || seconds(|| drop(black_box(r.merge(&s))))));
     row("intersect", family, n, all, turns(|| fresh(INTERSECT, 0, 1), || seconds(|| drop(black_box(r.intersect(&s))))));
     row("exclude", family, n, all, turns(|| fresh(EXCLUDE, 0, 1), || seconds(|| drop(black_box(r.exclude(&s))))));
     row("copy / clone", family, n, n, turns(|| fresh(EXCLUDE, 0, 3), || seconds(|| drop(black_box(r.clone())))));
-    let twice = pool(family, &[a, a]);
-    let equal = [Call { a: 0, b: 1, ..Call::new(EQUAL) }];
-    row("equality", family, n, n, turns(|| calls(&mut twice.clone(), &mut [], &equal, &mut [0; 64]), || seconds(|| assert!(black_box(r) == black_box(&same)))));
-    row(
-        "simplify",
-        family,
-        n,
-        n,
-        turns(
-            || calls(&mut start.clone(), &mut [], &[Call::new(SIMPLIFY)], &mut [0; 64]),
-            || {
-                let mut x = r.clone();
-                seconds(|| x.simplify())
-            },
-        ),
-    );
+    let same = ranges::<N>(a);
+    let mut twice = pool(family, &[a, a]);
+    let equal = Call { a: 0, b: 1, ..Call::new(EQUAL) };
+    row("equality", family, n, n, turns(|| call(&mut twice, &equal), || seconds(|| assert!(black_box(&r) == black_box(&same)))));
+    let alone = pool(family, &[a]);
+    let ours = || {
+        p.copy_from_slice(&alone);
+        call(&mut p, &Call::new(SIMPLIFY))
+    };
+    let theirs = || {
+        let mut x = r.clone();
+        seconds(|| x.simplify())
+    };
+    row("simplify", family, n, n, turns(ours, theirs));
+}
+
+/// The largest files: as many entries as a file may have, which no pool has nodes for, and the most that one can hold.
+fn files() {
+    let most = NODES as usize;
+    let side = |len: u8| (0..1u128 << len).map(move |k| (len, k << (32 - len)));
+    // below 0 the next 22 bits count, and the length changes with each entry in the order of addresses; below 1 every length there is
+    let mut mixed: Vec<Member> = (0..most as u128 - 127).map(|k| (23 + (k % 106) as u8, k << 105)).collect();
+    mixed.extend((2..=128).map(|len| (len, 1 << 127 | 1 << (128 - len))));
+    mixed.sort();
+    let rows = [
+        ("load of as much as a pool holds, all /21", 4, file_of(4, side(21).collect::<Vec<_>>().into_iter()), 4_194_303),
+        ("load refused 9, all /22", 4, file_of(4, side(22).collect::<Vec<_>>().into_iter()), 9 << 32),
+        ("load refused 9, 127 lengths in turns", 6, file_of(6, mixed.into_iter()), 9 << 32),
+    ];
+    for (what, family, f, answer) in rows {
+        let n = (f.len() - 16) / crate::files::entry_size(family);
+        let empty = pool(family, &[]);
+        let mut w = empty.clone();
+        let mut xs = vec![];
+        for _ in 0..3 {
+            w.copy_from_slice(&empty);
+            xs.push(seconds(|| assert_eq!(load(&mut w, 0, &f), answer)));
+        }
+        let t = timed(xs);
+        println!("| {what} | IPv{family} | {n} | {:.1} | {:.1} | | | |", t.least * 1e9 / n as f64, t.median * 1e9 / n as f64);
+    }
 }
 
 pub fn main() -> bool {
     println!("| what | family | networks | ours, least | ours, median | iprange, least | iprange, median | times |");
     println!("|---|---|---|---|---|---|---|---|");
-    for n in [20_000, 200_000] {
-        measure::<Ipv4Net>(4, n, n == 200_000);
-        measure::<Ipv6Net>(6, n, n == 200_000);
+    let d = &mut Dice(1);
+    let (four, six) = (table(d, 4, 200_000), table(d, 6, 200_000));
+    measure::<Ipv4Net>(d, 4, &four);
+    combinations::<Ipv4Net>(d, 4, &four);
+    measure::<Ipv6Net>(d, 6, &six);
+    // two tables and their union have to fit the most nodes that a pool may have
+    let half = table(d, 6, 100_000);
+    combinations::<Ipv6Net>(d, 6, &half);
+    for n in [20_000, 200_000, 2_000_000] {
+        measure::<Ipv4Net>(d, 4, &(0..n).map(|k| (24, k << 8)).collect());
     }
-    measure::<Ipv4Net>(4, 2_000_000, false);
+    files();
     true
 }

@@ -34,7 +34,7 @@ pub fn script(case: &Case) -> Result<Script, String> {
             _ => {}
         }
         if let (Some(o), Some(st)) = (&mut oracle, &state) {
-            let differs = if a.no == 0 { o.follow(c, &a) } else { None };
+            let differs = if a.no == 0 || c.code == LINES { o.follow(c, &a) } else { None };
             if let Some(what) = differs.or_else(|| o.differs(st)) {
                 return Err(format!("call {i} {c:?}: model {a:?}, {what}"));
             }
@@ -92,7 +92,24 @@ pub fn compare(case: &Case, tally: &mut Tally) -> Option<String> {
         }
         at += 28 + c.answer_tail();
     }
-    None
+    case.calls.iter().find_map(|c| exported(&pool, c))
+}
+
+/// The calls that are exported each for itself, on the words that a case leaves.
+fn exported(words: &[u32], c: &Call) -> Option<String> {
+    let (mut pool, mut model) = (words.to_vec(), words.to_vec());
+    let (mut rows, mut bytes) = (vec![c.c as u64; if c.code == LIST { c.b as usize } else { 0 }], vec![c.c as u8; if c.code == SAVE { c.b as usize } else { 0 }]);
+    let r = match c.code {
+        CONTAINS => contains(&pool, c.a, &c.net),
+        LIST => list(&pool, c.a, &mut rows),
+        SAVE => save(&pool, c.a, &mut bytes),
+        LOAD => load(&mut pool, c.a, &c.tail),
+        _ => return None,
+    };
+    bytes.extend(rows.iter().flat_map(|x| x.to_le_bytes()));
+    let a = apply(&mut model, c);
+    let expected = (a.no as u64) << 32 | (a.x + a.flag as u32) as u64;
+    ((r, &bytes, &pool) != (expected, &a.tail, &model)).then(|| format!("exported {c:?}: answered {r:x} {bytes:?}, expected {a:?}"))
 }
 
 /// A shortest case that still differs, by leaving out one call after the other.
@@ -161,7 +178,8 @@ pub fn damage(d: &mut Dice) -> Case {
                 if c.code == LAYOUT {
                     c = Call::new(FREE);
                 }
-                if !(ADD..=EXCLUDE).contains(&c.code) || x == old {
+                let changes = (ADD..=EXCLUDE).contains(&c.code) || c.code == LOAD || c.code == LINES;
+                if !changes || x == old {
                     c.net.family = state.family;
                     case.calls.push(c);
                 } else {

@@ -1,4 +1,5 @@
-//! What each call has to answer and to leave, by document 01 and docs/CALLS.md: refusals, room, limits, shares, reports, text, damaged memory.
+//! What each call has to answer and to leave, by document 01 and docs/CALLS.md: refusals, room, limits, shares, reports, files, text, damaged memory.
+use crate::files::{file, read_file, read_lines};
 use crate::layout::{decode, encode, header, held, room, State};
 use crate::lists::{self, cleared, width, List, Member};
 use crate::wire::*;
@@ -201,7 +202,7 @@ fn decimal(s: &str, digits: usize, most: u32) -> Option<u32> {
     s.parse().ok().filter(|&n| n <= most)
 }
 
-fn read_line(line: &[u8]) -> Option<Net> {
+pub fn read_line(line: &[u8]) -> Option<Net> {
     let (a, n) = std::str::from_utf8(line).ok()?.split_once('/')?;
     let parts: Vec<u32> = a.split('.').map(|p| decimal(p, 3, 255)).collect::<Option<_>>()?;
     if parts.len() != 4 {
@@ -209,6 +210,49 @@ fn read_line(line: &[u8]) -> Option<Net> {
     }
     let lo = parts.iter().fold(0, |x, &p| x * 256 + p as u64);
     Some(Net { family: 4, hi: 0, lo, len: decimal(n, 2, 32)? as u8 })
+}
+
+fn save(s: &State, c: &Call) -> Answer {
+    let mut out = vec![c.c as u8; c.b as usize];
+    let a = if c.a as usize >= s.sets.len() {
+        Answer::refused(3)
+    } else {
+        let f = file(s.family, &s.sets[c.a as usize].list);
+        answered(if f.len() > out.len() { 11 } else { 0 }, || {
+            out[..f.len()].copy_from_slice(&f);
+            number(f.len() as u32)
+        })
+    };
+    Answer { tail: out, ..a }
+}
+
+fn load(w: &mut [u32], s: State, c: &Call) -> Answer {
+    let (family, list) = read_file(&c.tail).unwrap_or_default();
+    let no = if family == 0 {
+        5
+    } else if family != s.family {
+        6
+    } else if s.sets.get(c.a as usize).is_some_and(|set| !set.list.is_empty()) {
+        8
+    } else {
+        0
+    };
+    change(w, s, c.a, no, |_| list)
+}
+
+/// The lines are added to set 0 up to the first that is refused; of that at most 19 bytes are kept.
+fn lines(w: &mut [u32], c: &Call) -> Answer {
+    let all = read_lines(&c.tail);
+    for (k, line) in all.iter().enumerate() {
+        let no = match read_line(line) {
+            None => 4,
+            Some(net) => apply(w, &Call { net, ..Call::new(ADD) }).no,
+        };
+        if no != 0 {
+            return Answer { no, y: line.len().min(19) as u32, ..number(k as u32 + 1) };
+        }
+    }
+    number(all.len() as u32 + 1)
 }
 
 fn write_line(c: &Call) -> Answer {
@@ -282,6 +326,7 @@ pub fn apply(w: &mut [u32], c: &Call) -> Answer {
         IS_EMPTY => return is_empty(w, c.a),
         READ_LINE => return read_line(&c.tail).map_or(Answer::refused(4), given),
         WRITE_LINE => return write_line(c),
+        LINES => return lines(w, c),
         NEW..=WORDS => return alone(c),
         WRITE_WORDS => {
             for (k, x) in c.tail.chunks_exact(4).enumerate() {
@@ -298,7 +343,11 @@ pub fn apply(w: &mut [u32], c: &Call) -> Answer {
         _ => {}
     }
     let Some(s) = decode(w) else {
-        let tail = if c.code == LIST { vec![c.c as u64; c.b as usize].iter().flat_map(|r| r.to_le_bytes()).collect() } else { vec![] };
+        let tail = match c.code {
+            LIST => vec![c.c as u64; c.b as usize].iter().flat_map(|r| r.to_le_bytes()).collect(),
+            SAVE => vec![c.c as u8; c.b as usize],
+            _ => vec![],
+        };
         return Answer { tail, ..Answer::refused(2) };
     };
     let (f, k) = (s.family, c.a as usize);
@@ -318,6 +367,10 @@ pub fn apply(w: &mut [u32], c: &Call) -> Answer {
             answered(if known && j < s.sets.len() { 0 } else { 3 }, || told(s.sets[k].list == s.sets[j].list))
         }
         LIST => list(&s, c),
+        SAVE => save(&s, c),
+        LOAD => load(w, s, c),
+        NTH => answered(if known { 0 } else { 3 }, || found(f, s.sets[k].list.iter().nth(c.b as usize).copied())),
+        LAST => answered(if known { 0 } else { 3 }, || found(f, s.sets[k].list.last().copied())),
         NEXT => next(&s, c),
         code => panic!("no call has the code {code}"),
     }

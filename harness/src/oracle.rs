@@ -1,7 +1,8 @@
 //! The Rust crate iprange beside the model: one IpRange for each set, changed by each granted call.
 use crate::layout::State;
+use crate::files::{read_file, read_lines};
 use crate::lists::{List, Member};
-use crate::model::address;
+use crate::model::{address, read_line};
 use crate::wire::*;
 use ipnet::{Ipv4Net, Ipv6Net};
 use iprange::{IpNet, IpRange};
@@ -30,6 +31,15 @@ impl Numbers for Ipv6Net {
     }
 }
 
+/// The members one after the other; `collect` would simplify.
+pub fn ranges<N: Numbers + Clone>(l: &List) -> IpRange<N> {
+    let mut r = IpRange::new();
+    l.iter().for_each(|&m| {
+        r.add(N::of(m));
+    });
+    r
+}
+
 pub struct Ranges<N: Numbers>(Vec<IpRange<N>>);
 
 pub enum Oracle {
@@ -42,7 +52,7 @@ impl Oracle {
         if family == 4 { Oracle::Four(Ranges::new(sets)) } else { Oracle::Six(Ranges::new(sets)) }
     }
 
-    /// Follows a granted call; what it says beside the answer, where the two differ.
+    /// Follows a granted call, and the lines that were added before one was refused; what it says beside the answer, where the two differ.
     pub fn follow(&mut self, c: &Call, a: &Answer) -> Option<String> {
         match self {
             Oracle::Four(r) => r.follow(c, a),
@@ -79,6 +89,13 @@ impl<N: Numbers + Clone> Ranges<N> {
             MERGE => self.0[i] = self.0[j].merge(&self.0[k]),
             INTERSECT => self.0[i] = self.0[j].intersect(&self.0[k]),
             EXCLUDE => self.0[i] = self.0[j].exclude(&self.0[k]),
+            LOAD => self.0[i] = ranges(&read_file(&c.tail).unwrap().1),
+            LINES => {
+                for line in &read_lines(&c.tail)[..a.x as usize - 1] {
+                    let m = read_line(line).unwrap();
+                    self.0[0].add(N::of((m.len, address(&m))));
+                }
+            }
             CONTAINS => return said(self.0[i].contains(&n())),
             IS_EMPTY => return said(self.0[i].is_empty()),
             EQUAL => return said(self.0[i] == self.0[j]),

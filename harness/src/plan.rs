@@ -1,6 +1,7 @@
 //! Seeded sequences of calls: several sets, both families, dense small universes and wide ones, networks around the ends of the words, and arguments that are wrong.
+use crate::files::{file, file_of};
 use crate::layout::State;
-use crate::lists::{cleared, width, Member};
+use crate::lists::{self, cleared, width, List, Member};
 use crate::model::net;
 use crate::wire::*;
 
@@ -35,6 +36,7 @@ pub enum Universe {
 
 const EDGES: [u8; 11] = [0, 1, 2, 31, 32, 33, 63, 64, 65, 127, 128];
 
+#[derive(Clone)]
 pub struct Plan {
     pub family: u8,
     pub universe: Universe,
@@ -144,13 +146,67 @@ impl Plan {
         s
     }
 
+    /// The file of a list of the pool, or of another one; most are broken in one place.
+    fn file(&self, d: &mut Dice, s: &State) -> Vec<u8> {
+        let family = if d.one_in(20) { 10 - self.family } else { self.family };
+        let mut l = s.sets[d.below(s.sets.len() as u64) as usize].list.clone();
+        if d.one_in(2) || family != self.family {
+            l = (0..d.below(12)).fold(List::new(), |l, _| lists::add(width(family), &l, Plan { family, ..self.clone() }.member(d)));
+        }
+        let mut f = file(family, &l);
+        match d.below(8) {
+            0 => {
+                let at = d.below(f.len() as u64) as usize;
+                f[at] ^= 1 << d.below(8);
+            }
+            1 => {
+                let at = d.below(16) as usize;
+                f[at] = d.pick(&[0, 1, 4, 6, 16, 64, 255]);
+            }
+            2 => f.truncate(d.below(f.len() as u64) as usize),
+            3 => f.push(d.below(256) as u8),
+            4 => {
+                // one entry more, anywhere: most often out of order or inside another
+                let mut m: Vec<Member> = l.iter().copied().collect();
+                let more = if m.is_empty() || d.one_in(2) { self.member(d) } else { d.pick(&m) };
+                m.insert(d.below(m.len() as u64 + 1) as usize, (more.0.min(width(family)), more.1));
+                f = file_of(family, m.into_iter());
+            }
+            _ => {}
+        }
+        f
+    }
+
+    /// Some lines, most of them networks of the plan.
+    fn lines(&self, d: &mut Dice) -> Vec<u8> {
+        let mut s = vec![];
+        for _ in 0..d.below(6) {
+            if d.one_in(5) {
+                s.extend(self.line(d));
+            } else {
+                let m = self.member(d);
+                s.extend(format!("{}.{}.{}.{}/{}", m.1 >> 24 & 255, m.1 >> 16 & 255, m.1 >> 8 & 255, m.1 & 255, m.0.min(32)).bytes());
+            }
+            s.push(b'\n');
+        }
+        if d.one_in(3) {
+            s.pop();
+        }
+        s
+    }
+
     /// One call, in the state that the words have.
     pub fn call(&self, d: &mut Dice, s: &State) -> Call {
         let (a, b, c) = (self.set(d), self.set(d), self.set(d));
         let net = self.net(d, s);
         let code = match d.below(100) {
-            0..=29 => ADD,
-            30..=41 => REMOVE,
+            0..=19 => ADD,
+            20..=22 => SAVE,
+            23..=26 => LOAD,
+            27..=29 => LINES,
+            30..=31 => NTH,
+            32 => LAST,
+            33..=41 => REMOVE,
             42..=46 => SIMPLIFY,
             47..=51 => MERGE,
             52..=56 => INTERSECT,
@@ -184,6 +240,23 @@ impl Plan {
                 call.c = d.roll() as u32;
             }
             NEXT => call.b = d.below(4) as u32,
+            NTH => call.b = d.below(10) as u32,
+            SAVE => {
+                let size = s.sets.get(a as usize).map_or(16, |set| file(self.family, &set.list).len() as u32);
+                call.b = d.pick(&[size, size + 1, size - 1, size + 40, 0, 15]);
+                call.c = d.roll() as u32;
+            }
+            LOAD => {
+                let empty: Vec<u32> = (0..self.sets).filter(|&k| s.sets[k as usize].list.is_empty()).collect();
+                if !empty.is_empty() && !d.one_in(6) {
+                    call.a = d.pick(&empty);
+                }
+                call.tail = self.file(d, s);
+            }
+            LINES => {
+                call.tail = self.lines(d);
+                call.b = d.below(call.tail.len() as u64 + 3) as u32;
+            }
             READ_LINE => call.tail = self.line(d),
             WRITE_LINE => {
                 call.b = d.below(24) as u32;
