@@ -1,8 +1,8 @@
 // The leading bits that two networks have in common.
 ghost use mathlib.Core.Path.{_≡_};
-ghost use Prim.Native.Nat.{ℕ, _/_, _^_, _≤_, _<_};
-ghost use lib.Dec.{eqb};
-ghost use Rattle.nets.specs.Networks.{width, address, netBits, refusalOf};
+ghost use Prim.Native.Nat.{ℕ, _≤_};
+ghost use lib.Count.{leadingZeros};
+ghost use Rattle.nets.specs.Networks.{width, value, netBits, refusalOf};
 ghost use Rattle.files.specs.Streams.{shared};
 use nets::Net;
 
@@ -13,15 +13,14 @@ fn width(family: u8) -> u8
     if family == 4 { 32 } else { 128 }
 }
 
-// Whether the addresses are the same but for their s low bits.
-fn same_above(a: Net, b: Net, s: u8) -> bool
-    requires { ⌜ s < 128 ⌝ }
-    ensures { λ r. ⌜ r ≡ eqb (address a / 2 ^ s) (address b / 2 ^ s) ⌝ }
+// How many leading zeros the number of two words has.
+fn zeros(hi: u64, lo: u64) -> u8
+    ensures { λ r. ⌜ r ≡ leadingZeros 128 (value hi lo) ⌝ }
 {
-    if s < 64 {
-        return a.hi == b.hi && a.lo >> s == b.lo >> s;
+    if hi == 0 {
+        return 64 + u64::leading_zeros(lo) as u8;
     }
-    a.hi >> (s - 64) == b.hi >> (s - 64)
+    u64::leading_zeros(hi) as u8
 }
 
 // The smaller of two lengths.
@@ -31,21 +30,11 @@ fn smaller(a: u8, b: u8) -> u8
     if a < b { a } else { b }
 }
 
-// How many leading bits the networks share, by halving what is open.
+// How many leading bits the networks share: their addresses differ first where the exclusive or of the two has its highest set bit.
 pub fn shared(a: Net, b: Net) -> u8
     requires { ⌜ (a .family ≡ b .family) × ((refusalOf a ≡ 0) × (refusalOf b ≡ 0)) ⌝ }
     ensures { λ r. ⌜ r ≡ shared (netBits a) (netBits b) ⌝ }
 {
-    let w = width(a.family);
-    let mut low = 0;
-    let mut high = smaller(a.len, b.len);
-    while low < high {
-        let mid = high - (high - low) / 2;
-        if same_above(a, b, w - mid) {
-            low = mid;
-        } else {
-            high = mid - 1;
-        }
-    }
-    low
+    let same = zeros(a.hi ^ b.hi, a.lo ^ b.lo) - (128 - width(a.family));
+    smaller(same, smaller(a.len, b.len))
 }
