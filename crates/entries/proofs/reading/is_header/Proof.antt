@@ -19,7 +19,7 @@ is-header-spec =
     (λ c. header-many _ (rw (← c .before .number2 .ensures) (omega arith)))
     (λ c κs. search needs)
     (λ c. search needs)
-    (λ c. header-offset _ (rw (← c .before .number3 .ensures) (c .if4 .taken)))
+    (λ c. header-offset _ (λ e. absurd (omega (arith, c .before .number3 .ensures))))
     (λ c κs. search needs)
     (λ c. search needs)
     (λ c. header-length _ (rw (← c .before .number4 .ensures) (c .if5 .taken)))
@@ -32,4 +32,4 @@ is-header-spec =
     let family = s2 .before .before .number .ensures in
     rw (c .file-bytes .ensures, family, s3 .before .number2 .ensures)
     (header-is _ (rw (← family) (sym (s2 .before .is-family .ensures) ∙ not-false _ (s2 .if2 .left)))
-    (rw (← s3 .before .number2 .ensures) (omega arith)) (sym (s4 .before .number3 .ensures) ∙ s4 .if4 .left) (sym (s5 .before .number4 .ensures) ∙ s5 .if5 .left))))
+    (rw (← s3 .before .number2 .ensures) (omega arith)) (omega (arith, s4 .before .number3 .ensures)) (sym (s5 .before .number4 .ensures) ∙ s5 .if5 .left))))

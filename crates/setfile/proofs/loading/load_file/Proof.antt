@@ -1,5 +1,6 @@
 -- `loading::load_file` meets its contract, each return by the tests on the way to it. Assumes nothing.
 use denote.Ref.{now}
+use native.Mathlib.Omega.{arith}
 use borrow.Author.Needs.{needs}
 use Rattle.setfile.specs.LoadSteps.{Ready}
 use Rattle.setfile.proofs.Loads.{load-many, load-refused, load-writes, load-relinks, load-granted}
@@ -21,12 +22,12 @@ load-file-spec =
     (λ c. search needs)
     (λ c. search needs)
     (λ c κs. ready (c .before .before) .surveyed)
-    (λ c κs. load-many (ready (c .before .before .before .before)) (c .before .judge .ensures) (c .if1 .taken))
+    (λ c κs. load-many (ready (c .before .before .before .before)) (c .before .judge .ensures) (omega arith))
     (λ c. search needs)
-    (λ c. load-refused (ready (c .before .before .before .before .before)) (c .before .before .judge .ensures) (c .before .if1 .taken) (c .too-many .ensures))
-    (λ c κs. (_, load-writes (ready (c .before .before .before .before .before)) (c .before .before .judge .ensures) (c .before .if1 .left)))
-    (λ c κs. load-relinks (ready (c .before .before .before .before .before .before .before .before .before)) (c .before .before .before .before .before .before .judge .ensures) (c .before .before .before .before .before .if1 .left) (c .before .before .before .write .ensures))
+    (λ c. load-refused (ready (c .before .before .before .before .before)) (c .before .before .judge .ensures) (omega arith) (c .too-many .ensures))
+    (λ c κs. (_, load-writes (ready (c .before .before .before .before .before)) (c .before .before .judge .ensures) (omega arith)))
+    (λ c κs. load-relinks (ready (c .before .before .before .before .before .before .before .before .before)) (c .before .before .before .before .before .before .judge .ensures) (omega arith) (c .before .before .before .write .ensures))
     (λ c. search needs)
     (λ c. rw (c .before .asked .given .1) at (c .before .before .before .ask .ensures))
     (λ c. search needs)
-    (λ c. load-granted (ready (c .before .before .before .before .before .before .before .before .before .before .before .before)) (c .before .before .before .before .before .before .before .before .before .judge .ensures) (c .before .before .before .before .before .before .before .before .if1 .left) (c .before .before .before .before .before .before .write .ensures) (c .before .before .granted .ensures)))
+    (λ c. load-granted (ready (c .before .before .before .before .before .before .before .before .before .before .before .before)) (c .before .before .before .before .before .before .before .before .before .judge .ensures) (omega arith) (c .before .before .before .before .before .before .write .ensures) (c .before .before .granted .ensures)))
