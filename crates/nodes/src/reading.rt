@@ -17,16 +17,27 @@ pub fn word_at(w: &[u32], b: usize, n: u32, i: u32) -> u32
     w[b + (k - 1)]
 }
 
-// The number after the trie that starts at node root, at most fuel deep and within n nodes, or 0 where there is none. The second children still to come are on a stack, each with the fuel
-// that it is to be read with.
+// y where the test holds, else 0.
+fn when(test: bool, y: usize) -> usize
+    ensures { λ r. ⌜ r ≡ cond test y 0 ⌝ }
+{
+    if test {
+        return y;
+    }
+    0
+}
+
+// The number after the trie that starts at node root, at most fuel deep and within n nodes, or 0 where there is none. The second children still to come are on a stack, the entries from 1 to
+// below sp, each with the fuel that it is to be read with. A processor cannot predict which kind of node comes next, so every turn makes the same stores and loads, as if for two children,
+// and only sp tells the kinds apart: two children move it up, a leaf moves it down, and at 0 all is read. The next node's fuel then stands at sp.
 pub fn trie_end(w: &[u32], b: usize, n: u32, fuel: u32, root: u32) -> u32
     requires { ⌜ Room (now w) b n ⌝ }
     requires { ⌜ (1 ≤ root) × (fuel ≤ 129) ⌝ }
     ensures { λ r. ⌜ r ≡ after root (parse (now (w .entry)) b n fuel root) ⌝ }
 {
-    let mut ats = [0u32; 129];
-    let mut fuels = [0u32; 129];
-    let mut sp: usize = 0;
+    let mut ats = [0u32; 131];
+    let mut fuels = [0u32; 131];
+    let mut sp: usize = 1;
     let mut i = root;
     let mut f = fuel;
     loop {
@@ -37,28 +48,22 @@ pub fn trie_end(w: &[u32], b: usize, n: u32, fuel: u32, root: u32) -> u32
             return 0;
         }
         let x = word_at(w, b, n, i);
-        let at = i;
+        ats[sp] = i + x / 2;
+        fuels[sp] = f - 1;
+        fuels[sp + 1] = f - 1;
         i += 1;
-        if x == 0 {
-            if sp == 0 {
-                return i;
-            }
-            sp -= 1;
-            if ats[sp] != i {
-                return 0;
-            }
-            f = fuels[sp];
-        } else {
-            f -= 1;
-            if 2 < x {
-                if x % 2 == 0 {
-                    return 0;
-                }
-                ats[sp] = at + x / 2;
-                fuels[sp] = f;
-                sp += 1;
-            }
+        let leaf = when(x == 0, 1);
+        let two = when(2 < x, 1);
+        sp = sp + two - leaf;
+        if sp == 0 {
+            return i;
         }
+        let off = when(ats[sp] != i, leaf);
+        let even = when(x % 2 == 0, two);
+        if even + off != 0 {
+            return 0;
+        }
+        f = fuels[sp];
     }
 }
 

@@ -1,10 +1,10 @@
--- `trie::trie_end` meets its contract. The loop's invariant: what the stack makes of the end of the part now read is the answer. Assumes nothing.
+-- `reading::trie_end` meets its contract. The loop's invariant: what the stack makes of the end of the part now read is the answer. Assumes nothing.
 use denote.Ref.{now}
-use mathlib.Core.Path.{_≡_}
-use Prim.Native.Nat.{suc, _+_, _-_}
+use Prim.Native.Nat.{suc, _+_, _-_, _/_}
+use native.Mathlib.Omega.{arith}
+use lib.ListN.{getD, set}
 use borrow.Author.Needs.{needs}
-use Rattle.nodes.specs.Parse.{parse, after}
-use Rattle.nodes.proofs.Check.{Known, Loop, unwind, end-dry, end-past, leaf-end, single-end, even-end, gone, done, elsewhere, popped, single, pushed}
+use Rattle.nodes.proofs.Check.{Known, Flags, Faults, Loop, unwind, end-dry, end-past, flags-small, faults-small, gone, done, refused, onward}
 use Rattle.nodes.proofs.reading.trie_end.Statement.{statement}
 use Rattle.nodes.proofs.reading.trie_end.Tie as tie
 
@@ -20,11 +20,16 @@ known : (c : tie.After-word-at Inv-loop μ-loop) →
     Known (now (a .w)) (a .b) (a .n) (o .f) (o .i) (c .word-at .result)
 known c = record { fuel = c .before .before .if1 .left; within = c .before .if2 .left; here = c .word-at .ensures }
 
-leaf : (c : tie.Then3 Inv-loop μ-loop) →
-    let a = c .before .before .before .before .before .before .args in
-    let o = c .before .before .before .before .loop in
-    o .i + 1 ≡ after (o .i) (parse (now (a .w)) (a .b) (a .n) (o .f) (o .i))
-leaf c = leaf-end (known (c .before)) (c .if3 .taken)
+flags : (c : tie.After-when2 Inv-loop μ-loop) → Flags (c .before .before .word-at .result) (c .before .when .result) (c .when2 .result)
+flags c = record { none = c .before .when .ensures; both = c .when2 .ensures }
+
+faults : (c : tie.After-when4 Inv-loop μ-loop) →
+    let t = c .before .before .before in
+    let l = t .before .before .before .before .before .loop in
+    let x = t .before .before .word-at .result in
+    let sp = l .sp + t .when2 .result - t .before .when .result in
+    Faults x (t .before .when .result) (t .when2 .result) (getD (set (l .ats) (l .sp) (l .i + x / 2)) sp 0) (l .i + 1) (c .when4 .result) (c .before .when3 .result)
+faults c = record { evens = c .when4 .ensures; apart = c .before .when3 .ensures }
 
 loop-holds : tie.Need-loop-holds Inv-loop μ-loop
 unfolding unwind
@@ -41,17 +46,6 @@ trie-end-spec =
     (λ c. gone (c .before .before .loop .inv) (end-past _ _ _ _ _ (c .if2 .taken)))
     (λ c κs. search needs)
     (λ c. search needs)
-    (λ c. done (c .before .before .before .before .before .loop .inv) (c .if4 .taken) (leaf (c .before)))
-    (λ c. search needs)
-    (λ c. search needs)
-    (λ c. search needs)
-    (λ c. elsewhere (c .before .before .before .before .before .before .loop .inv) (c .before .if4 .left) (leaf (c .before .before)) (c .if5 .taken))
-    (λ c. search needs)
-    (λ c. search needs)
-    (λ c. search needs)
-    (λ c. popped (c .before .before .before .before .before .before .loop .inv) (c .before .if4 .left) (leaf (c .before .before)) (c .if5 .left))
-    (λ c. search needs)
-    (λ c. gone (c .before .before .before .before .before .before .loop .inv) (even-end (known (c .before .before .before)) (c .before .if6 .taken) (c .if7 .taken)))
     (λ c. search needs)
     (λ c. search needs)
     (λ c. search needs)
@@ -59,6 +53,21 @@ trie-end-spec =
     (λ c. search needs)
     (λ c. search needs)
     (λ c. search needs)
-    (λ c. pushed (c .before .before .before .before .before .before .loop .inv) (known (c .before .before .before)) (search needs) (c .before .if6 .taken) (c .if7 .left))
     (λ c. search needs)
-    (λ c. single (c .before .before .before .before .before .loop .inv) (c .before .before .before .before .if1 .left) (single-end (known (c .before .before)) (c .before .if3 .left) (c .if6 .left))))
+    (λ c. search needs)
+    (λ c. search needs)
+    (λ c κs. search needs)
+    (λ c κs. search needs)
+    (λ c. omega (arith, flags-small (flags c)))
+    (λ c. omega (arith, flags-small (flags c)))
+    (λ c. done (c .before .before .before .before .before .before .loop .inv) (known (c .before .before .before)) (flags (c .before)) (c .if3 .taken))
+    (λ c. omega (arith, flags-small (flags (c .before))))
+    (λ c. omega (arith, flags-small (flags (c .before))))
+    (λ c κs. search needs)
+    (λ c κs. search needs)
+    (λ c. omega (arith, flags-small (flags (c .before .before .before)), faults-small (faults c)))
+    (λ c. let t = c .before .before .before .before in refused (t .before .before .before .before .before .loop .inv) (known (t .before .before)) (flags t) (c .before .before .before .if3 .left) (faults (c .before)) (c .if4 .taken))
+    (λ c. omega (arith, flags-small (flags (c .before .before .before .before))))
+    (λ c. omega (arith, flags-small (flags (c .before .before .before .before))))
+    (λ c. search needs)
+    (λ c. let t = c .before .before .before .before in onward (t .before .before .before .before .before .loop .inv) (known (t .before .before)) (flags t) (c .before .before .before .if3 .left) (faults (c .before)) (search needs) (c .if4 .left)))
