@@ -19,6 +19,7 @@ pub mod following;
 pub mod halves;
 pub mod lengths;
 mod places;
+pub mod preorder;
 pub mod rows;
 pub mod seats;
 
