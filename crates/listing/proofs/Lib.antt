@@ -7,6 +7,7 @@ pub mod Counting
 pub mod Stacks
 pub mod Tallying
 pub mod Placing
+pub mod Turns
 pub mod RowForm
 pub mod Resuming
 pub mod Calls
