@@ -31,8 +31,9 @@ use Rattle.pool.proofs.Header.{isHeader-header}
 use Rattle.pool.proofs.Decoded.{decode-header, decode-set}
 use Rattle.pool.proofs.Seen.{Seen, trieAt, behind, survey-sound, survey-damaged, survey-seen, seen-header, seen-segment, seen-list}
 use Rattle.listing.specs.Rows.{rowsOf}
-use Rattle.listing.specs.Spans.{Spans, Holds}
+use Rattle.listing.specs.Spans.{Holds}
 use Rattle.listing.specs.Seats.{seatAt, Sits, Refuses, Seats}
+use Rattle.listing.specs.Laying.{rowForm, tallied, clear, Starts, Layable, laid}
 use Rattle.listing.specs.Calls.{listNo, listRule, rowsAfter, Listed, placeFrom, nothing, foundAs, nextNo, nextRule}
 use Rattle.listing.specs.Following.{placeOf, nextAs}
 use Rattle.listing.specs.Places.{Numbers, Right}
@@ -46,6 +47,7 @@ use Rattle.listing.specs.declared.seats.Seat.{Seat}
 use Rattle.listing.specs.declared.seats.Seated.the-variants.{Refused}
 use Rattle.listing.proofs.Reading.{spans-small}
 use Rattle.listing.proofs.Counting.{listOf-size}
+use Rattle.listing.proofs.RowForm.{rows-laid}
 use Rattle.pool.proofs.Returns.{netNo-own, netNo-other}
 
 -- Where the trie of a set stands.
@@ -101,15 +103,16 @@ pub list-refused : {w v : List ℕ} {k : ℕ} (x : Refusal) → Seats w k (Refus
 list-refused {w} {v} {k} x e =
     record { answer = listRule-refused (decode w) k (length v) (number x) e; rows = rowsAfter-refused (decode w) k (number x) v e }
 
-module _ {w : List ℕ} {k : ℕ} {S : State} {s : Seat} (h : Sits w k S s) {n : ℕ} (c : (t : Trie) → Spans w (s .base) (s .first) (s .end) t → n ≡ length (listOf t)) where
+module _ {w : List ℕ} {k : ℕ} {S : State} {s : Seat} (h : Sits w k S s) {n : ℕ} (c : n ≡ length (listOf (trieAt S k))) where
   counted : n ≡ length (listAt S k)
-  counted = c (trieAt S k) (h .holds .stands) ∙ ap length (h .list)
+  counted = c ∙ ap length (h .list)
 
   pub list-few : n < 1073741824
-  list-few = omega (arith, c (trieAt S k) (h .holds .stands), listOf-size (trieAt S k), h .holds .stands .is .end, spans-small (h .holds .stands))
+  list-few = omega (arith, listOf-size (trieAt S k), h .holds .stands .is .end, spans-small (h .holds .stands))
 
-  pub list-room : {m : ℕ} → 3 * n ≤ m → 3 * length (listOf (trieAt S k)) ≤ m
-  list-room le = omega (arith, c (trieAt S k) (h .holds .stands))
+  pub list-layable : {m : ℕ} {c₀ c₁ : List ℕ} → c₀ ≡ tallied 0 (trieAt S k) clear → Starts c₀ c₁ → 3 * n ≤ m
+      → Layable (rowForm (s .family)) w (s .base) (s .first) (s .end) (s .family) c₁ m (trieAt S k)
+  list-layable e q le = record { holds = h .holds; starts = rw e at q; fits = omega arith }
 
   pub list-short : {v : List ℕ} → length v < 3 * n → Listed w k v (answer.Refused ShortBuffer) v
   unfolding listRule rowsAfter listNo
@@ -118,15 +121,12 @@ module _ {w : List ℕ} {k : ℕ} {S : State} {s : Seat} (h : Sits w k S s) {n :
       let m = lt-leb (3 * length (listAt S k)) (length v) (rw counted at lt) in
       record { answer = rw (h .decoded, l, m); rows = rw (h .decoded, l, m) }
 
-  pub list-granted : {v u : List ℕ} → 3 * n ≤ length v
-      → ((t : Trie) → Holds w (s .base) (s .first) (s .end) (s .family) t → 3 * length (listOf t) ≤ length v → u ≡ put v 0 (rowsOf (s .family) (listOf t)))
-      → Listed w k v (answer.Granted n) u
+  pub list-granted : {v u : List ℕ} → 3 * n ≤ length v → u ≡ laid (rowForm (s .family)) v (trieAt S k) → Listed w k v (answer.Granted n) u
   unfolding listRule rowsAfter listNo
   list-granted {v} {u} le f =
       let l = lt-ltb k (length (S .sets)) (h .known) in
-      let r : 3 * length (listAt S k) ≤ length v = rw counted at le in
-      let m = le-leb (3 * length (listAt S k)) (length v) r in
-      let g : u ≡ put v 0 (rowsOf (S .family) (listAt S k)) = rw (h .list, h .family) at (f (trieAt S k) (h .holds) (rw (h .list) r)) in
+      let m = le-leb (3 * length (listAt S k)) (length v) (rw counted at le) in
+      let g : u ≡ put v 0 (rowsOf (S .family) (listAt S k)) = rw (h .list, h .family) at (f ∙ rows-laid (s .family) (trieAt S k) v) in
       record { answer = rw (h .decoded, l, m) (ap (λ x. (0, x)) counted); rows = rw (h .decoded, l, m) g }
 
 -- A place as an argument.

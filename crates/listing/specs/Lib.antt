@@ -4,5 +4,6 @@ pub mod Calls
 pub mod Spans
 pub mod Seats
 pub mod Laying
+pub mod Preorder
 pub mod Following
 pub mod Places

@@ -88,8 +88,7 @@ fn from_length(w: &[u32], b: usize, i: usize, e: usize, family: u8, k: usize) ->
     requires { ⌜ ((t : Trie) × Holds (now w) b i e family t) ⌝ }
     ensures { λ r. ⌜ ((t : Trie) → Holds (now (w .entry)) b i e family t → r ≡ nextAs family (firstOf (above (129 - k) k t))) ⌝ }
 {
-    let mut counts = [0usize; 129];
-    lengths::tally(w, b, i, e, 0, &mut counts);
+    let counts = lengths::tally(w, b, i, e);
     let n = lengths::next_length(&counts, k);
     if n == 129 {
         return Next::End;

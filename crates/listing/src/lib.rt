@@ -2,12 +2,13 @@
 // following::next_after, which asks in its contract that a trie stands where it is to read one.
 use following::Next;
 use following::next_after;
+use lengths::starts;
+use lengths::tally;
 use nets::Net;
 use nets::Refusal;
 use places::Placed;
 use places::place_of;
 use pool::Answer;
-use rows::count;
 use rows::write_rows;
 use seats::Seated;
 use seats::seat_of;
@@ -19,6 +20,7 @@ pub mod following;
 pub mod halves;
 pub mod lengths;
 mod places;
+pub mod preorder;
 pub mod rows;
 pub mod seats;
 
@@ -44,11 +46,12 @@ pub fn list(pool: &[u32], set: u32, rows: &mut [u64]) -> Answer
     match seated {
         Seated::Refused(no) => Answer::Refused(no),
         Seated::At(s) => {
-            let n = count(pool, s.base, s.first, s.end);
+            let mut next = tally(pool, s.base, s.first, s.end);
+            let n = starts(&mut next);
             if rows.len() < 3 * n {
                 return Answer::Refused(Refusal::ShortBuffer);
             }
-            write_rows(pool, s.base, s.first, s.end, s.family, rows);
+            write_rows(pool, s.base, s.first, s.end, s.family, &mut next, rows);
             Answer::Granted(n as u32)
         }
     }

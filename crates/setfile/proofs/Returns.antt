@@ -7,7 +7,7 @@ use lib.ListN.{length}
 use borrow.Author.Tests.{lt-ltb, le-ltb, le-leb, lt-leb}
 use Rattle.nets.specs.Networks.{width}
 use Rattle.nets.specs.Refusals.{number}
-use Rattle.nets.specs.Tries.{Trie, listOf, trieOf}
+use Rattle.nets.specs.Tries.{listOf, trieOf}
 use Rattle.nets.specs.declared.Refusal.{Refusal}
 use Rattle.nets.specs.declared.Refusal.the-variants.{ShortBuffer}
 use Rattle.nodes.specs.Words.{put}
@@ -19,13 +19,14 @@ use Rattle.pool.proofs.Claims.{isState-claimed, claimedBut-is}
 use Rattle.pool.proofs.Header.{isHeader-header}
 use Rattle.pool.proofs.Holds.{set-size}
 use Rattle.pool.proofs.Decoded.{decode-header, decode-state, decode-set}
-use Rattle.listing.specs.Spans.{Spans, Holds}
+use Rattle.listing.specs.Laying.{tallied, clear, Starts}
 use Rattle.listing.specs.Seats.{Sits, Refuses, Seats}
 use Rattle.listing.specs.declared.seats.Seat.{Seat}
 use Rattle.listing.specs.declared.seats.Seated.the-variants.{Refused}
 use Rattle.listing.proofs.Counting.{listOf-size}
 use Rattle.files.specs.Files.{fileBytes, mostEntries, fileOf}
 use Rattle.files.proofs.Written.{length-fileOf, fileBytes-few}
+use Rattle.setfile.specs.Saving.{Writable}
 use Rattle.setfile.specs.Calls.{fileAt, saveNo, saveRule, bytesAfter, Saved}
 
 saveRule-refused : (d : Decoded) (k n x : ℕ) → Refuses d k x → (x, 0) ≡ saveRule d k n
@@ -56,9 +57,9 @@ decode-few w S e k lt q =
       decode-header w S e .nodes,
     )
 
-module _ {w : List ℕ} {k : ℕ} {S : State} {s : Seat} (h : Sits w k S s) {n : ℕ} (c : (t : Trie) → Spans w (s .base) (s .first) (s .end) t → n ≡ length (listOf t)) where
+module _ {w : List ℕ} {k : ℕ} {S : State} {s : Seat} (h : Sits w k S s) {n : ℕ} (c : n ≡ length (listOf (trieOf (listAt S k)))) where
   counted : n ≡ length (listAt S k)
-  counted = c (trieOf (listAt S k)) (h .holds .stands) ∙ ap length (h .list)
+  counted = c ∙ ap length (h .list)
 
   pub save-few : n ≤ mostEntries
   save-few = rw counted (decode-few w S (h .decoded) k (h .known) (h .list))
@@ -77,14 +78,13 @@ module _ {w : List ℕ} {k : ℕ} {S : State} {s : Seat} (h : Sits w k S s) {n :
         let g = lt-leb (length (fileAt S k)) (length v) (rw sized at lt) in
         record { answer = rw (h .decoded, l, g); bytes = rw (h .decoded, l, g) }
 
-    pub save-granted : {v u : List ℕ} → m ≤ length v
-        → ((t : Trie) → Holds w (s .base) (s .first) (s .end) (s .family) t → n ≡ length (listOf t) → n ≤ mostEntries → fileBytes (s .family) n ≤ length v
-        → u ≡ put v 0 (fileOf (s .family) (listOf t)))
-        → Saved w k v (answer.Granted m) u
+    pub save-writable : {r : ℕ} {c₀ c₁ : List ℕ} → c₀ ≡ tallied 0 (trieOf (listAt S k)) clear → Starts c₀ c₁ → m ≤ r → Writable w (s .base) (s .first) (s .end) (s .family) n c₁ r (trieOf (listAt S k))
+    save-writable e o le = record { holds = h .holds; count = c; few = save-few; starts = rw e at o; fits = rw q at le }
+
+    pub save-granted : {v u : List ℕ} → m ≤ length v → u ≡ put v 0 (fileOf (s .family) (listOf (trieOf (listAt S k)))) → Saved w k v (answer.Granted m) u
     unfolding saveRule bytesAfter saveNo
     save-granted {v} {u} le f =
         let l = lt-ltb k (length (S .sets)) (h .known) in
         let g = le-leb (length (fileAt S k)) (length v) (rw sized at le) in
-        let t = trieOf (listAt S k) in
-        let r : u ≡ put v 0 (fileAt S k) = rw (h .list, h .family) at (f t (h .holds) (c t (h .holds .stands)) save-few (rw q at le)) in
+        let r : u ≡ put v 0 (fileAt S k) = rw (h .list, h .family) at f in
         record { answer = rw (h .decoded, l, g) (ap (λ x. (0, x)) sized); bytes = rw (h .decoded, l, g) r }

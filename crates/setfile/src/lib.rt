@@ -1,5 +1,6 @@
 // Set files: a set into bytes, and bytes into a set. Each call checks the pool in one pass.
-use listing::rows::count;
+use listing::lengths::starts;
+use listing::lengths::tally;
 use listing::seats::Seated;
 use listing::seats::seat_of;
 use loading::load_file;
@@ -22,12 +23,13 @@ pub fn save(pool: &[u32], set: u32, out: &mut [u8]) -> Answer
     match seated {
         Seated::Refused(no) => Answer::Refused(no),
         Seated::At(s) => {
-            let n = count(pool, s.base, s.first, s.end);
+            let mut next = tally(pool, s.base, s.first, s.end);
+            let n = starts(&mut next);
             let size = file_bytes(s.family, n);
             if out.len() < size {
                 return Answer::Refused(Refusal::ShortBuffer);
             }
-            write_file(pool, s.base, s.first, s.end, s.family, n, out);
+            write_file(pool, s.base, s.first, s.end, s.family, n, &mut next, out);
             Answer::Granted(size as u32)
         }
     }

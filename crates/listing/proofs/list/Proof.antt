@@ -1,15 +1,25 @@
 -- `list` meets its contract, each return by the tests on the way to it. Assumes nothing.
 use denote.Ref.{now}
+use mathlib.Core.Path.{_≡_, _∙_}
 use native.Mathlib.Omega.{arith}
 use borrow.Author.Needs.{needs}
+use lib.ListN.{length}
+use Rattle.nets.specs.Tries.{listOf}
 use Rattle.pool.specs.States.{State}
+use Rattle.pool.proofs.Seen.{trieAt}
 use Rattle.listing.specs.Seats.{Sits}
-use Rattle.listing.proofs.Calls.{list-refused, list-few, list-room, list-short, list-granted}
+use Rattle.listing.proofs.Placing.{total-is, counts-fit}
+use Rattle.listing.proofs.Calls.{list-refused, list-few, list-layable, list-short, list-granted}
 use Rattle.listing.proofs.list.Statement.{statement}
 use Rattle.listing.proofs.list.Tie as tie
 
 sits : (c : tie.After-known-told2) → let a = c .before .before .before .before .before .before .args in (S : State) × Sits (now (a .pool)) (a .set) S (c .before .seated2 .given .0 .0)
 sits c = rw (c .before .seated2 .given .1) at (c .before .before .before .seat-of .ensures)
+
+-- the number of its networks
+counted : (c : tie.After-starts) → let d = c .before .before .before in
+    c .starts .result ≡ length (listOf (trieAt (sits d .0) (d .before .before .before .before .before .before .args .set)))
+counted c = let h = sits (c .before .before .before) .1 .holds in c .starts .ensures .1 ∙ total-is h (c .before .before .tally .ensures _ _ h)
 
 pub list-spec : {M : Type 1} → statement M
 list-spec =
@@ -18,11 +28,21 @@ list-spec =
     (λ c κs. search needs)
     (λ c. search needs)
     (λ c. search needs)
-    (λ c κs. (_, sits c .1 .holds .stands))
-    (λ c. omega (arith, list-few (sits (c .before) .1) (c .count .ensures)))
-    (λ c. list-short (sits (c .before .before) .1) (c .before .count .ensures) (c .if1 .taken))
-    (λ c κs. let d = c .before .before in let h = sits (d .before) .1 in (_, h .holds, list-room h (d .count .ensures) (c .before .if1 .left)))
-    (λ c. let d = c .before .before .before .before .before in omega (arith, list-few (sits (d .before) .1) (d .count .ensures)))
+    (λ c κs. (_, _, sits c .1 .holds))
+    (λ c κs. let h = sits (c .before .before) .1 .holds in counts-fit h (c .before .tally .ensures _ _ h))
+    (λ c. omega (arith, list-few (sits (c .before .before .before) .1) (counted c)))
+    (λ c. list-short (sits (c .before .before .before .before) .1) (counted (c .before)) (c .if1 .taken))
+    (λ c κs.
+    let d = c .before .before .before in
+    let h = sits (d .before .before .before) .1 in
+    (_, list-layable h (counted d) (d .before .before .tally .ensures _ _ (h .holds)) (d .starts .ensures .0) (c .before .before .if1 .left)))
+    (λ c. let d = c .before .before .before .before .before .before in omega (arith, list-few (sits (d .before .before .before) .1) (counted d)))
     (λ c. list-refused _ (rw (c .before .seated .given .1) at (c .before .before .before .seat-of .ensures)))
     (λ c. search needs)
-    (λ c. let r = c .before .before in let d = r .before .before .before in list-granted (sits (d .before) .1) (d .count .ensures) (r .before .before .if1 .left) (r .write-rows .ensures)))
+    (λ c.
+    let r = c .before .before in
+    let e = r .before .before .before in
+    let d = e .before in
+    let h = sits (d .before .before .before) .1 in
+    let n = counted d in
+    list-granted h n (e .if1 .left) (r .write-rows .ensures _ (list-layable h n (d .before .before .tally .ensures _ _ (h .holds)) (d .starts .ensures .0) (e .if1 .left)))))

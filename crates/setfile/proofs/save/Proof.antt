@@ -1,15 +1,25 @@
 -- `save` meets its contract, each return by the tests on the way to it. Assumes nothing.
 use denote.Ref.{now}
+use mathlib.Core.Path.{_≡_, _∙_}
 use native.Mathlib.Omega.{arith}
 use borrow.Author.Needs.{needs}
+use lib.ListN.{length}
+use Rattle.nets.specs.Tries.{listOf, trieOf}
 use Rattle.pool.specs.States.{State}
+use Rattle.pool.specs.Changes.{listAt}
 use Rattle.listing.specs.Seats.{Sits}
-use Rattle.setfile.proofs.Returns.{save-refused, save-few, save-fits, save-short, save-granted}
+use Rattle.listing.proofs.Placing.{total-is, counts-fit}
+use Rattle.setfile.proofs.Returns.{save-refused, save-few, save-fits, save-writable, save-short, save-granted}
 use Rattle.setfile.proofs.save.Statement.{statement}
 use Rattle.setfile.proofs.save.Tie as tie
 
 sits : (c : tie.After-known-told2) → let a = c .before .before .before .before .before .before .args in (S : State) × Sits (now (a .pool)) (a .set) S (c .before .seated2 .given .0 .0)
 sits c = rw (c .before .seated2 .given .1) at (c .before .before .before .seat-of .ensures)
+
+-- the number of its networks
+counted : (c : tie.After-starts) → let d = c .before .before .before in
+    c .starts .result ≡ length (listOf (trieOf (listAt (sits d .0) (d .before .before .before .before .before .before .args .set))))
+counted c = let h = sits (c .before .before .before) .1 .holds in c .starts .ensures .1 ∙ total-is h (c .before .before .tally .ensures _ _ h)
 
 pub save-spec : {M : Type 1} → statement M
 save-spec =
@@ -18,19 +28,23 @@ save-spec =
     (λ c κs. search needs)
     (λ c. search needs)
     (λ c. search needs)
-    (λ c κs. (_, sits c .1 .holds .stands))
-    (λ c κs. save-few (sits (c .before) .1) (c .count .ensures))
-    (λ c. let d = c .before in save-short (sits (d .before .before) .1) (d .before .count .ensures) (d .file-bytes .ensures) (c .if1 .taken))
+    (λ c κs. (_, _, sits c .1 .holds))
+    (λ c κs. let h = sits (c .before .before) .1 .holds in counts-fit h (c .before .tally .ensures _ _ h))
+    (λ c κs. save-few (sits (c .before .before .before) .1) (counted c))
+    (λ c. let d = c .before in save-short (sits (d .before .before .before .before) .1) (counted (d .before)) (d .file-bytes .ensures) (c .if1 .taken))
     (λ c κs.
-    let d = c .before .before in
-    let h = sits (d .before .before) .1 in
-    let n = d .before .count .ensures in
-    (_, h .holds, n _ (h .holds .stands), save-few h n, omega (arith, d .file-bytes .ensures, c .before .if1 .left)))
-    (λ c. let d = c .before .before .before .before .before in omega (arith, save-fits (sits (d .before .before) .1) (d .before .count .ensures) (d .file-bytes .ensures)))
+    let e = c .before .before in
+    let d = e .before .before in
+    let h = sits (d .before .before .before) .1 in
+    (_, save-writable h (counted d) (e .before .file-bytes .ensures) (d .before .before .tally .ensures _ _ (h .holds)) (d .starts .ensures .0) (e .if1 .left)))
+    (λ c. let d = c .before .before .before .before .before .before in omega (arith, save-fits (sits (d .before .before .before .before) .1) (counted (d .before)) (d .file-bytes .ensures)))
     (λ c. save-refused _ (rw (c .before .seated .given .1) at (c .before .before .before .seat-of .ensures)))
     (λ c. search needs)
     (λ c.
     let r = c .before .before in
-    let e = r .before .before in
-    let d = e .before in
-    save-granted (sits (d .before .before) .1) (d .before .count .ensures) (d .file-bytes .ensures) (e .if1 .left) (r .write-file .ensures)))
+    let e = r .before .before .before in
+    let d = e .before .before in
+    let h = sits (d .before .before .before) .1 in
+    let n = counted d in
+    let q = e .before .file-bytes .ensures in
+    save-granted h n q (e .if1 .left) (r .write-file .ensures _ (save-writable h n q (d .before .before .tally .ensures _ _ (h .holds)) (d .starts .ensures .0) (e .if1 .left)))))

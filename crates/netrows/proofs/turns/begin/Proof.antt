@@ -26,6 +26,6 @@ begin-spec =
     (λ c. rw (c .idle2 .ensures) (begins-short (sits (c .before .before .before) .1) (c .before .before .count .ensures) (c .before .if1 .taken)))
     (λ c κs. search needs)
     (λ c κs. rw (c .before-all .ensures) (record { trie = _; stands = sits (c .before .before .before) .1 .holds; right = λ e. absurd (false≢true e) }))
-    (λ c. let d = c .before .before .before in omega (arith, list-few (sits (d .before) .1) (d .count .ensures)))
+    (λ c. let d = c .before .before .before in let h = sits (d .before) .1 in omega (arith, list-few h (d .count .ensures _ (h .holds .stands))))
     (λ c. rw (c .idle .ensures) (begins-refused _ (rw (c .before .before .seated .given .1) at (c .before .before .before .before .seat-of .ensures))))
     (λ c. let d = c .before .before .before in begins-granted (sits (d .before) .1) (d .count .ensures) _ (c .before .before .if1 .left) (rw (c .before .before-all .ensures) at (c .go-on .ensures))))
