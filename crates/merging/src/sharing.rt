@@ -2,16 +2,10 @@
 ghost use mathlib.Core.Path.{_≡_};
 ghost use Prim.Native.Nat.{ℕ, _/_, _^_, _≤_, _<_};
 ghost use lib.Dec.{eqb};
-ghost use Rattle.nets.specs.Networks.{width, address, netBits, refusalOf};
+ghost use Rattle.nets.specs.Networks.{address, netBits, refusalOf};
 ghost use Rattle.files.specs.Streams.{shared};
 use nets::Net;
-
-// How many bits an address of the family has.
-fn width(family: u8) -> u8
-    ensures { λ r. ⌜ r ≡ width family ⌝ }
-{
-    if family == 4 { 32 } else { 128 }
-}
+use nets::width;
 
 // Whether the addresses are the same but for their s low bits.
 fn same_above(a: Net, b: Net, s: u8) -> bool
