@@ -1,11 +1,11 @@
 // Set files: a set into bytes, and bytes into a set. Each call checks the pool in one pass.
+use entries::reading::file_bytes;
 use listing::rows::count;
 use listing::seats::Seated;
 use listing::seats::seat_of;
 use loading::load_file;
 use nets::Refusal;
 use pool::Answer;
-use saving::file_bytes;
 use saving::write_file;
 ghost use Rattle.setfile.specs.Calls.{Saved};
 ghost use Rattle.setfile.specs.Loading.{Loaded};
