@@ -5,22 +5,15 @@ ghost use Prim.Native.Nat.{_<_};
 ghost use lib.ListN.{getD};
 ghost use Rattle.nets.specs.Bits.{bits};
 ghost use Rattle.nets.specs.Networks.{width, address};
-use nets::IPV4;
 use nets::Net;
-
-// How many bits an address of the family has.
-fn width(family: u8) -> usize
-    ensures { λ r. ⌜ r ≡ width family ⌝ }
-{
-    if family == IPV4 { 32 } else { 128 }
-}
+use nets::width;
 
 // Bit d of a network's address, counted from the highest on.
 pub fn bit_at(n: Net, d: usize) -> bool
     requires { ⌜ d < width (n .family) ⌝ }
     ensures { λ r. ⌜ r ≡ getD (bits (width (n .family)) (address n)) d false ⌝ }
 {
-    let k = width(n.family) - 1 - d;
+    let k = width(n.family) as usize - 1 - d;
     if k < 64 {
         return (n.lo >> k) % 2 == 1;
     }

@@ -1,19 +1,18 @@
 -- Networks with no bits past their lengths: by words, and their order by numbers. Assumes nothing.
-use mathlib.Core.Bool.{Bool, true, false, _&&_, or-false}
+use mathlib.Core.Bool.{Bool, true, false, or-false}
 use mathlib.Core.Path.{_≡_, refl, ap, sym, _∙_}
-use Prim.Native.Nat.{ℕ, zero, suc, _+_, _-_, _*_, _/_, _%_, _^_, _≤_, _<_}
-use native.Mathlib.Nat.{add-zero, mul-lt-mul-of-pos-right, mul-le-mul-right}
+use Prim.Native.Nat.{ℕ, zero, suc, _+_, _-_, _*_, _%_, _^_, _≤_, _<_}
+use native.Mathlib.Nat.{mul-lt-mul-of-pos-right, mul-le-mul-right}
 use native.Mathlib.Omega.{arith}
-use lib.Dec.{eqb, leb, ltb}
+use lib.Dec.{eqb, ltb}
 use lib.ListN.{length}
-use lib.Pow.{pow-pos, high, low, mod-pow-add, mod-mod-pow, shr-mod, split}
-use borrow.Author.Tests.{le-leb, leb-true, eqb-true, eq-eqb, ne-eqb, lt-ltb, le-ltb, ltb-true, ltb-false}
-use Rattle.nets.specs.Bits.{val, before, bits}
+use lib.Pow.{pow-pos, high, low, mod-pow-add, mod-mod-pow}
+use borrow.Author.Tests.{le-leb, eq-eqb, ne-eqb, lt-ltb, le-ltb, ltb-true, ltb-false}
+use Rattle.nets.specs.Bits.{val, before}
 use Rattle.nets.specs.Networks.{width, value, address, netBits}
 use Rattle.nets.specs.declared.Net.{Net}
-use Rattle.nets.proofs.Numbers.{length-bits, val-bits, take-bits}
-use Rattle.nets.proofs.Strings.{and-left, and-right}
 use Rattle.files.specs.Files.{isClean}
+use Rattle.files.proofs.RoundTrip.{clean-len, clean-length, clean-high}
 use Rattle.entries.specs.Entries.{Entry}
 
 -- The low bits of two words: those of the low word, or all of them and some of the high word's.
@@ -49,30 +48,19 @@ module _ (n : Net) (w : ℕ) (e : width (n .family) ≡ w) (g : n .lo < 2 ^ 64) 
       let p : w - n .len - 64 + 64 ≡ w - n .len = omega arith in
       rw (e, le-leb (n .len) w l, z) (high-clean (n .hi) (w - n .len - 64) ∙ ap (λ x. eqb (value (n .hi) 0 % 2 ^ x) 0) p)
 
--- The bits of an entry, by its number.
-pub entry-len : {f : ℕ} {n : Net} → Entry f n → n .len ≤ width f
-unfolding isClean
-entry-len {f} {n} h = rw (← h .family) (leb-true (n .len) (width (n .family)) (and-left _ _ (h .clean)))
+-- The bits of an entry, by its numbers.
+module _ {f : ℕ} {n : Net} (h : Entry f n) where
+  entry-range : address n < 2 ^ width (n .family)
+  entry-range = rw (h .family) (h .range)
 
-module _ {f : ℕ} {n : Net} (h : Entry f n) (k : ℕ) (p : n .len + k ≡ width f) where
-  entry-low : address n % 2 ^ k ≡ 0
-  unfolding isClean
-  entry-low =
-      let q : width (n .family) - n .len ≡ k = rw (h .family) (omega arith) in
-      rw (← q) (eqb-true (address n % 2 ^ (width (n .family) - n .len)) 0 (and-right (leb (n .len) (width (n .family))) (eqb (address n % 2 ^ (width (n .family) - n .len)) 0) (h .clean)))
+  entry-len : n .len ≤ width f
+  entry-len = rw (← h .family) (clean-len n (h .clean) entry-range)
 
-  entry-address : address n / 2 ^ k * 2 ^ k ≡ address n
-  entry-address = let e = split (address n) k in sym (add-zero (address n / 2 ^ k * 2 ^ k)) ∙ (rw entry-low at e)
+  entry-length : length (netBits n) ≡ n .len
+  entry-length = clean-length n (h .clean) entry-range
 
-  entry-bits : netBits n ≡ bits (n .len) (address n / 2 ^ k)
-  unfolding netBits
-  entry-bits = rw (h .family, ← p) (take-bits (n .len) k (address n))
-
-  pub entry-val : val (netBits n) ≡ address n / 2 ^ k
-  entry-val = rw entry-bits (val-bits (n .len) (address n / 2 ^ k) ∙ shr-mod (n .len) k (rw p (h .range)))
-
-  pub entry-length : length (netBits n) ≡ n .len
-  entry-length = rw entry-bits (length-bits (n .len) (address n / 2 ^ k))
+  entry-high : (k : ℕ) → n .len + k ≡ width f → val (netBits n) * 2 ^ k ≡ address n
+  entry-high k p = clean-high n (h .clean) entry-range k (rw (h .family) p)
 
 -- The order of numbers that have no low bits.
 ltb-high : (a b m : ℕ) → 0 < m → ltb a b ≡ ltb (a * m) (b * m)
@@ -86,17 +74,16 @@ ltb-high a b m z = go (ltb a b) refl
 module _ {f : ℕ} {x y : Net} (h : Entry f x) (g : Entry f y) where
   pub before-other : (x .len ≡ y .len → ⊥) → ltb (x .len) (y .len) ≡ before (netBits x) (netBits y)
   unfolding before
-  before-other e =
-      rw (entry-length h (width f - x .len) (omega (arith, entry-len h)), entry-length g (width f - y .len) (omega (arith, entry-len g)), ne-eqb (x .len) (y .len) e)
-      (sym (or-false (ltb (x .len) (y .len))))
+  before-other e = rw (entry-length h, entry-length g, ne-eqb (x .len) (y .len) e) (sym (or-false (ltb (x .len) (y .len))))
 
   pub before-same : x .len ≡ y .len → ltb (address x) (address y) ≡ before (netBits x) (netBits y)
   unfolding before
   before-same e =
       let k = width f - x .len in
-      let p : x .len + k ≡ width f = omega (arith, entry-len h) in
-      let q : y .len + k ≡ width f = omega (arith, entry-len h) in
-      rw (entry-length h k p, entry-length g k q, le-ltb (x .len) (y .len) (omega arith), eq-eqb (x .len) (y .len) e, entry-val h k p, entry-val g k q, ltb-high (address x / 2 ^ k) (address y / 2 ^ k) (2 ^ k) (pow-pos k), entry-address h k p, entry-address g k q)
+      let p = entry-high h k (omega (arith, entry-len h)) in
+      let q = entry-high g k (omega (arith, entry-len h)) in
+      rw (entry-length h, entry-length g, le-ltb (x .len) (y .len) (omega arith), eq-eqb (x .len) (y .len) e, ← p, ← q)
+      (sym (ltb-high (val (netBits x)) (val (netBits y)) (2 ^ k) (pow-pos k)))
 
 -- Addresses by their words.
 module _ (hi lo hi′ lo′ : ℕ) (g : lo < 2 ^ 64) (l : lo′ < 2 ^ 64) where

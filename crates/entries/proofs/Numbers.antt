@@ -1,17 +1,18 @@
 -- The numbers of bytes: big-endian numbers put together, and the entries of each family by words. Assumes nothing.
-use mathlib.Core.Path.{_≡_, refl, ap, sym, _∙_}
+use mathlib.Core.Path.{_≡_, ap, sym, _∙_}
 use mathlib.Core.List.{List}
-use Prim.Native.Nat.{ℕ, zero, suc, _+_, _*_, _/_, _%_, _^_, _≤_, _<_}
-use native.Mathlib.Nat.{mul-le-mul-left, add-mul, mul-assoc, add-assoc, pow-suc, pow-zero, add-zero, add-suc, mul-one}
+use Prim.Native.Nat.{ℕ, zero, suc, _+_, _*_, _/_, _%_, _^_, _<_}
+use native.Mathlib.Nat.{add-mul, mul-assoc, add-assoc, pow-suc, pow-zero, add-zero, add-suc, mul-one}
 use native.Mathlib.Omega.{arith}
-use lib.Arith.{digits-lt}
-use lib.Dec.{eqb}
 use lib.ListN.{getD, drop}
 use lib.Seq.{getD-drop, drop-drop}
-use borrow.Author.Tests.{eq-eqb, ne-eqb}
-use Rattle.nets.specs.Networks.{width, value, netOf, netWords, bigEndian}
+use Rattle.nets.specs.Networks.{width, value, netOf, address, netWords, bigEndian}
+use Rattle.nets.specs.declared.Net.{Net}
+use Rattle.nets.proofs.Numbers.{width-4, width-6}
 use Rattle.nets.proofs.TwoWords.{netOf-value}
-use Rattle.files.specs.Files.{entryBytes, fileBytes, entryNet}
+use Rattle.files.specs.Files.{entryAt, entryNet}
+use Rattle.files.proofs.Bytes.{Bytes}
+use Rattle.files.proofs.RoundTrip.{entry-low}
 
 -- Four bytes as they stand.
 pub bigEndian-four : (at : ℕ) (d : List ℕ)
@@ -33,38 +34,20 @@ bigEndian-eight at d = rw (← drop-drop 4 at d) (sym (bigEndian-add 256 (drop a
 pub bigEndian-sixteen : (at : ℕ) (d : List ℕ) → value (bigEndian 256 (drop at d) 8) (bigEndian 256 (drop (at + 8) d) 8) ≡ bigEndian 256 (drop at d) 16
 bigEndian-sixteen at d = rw (← drop-drop 8 at d) (sym (bigEndian-add 256 (drop at d) 8 8))
 
--- The bytes of a file in each family.
-pub fileBytes-4 : (f n : ℕ) → f ≡ 4 → 16 + 5 * n ≡ fileBytes f n
-unfolding fileBytes entryBytes width
-fileBytes-4 f n e = rw (eq-eqb f 4 e)
-
-pub fileBytes-6 : (f n : ℕ) → (f ≡ 4 → ⊥) → 16 + 17 * n ≡ fileBytes f n
-unfolding fileBytes entryBytes width
-fileBytes-6 f n e = rw (ne-eqb f 4 e)
-
-pub fileBytes-mono : (f : ℕ) {i n : ℕ} → i ≤ n → fileBytes f i ≤ fileBytes f n
-unfolding fileBytes
-fileBytes-mono f {i} {n} h = let q : entryBytes f * i ≤ entryBytes f * n = mul-le-mul-left (entryBytes f) h in omega (arith, q)
-
--- The entries of each family, by words.
-module _ (f : ℕ) (d : List ℕ) (i : ℕ) where
-  pub entryNet-4 : f ≡ 4 → bigEndian 256 (drop (16 + 5 * i) d) 4 < 2 ^ 32 → netWords f 0 (bigEndian 256 (drop (16 + 5 * i) d) 4) (getD d (16 + 5 * i + 4) 0) ≡ entryNet f d i
-  unfolding entryNet entryBytes width
-  entryNet-4 e h = rw (eq-eqb f 4 e) (go (bigEndian 256 (drop (16 + 5 * i) d) 4) h)
+-- The entries of each family, by words; entry i begins at a place.
+module _ (f : ℕ) (d : List ℕ) (i at : ℕ) (p : at ≡ entryAt f i) where
+  pub entryNet-4 : f ≡ 4 → bigEndian 256 (drop at d) 4 < 2 ^ 32 → netWords f 0 (bigEndian 256 (drop at d) 4) (getD d (at + 4) 0) ≡ entryNet f d i
+  unfolding entryNet
+  entryNet-4 e h = rw (← p, width-4 f e) (go (bigEndian 256 (drop at d) 4) h)
     where
-      go : (a : ℕ) → a < 2 ^ 32 → netWords f 0 a (getD d (16 + 5 * i + 4) 0) ≡ netOf f a (getD d (16 + 5 * i + 4) 0)
-      go a l = let p : a / 2 ^ 64 ≡ 0 = omega arith in let q : a % 2 ^ 64 ≡ a = omega arith in rw (p, q)
+      go : (a : ℕ) → a < 2 ^ 32 → netWords f 0 a (getD d (at + 4) 0) ≡ netOf f a (getD d (at + 4) 0)
+      go a l = let x : a / 2 ^ 64 ≡ 0 = omega arith in let y : a % 2 ^ 64 ≡ a = omega arith in rw (x, y)
 
-  pub entryNet-6 : (f ≡ 4 → ⊥) → bigEndian 256 (drop (16 + 17 * i + 8) d) 8 < 2 ^ 64
-      → netWords f (bigEndian 256 (drop (16 + 17 * i) d) 8) (bigEndian 256 (drop (16 + 17 * i + 8) d) 8) (getD d (16 + 17 * i + 16) 0) ≡ entryNet f d i
-  unfolding entryNet entryBytes width
-  entryNet-6 e h = rw (ne-eqb f 4 e, ← bigEndian-sixteen (16 + 17 * i) d) (sym (netOf-value f _ _ _ h))
+  pub entryNet-6 : (f ≡ 4 → ⊥) → bigEndian 256 (drop (at + 8) d) 8 < 2 ^ 64
+      → netWords f (bigEndian 256 (drop at d) 8) (bigEndian 256 (drop (at + 8) d) 8) (getD d (at + 16) 0) ≡ entryNet f d i
+  unfolding entryNet
+  entryNet-6 e h = rw (← p, width-6 f e, ← bigEndian-sixteen at d) (sym (netOf-value f _ _ _ h))
 
 -- Their addresses are in range.
-pub range-4 : (f lo : ℕ) → f ≡ 4 → lo < 2 ^ 32 → value 0 lo < 2 ^ width f
-unfolding width
-range-4 f lo e h = rw (eq-eqb f 4 e) (omega arith)
-
-pub range-6 : (f hi lo : ℕ) → (f ≡ 4 → ⊥) → hi < 2 ^ 64 → lo < 2 ^ 64 → value hi lo < 2 ^ width f
-unfolding width
-range-6 f hi lo e h g = rw (ne-eqb f 4 e) (digits-lt h g)
+pub entry-known : (f : ℕ) (d : List ℕ) (i : ℕ) {x : Net} → Bytes d → x ≡ entryNet f d i → (x ≡ entryNet f d i) × (address x < 2 ^ width f)
+entry-known f d i b e = (e, rw e (entry-low d b f i))

@@ -1,19 +1,12 @@
 // Networks with no bits past their lengths, and their order in a list.
 ghost use mathlib.Core.Path.{_≡_};
-ghost use mathlib.Core.Bool.{true};
 ghost use Prim.Native.Nat.{_%_, _^_};
 ghost use Rattle.nets.specs.Bits.{before};
-ghost use Rattle.nets.specs.Networks.{width, netBits};
+ghost use Rattle.nets.specs.Networks.{netBits};
 ghost use Rattle.files.specs.Files.{isClean};
 ghost use Rattle.entries.specs.Entries.{Entry};
 use nets::Net;
-
-// How many bits an address of the family has.
-fn width(family: u8) -> u8
-    ensures { λ r. ⌜ r ≡ width family ⌝ }
-{
-    if family == 4 { 32 } else { 128 }
-}
+use nets::width;
 
 // The k low bits of a word.
 fn low_bits(x: u64, k: u8) -> u64

@@ -5,14 +5,31 @@ ghost use Prim.Native.Nat.{_+_, _*_, _≤_, _<_, _^_};
 ghost use lib.ListN.{length, drop};
 ghost use Rattle.nets.specs.Lists.{ascending};
 ghost use Rattle.nets.specs.Networks.{width, address, bigEndian};
-ghost use Rattle.files.specs.Files.{fileBytes, headNumber, entryNet, areClean, networksIn, isFileHeader};
+ghost use Rattle.files.specs.Files.{entryBytes, fileBytes, mostEntries, headNumber, entryNet, areClean, networksIn, isFileHeader};
 use crate::cleared;
+use nets::IPV4;
 use nets::Net;
 use pool::checking::is_family;
 
-const HEADER: usize = 16;
+// The bytes of the header.
+pub const HEADER: usize = 16;
 
 const MOST_ENTRIES: u32 = 4194304;
+
+// The bytes of an entry: an address, then a length.
+pub fn entry_bytes(family: u8) -> usize
+    ensures { λ r. ⌜ r ≡ entryBytes family ⌝ }
+{
+    if family == IPV4 { 5 } else { 17 }
+}
+
+// The bytes of a file with n entries: where entry n begins.
+pub fn file_bytes(family: u8, n: usize) -> usize
+    requires { ⌜ n ≤ mostEntries ⌝ }
+    ensures { λ r. ⌜ r ≡ fileBytes family n ⌝ }
+{
+    HEADER + entry_bytes(family) * n
+}
 
 // The number of four bytes.
 fn joined(a: u8, b: u8, c: u8, d: u8) -> u64
@@ -54,8 +71,8 @@ pub fn entry(bytes: &[u8], family: u8, i: usize) -> Net
     ensures { λ r. ⌜ r ≡ entryNet family (now (bytes .entry)) i ⌝ }
     ensures { λ r. ⌜ address r < 2 ^ width family ⌝ }
 {
-    if family == 4 {
-        let at = HEADER + 5 * i;
+    let at = file_bytes(family, i);
+    if family == IPV4 {
         return Net {
             family,
             hi: 0,
@@ -63,23 +80,12 @@ pub fn entry(bytes: &[u8], family: u8, i: usize) -> Net
             len: bytes[at + 4],
         };
     }
-    let at = HEADER + 17 * i;
     Net {
         family,
         hi: eight(bytes, at),
         lo: eight(bytes, at + 8),
         len: bytes[at + 16],
     }
-}
-
-// The bytes of a file with n entries.
-fn file_bytes(family: u32, n: u32) -> usize
-    ensures { λ r. ⌜ r ≡ fileBytes family n ⌝ }
-{
-    if family == 4 {
-        return HEADER + 5 * (n as usize);
-    }
-    HEADER + 17 * (n as usize)
 }
 
 // The rules of the header.
@@ -103,7 +109,7 @@ pub fn is_header(bytes: &[u8]) -> bool
     if number(bytes, 3) as usize != bytes.len() {
         return false;
     }
-    bytes.len() == file_bytes(family, n)
+    bytes.len() == file_bytes(family as u8, n as usize)
 }
 
 // The first n entries have no bits past their lengths, and each comes before the next.

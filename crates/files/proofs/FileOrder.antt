@@ -4,7 +4,7 @@ use mathlib.Core.Bool.{true}
 use mathlib.Core.List.{List, [], _∷_, _++_}
 use mathlib.Core.Logic.{_⊎_, inl, inr}
 use mathlib.Core.Path.{_≡_, refl}
-use Prim.Native.Nat.{ℕ, zero, suc, _+_, _-_, _^_, _≤_, _<_}
+use Prim.Native.Nat.{ℕ, zero, suc, _+_, _-_, _≤_, _<_}
 use native.Mathlib.Nat.{zero-add, add-zero, suc-add}
 use native.Mathlib.Decide.{decLt}
 use native.Mathlib.Omega.{arith}
@@ -13,15 +13,13 @@ use lib.Pow.{split}
 use borrow.Author.Tests.{le-leb}
 use Rattle.nets.specs.Bits.{Bits, before, bits}
 use Rattle.nets.specs.Lists.{member, ascending, within}
-use Rattle.nets.specs.Networks.{width, address, netBits, netFrom, refusalOf, bigEndian}
+use Rattle.nets.specs.Networks.{width, address, netBits, netFrom, bigEndian}
 use Rattle.nets.proofs.Strings.{and-left, and-right}
 use Rattle.nets.proofs.Order.{key-shorter, before-lt}
 use Rattle.nets.proofs.Numbers.{length-bits}
-use Rattle.pool.specs.States.{isFamily}
 use Rattle.files.specs.Files.{addressBytes, entryAt, entryNet, isClean, areClean, networksIn}
-use Rattle.files.proofs.Bytes.{Bytes, bigEndian-lt}
-use Rattle.files.proofs.Written.{address-bytes}
-use Rattle.files.proofs.RoundTrip.{clean-right, clean-length, clean-number, Bytes-drop}
+use Rattle.files.proofs.Bytes.{Bytes}
+use Rattle.files.proofs.RoundTrip.{clean-length, clean-number, entry-low}
 use Rattle.files.proofs.AddressOrder.{number}
 use Rattle.files.proofs.Rising.{member-first, member-later}
 
@@ -115,25 +113,15 @@ before-length p q e = go (decLt (length q) (length p))
     go (yes h) = absurd (omega (arith, key-shorter q p h, before-lt p q e))
     go (no h) = omega arith
 
--- A clean entry: it is not refused, and its numbers are those of its network.
-module _ (d : List ℕ) (bytes : Bytes d) (f : ℕ) (family : isFamily f ≡ true) (i : ℕ) (clean : isClean (entryNet f d i) ≡ true) where
-  entry-low : address (entryNet f d i) < 2 ^ width f
-  unfolding entryNet
-  entry-low =
-      rw (split (bigEndian 256 (drop (entryAt f i) d) (addressBytes f)) 64, ← address-bytes f)
-      (bigEndian-lt (drop (entryAt f i) d) (Bytes-drop (entryAt f i) d bytes) (addressBytes f))
-
-  pub entry-right : refusalOf (entryNet f d i) ≡ 0
-  unfolding entryNet
-  entry-right = clean-right (entryNet f d i) family clean entry-low
-
+-- A clean entry: its numbers are those of its network.
+module _ (d : List ℕ) (bytes : Bytes d) (f : ℕ) (i : ℕ) (clean : isClean (entryNet f d i) ≡ true) where
   pub entry-length : length (networkAt f d i) ≡ entryNet f d i .len
   unfolding entryNet
-  entry-length = clean-length (entryNet f d i) family clean entry-low
+  entry-length = clean-length (entryNet f d i) clean (entry-low d bytes f i)
 
   pub entry-number : number (width f) (networkAt f d i) ≡ address (entryNet f d i)
   unfolding entryNet
-  entry-number = clean-number (entryNet f d i) family clean entry-low
+  entry-number = clean-number (entryNet f d i) clean (entry-low d bytes f i)
 
   pub entry-netFrom : netFrom f (networkAt f d i) ≡ entryNet f d i
   unfolding entryNet netFrom

@@ -10,14 +10,14 @@ use native.Mathlib.Omega.{arith}
 use borrow.Author.Tests.{eqb-true, leb-true}
 use lib.Dec.{eqb, leb}
 use lib.ListN.{length, getD, take, drop, length-drop, take-append-drop, drop-of-length-le}
-use lib.Pow.{split}
+use lib.Pow.{shr-mod, split}
 use lib.Seq.{take-suc, take-add, drop-drop, getD-drop}
-use Rattle.nets.specs.Bits.{Bits, val}
+use Rattle.nets.specs.Bits.{Bits, val, bits}
 use Rattle.nets.specs.Lists.{isList}
-use Rattle.nets.specs.Networks.{width, address, netBits, netFrom, bigEndian, refusalOf, cleared}
+use Rattle.nets.specs.Networks.{width, address, netBits, bigEndian}
 use Rattle.nets.specs.declared.Net.{Net}
 use Rattle.nets.proofs.Strings.{and-left, and-right}
-use Rattle.nets.proofs.Numbers.{is-refusalOf, length-netBits, cleared-number}
+use Rattle.nets.proofs.Numbers.{length-bits, val-bits, take-bits}
 use Rattle.pool.specs.States.{isFamily}
 use Rattle.files.specs.Files.{bytesOf, addressBytes, entryBytes, headerBytes, fileBytes, mostEntries, entryOf, entriesOf, headerOf, fileOf, headNumber, entryAt, entryNet, isClean, areClean, networksIn, isFileHeader, areEntries, File, broken, file, readFile}
 use Rattle.files.proofs.Bytes.{Bytes, bigEndian-lt, bytesOf-bigEndian}
@@ -75,30 +75,39 @@ readFile-is d f l e =
     }
 
 -- A clean entry is that of its network.
-module _ (n : Net) (family : isFamily (n .family) ≡ true) (clean : isClean n ≡ true) (low : address n < 2 ^ width (n .family)) where
+module _ (n : Net) (clean : isClean n ≡ true) (low : address n < 2 ^ width (n .family)) where
   pub clean-len : n .len ≤ width (n .family)
   unfolding isClean
   clean-len = leb-true (n .len) (width (n .family)) (and-left (leb (n .len) (width (n .family))) (eqb (address n % 2 ^ (width (n .family) - n .len)) 0) clean)
 
-  clean-zero : address n % 2 ^ (width (n .family) - n .len) ≡ 0
-  unfolding isClean
-  clean-zero = eqb-true (address n % 2 ^ (width (n .family) - n .len)) 0 (and-right (leb (n .len) (width (n .family))) (eqb (address n % 2 ^ (width (n .family) - n .len)) 0) clean)
+  -- k bits stand past the length
+  module _ (k : ℕ) (p : n .len + k ≡ width (n .family)) where
+    clean-zero : address n % 2 ^ k ≡ 0
+    unfolding isClean
+    clean-zero =
+        let q : width (n .family) - n .len ≡ k = omega arith in
+        rw (← q) (eqb-true (address n % 2 ^ (width (n .family) - n .len)) 0 (and-right (leb (n .len) (width (n .family))) (eqb (address n % 2 ^ (width (n .family) - n .len)) 0) clean))
 
-  pub clean-right : refusalOf n ≡ 0
-  clean-right = is-refusalOf n (record { family = family; len = clean-len; address = low })
+    clean-bits : netBits n ≡ bits (n .len) (address n / 2 ^ k)
+    unfolding netBits
+    clean-bits = rw (← p) (take-bits (n .len) k (address n))
+
+    pub clean-high : val (netBits n) * 2 ^ k ≡ address n
+    clean-high =
+        let b : address n < 2 ^ (n .len + k) = rw p low in
+        let e = split (address n) k in
+        rw (clean-bits, val-bits (n .len) (address n / 2 ^ k), shr-mod (n .len) k b) (sym (add-zero (address n / 2 ^ k * 2 ^ k)) ∙ (rw clean-zero at e))
+
+  past : n .len + (width (n .family) - n .len) ≡ width (n .family)
+  past = omega (arith, clean-len)
 
   pub clean-length : length (netBits n) ≡ n .len
-  clean-length = length-netBits n clean-right
+  clean-length = ap length (clean-bits (width (n .family) - n .len) past) ∙ length-bits (n .len) (address n / 2 ^ (width (n .family) - n .len))
 
   pub clean-number : val (netBits n) * 2 ^ (width (n .family) - length (netBits n)) ≡ address n
-  unfolding cleared netFrom
-  clean-number =
-      let k = width (n .family) - n .len in
-      let q = ap address (cleared-number n clean-right k (omega (arith, clean-len))) in
-      sym (split (val (netBits n) * 2 ^ (width (n .family) - length (netBits n))) 64) ∙ q ∙ split (address n / 2 ^ k * 2 ^ k) 64
-      ∙ sym (add-zero (address n / 2 ^ k * 2 ^ k)) ∙ ap (λ x. address n / 2 ^ k * 2 ^ k + x) (sym clean-zero) ∙ split (address n) k
+  clean-number = rw clean-length (clean-high (width (n .family) - n .len) past)
 
-pub Bytes-drop : (n : ℕ) (d : List ℕ) → Bytes d → Bytes (drop n d)
+Bytes-drop : (n : ℕ) (d : List ℕ) → Bytes d → Bytes (drop n d)
 Bytes-drop n d h i = rw (getD-drop n d i 0) (h (n + i))
 
 take-more : (k : ℕ) (xs : List ℕ) → k < length xs → take (k + 1) xs ≡ take k xs ++ (getD xs k 0 ∷ [])
@@ -112,7 +121,13 @@ module _ (d : List ℕ) (bytes : Bytes d) where
   unfolding headNumber
   head-written k h = bytesOf-bigEndian (drop (4 * k) d) (Bytes-drop (4 * k) d bytes) 4 (omega (arith, length-drop (4 * k) d))
 
-  module _ (f : ℕ) (family : isFamily f ≡ true) where
+  module _ (f : ℕ) where
+    pub entry-low : (i : ℕ) → address (entryNet f d i) < 2 ^ width f
+    unfolding entryNet
+    entry-low i =
+        rw (split (bigEndian 256 (drop (entryAt f i) d) (addressBytes f)) 64, ← address-bytes f)
+        (bigEndian-lt (drop (entryAt f i) d) (Bytes-drop (entryAt f i) d bytes) (addressBytes f))
+
     entry-written : (i : ℕ) → entryAt f (suc i) ≤ length d → isClean (entryNet f d i) ≡ true → entryOf f (netBits (entryNet f d i)) ≡ take (entryBytes f) (drop (entryAt f i) d)
     unfolding entryOf entryNet entryBytes
     entry-written i h c =
@@ -120,11 +135,10 @@ module _ (d : List ℕ) (bytes : Bytes d) where
         let k = addressBytes f in
         let a = bigEndian 256 xs k in
         let n = entryNet f d i in
-        let low : address n < 2 ^ width f = rw (split a 64, ← address-bytes f) (bigEndian-lt xs (Bytes-drop (entryAt f i) d bytes) k) in
         let long : suc k ≤ length xs = omega (arith, length-drop (entryAt f i) d, mul-suc (k + 1) i) in
         let b : bytesOf k a ≡ take k xs = bytesOf-bigEndian xs (Bytes-drop (entryAt f i) d bytes) k (omega arith) in
         let last : getD d (entryAt f i + k) 0 ≡ getD xs k 0 = sym (getD-drop (entryAt f i) d k 0) in
-        rw (clean-number n family c low, split a 64, clean-length n family c low, b, last) (sym (take-more k xs long))
+        rw (clean-number n c (entry-low i), split a 64, clean-length n c (entry-low i), b, last) (sym (take-more k xs long))
 
     entries-written : (i k : ℕ) → entryAt f (i + k) ≡ length d → areClean f d i k ≡ true → entriesOf f (networksIn f d i k) ≡ drop (entryAt f i) d
     unfolding entriesOf networksIn areClean
@@ -145,7 +159,7 @@ module _ (d : List ℕ) (bytes : Bytes d) where
       let n = o .numbers in
       let long : headerBytes ≤ length d = omega (arith, o .long) in
       let h : (k m : ℕ) → k < 4 → headNumber d k ≡ m → take 4 (drop (4 * k) d) ≡ bytesOf 4 m = λ k m g q. sym (head-written k (omega arith)) ∙ ap (bytesOf 4) q in
-      let b : drop headerBytes d ≡ entriesOf f l = ap (λ n. drop n d) first ∙ sym (entries-written f (o .family) 0 (length l) (rw (zero-add (length l)) (sym (o .long))) (o .clean)) ∙ ap (entriesOf f) (o .networks) in
+      let b : drop headerBytes d ≡ entriesOf f l = ap (λ n. drop n d) first ∙ sym (entries-written f 0 (length l) (rw (zero-add (length l)) (sym (o .long))) (o .clean)) ∙ ap (entriesOf f) (o .networks) in
       let a : take headerBytes d ≡ headerOf f (length l) =
       take-fours d ∙ rw (h 0 f (omega arith) (n .0), h 1 (length l) (omega arith) (n .1), h 2 headerBytes (omega arith) (n .2), h 3 (fileBytes f (length l)) (omega arith) (n .3)) in
       sym (take-append-drop headerBytes d) ∙ rw (a, b)

@@ -1,21 +1,22 @@
 -- A list's file reads back to it: header, entries, networks. One proof over the width. Assumes nothing.
 use mathlib.Core.Path.{_≡_, refl, ap, _∙_}
-use mathlib.Core.Bool.{Bool, true, false, cond, _&&_, _||_}
+use mathlib.Core.Bool.{Bool, true, false, cond}
 use mathlib.Core.List.{List, [], _∷_, _++_, append-assoc}
 use Prim.Native.Nat.{ℕ, zero, suc, _+_, _-_, _*_, _/_, _%_, _^_, _≤_, _<_}
-use native.Mathlib.Nat.{mul-le-mul, mul-suc, mod-eq-of-lt, mul-mod-left, pow-suc}
+use native.Mathlib.Nat.{mul-le-mul, mul-le-mul-left, mul-add, mul-one, mul-suc, mod-eq-of-lt, mul-mod-left, pow-suc}
 use native.Mathlib.Omega.{arith}
-use borrow.Author.Tests.{eq-eqb, eqb-true, le-leb, leb-true}
+use borrow.Author.Tests.{eq-eqb, le-leb, leb-true}
 use lib.Dec.{eqb, leb}
 use lib.ListN.{length, getD, length-append}
 use lib.Pow.{pow-add, shl-lt, split}
 use lib.Seq.{drop-at, getD-at}
 use Rattle.nets.specs.Bits.{Bits, val}
-use Rattle.nets.specs.Lists.{within, isList, ascending, apart}
+use Rattle.nets.specs.Lists.{within, isList}
 use Rattle.nets.specs.Networks.{width, netFrom}
 use Rattle.nets.proofs.Strings.{and-left, and-right}
 use Rattle.nets.proofs.Order.{val-high}
-use Rattle.nets.proofs.Numbers.{width-le, netBits-netFrom}
+use Rattle.nets.proofs.Numbers.{family-few, width-4, width-6, width-le, netBits-netFrom}
+use Rattle.nets.proofs.TrieOf.{isList-within}
 use Rattle.pool.specs.States.{isFamily}
 use Rattle.files.specs.Files.{bytesOf, addressBytes, entryBytes, headerBytes, fileBytes, mostEntries, entryOf, entriesOf, headerOf, fileOf, headNumber, entryAt, entryNet, isClean, areClean, networksIn, isFileHeader, areEntries, file, readFile}
 use Rattle.files.proofs.Bytes.{length-bytesOf, bigEndian-bytesOf}
@@ -94,16 +95,25 @@ head-read : (k m : ℕ) (xs ys : List ℕ) → length xs ≡ 4 * k → m < 42949
 unfolding headNumber
 head-read k m xs ys e h = rw (drop-at xs (bytesOf 4 m ++ ys) (4 * k) e, bigEndian-bytesOf 4 m ys) (mod-eq-of-lt h)
 
-isFamily-few : (f : ℕ) → isFamily f ≡ true → f ≤ 6
-isFamily-few f e = go (eqb f 4) refl e
-  where
-    go : (b : Bool) → eqb f 4 ≡ b → (b || eqb f 6) ≡ true → f ≤ 6
-    go true q e = omega (arith, eqb-true f 4 q)
-    go false q e = omega (arith, eqb-true f 6 e)
+-- The bytes of an entry and of a file.
+pub entryBytes-4 : (f : ℕ) → f ≡ 4 → entryBytes f ≡ 5
+unfolding entryBytes
+entryBytes-4 f e = rw (width-4 f e)
+
+pub entryBytes-6 : (f : ℕ) → (f ≡ 4 → ⊥) → entryBytes f ≡ 17
+unfolding entryBytes
+entryBytes-6 f e = rw (width-6 f e)
+
+pub entryAt-next : (f i : ℕ) → entryAt f (i + 1) ≡ entryAt f i + entryBytes f
+entryAt-next f i = omega (arith, mul-add (entryBytes f) i 1, mul-one (entryBytes f))
 
 entryBytes-le : (f : ℕ) → entryBytes f ≤ 17
 unfolding entryBytes
 entryBytes-le f = omega (arith, width-le f)
+
+pub fileBytes-mono : (f : ℕ) {i n : ℕ} → i ≤ n → fileBytes f i ≤ fileBytes f n
+unfolding fileBytes
+fileBytes-mono f {i} {n} h = let q : entryBytes f * i ≤ entryBytes f * n = mul-le-mul-left (entryBytes f) h in omega (arith, q)
 
 pub fileBytes-few : (f n : ℕ) → n ≤ mostEntries → fileBytes f n ≤ 71303184
 unfolding fileBytes
@@ -115,7 +125,7 @@ module _ (f n : ℕ) (xs : List ℕ) (family : isFamily f ≡ true) (few : n ≤
 
   header-0 : headNumber d 0 ≡ f
   unfolding headerOf
-  header-0 = simp append-assoc (head-read 0 f [] (bytesOf 4 n ++ (bytesOf 4 headerBytes ++ (bytesOf 4 (fileBytes f n) ++ xs))) refl (omega (arith, isFamily-few f family)))
+  header-0 = simp append-assoc (head-read 0 f [] (bytesOf 4 n ++ (bytesOf 4 headerBytes ++ (bytesOf 4 (fileBytes f n) ++ xs))) refl (omega (arith, family-few f family)))
 
   header-1 : headNumber d 1 ≡ n
   unfolding headerOf
@@ -136,10 +146,6 @@ module _ (f n : ℕ) (xs : List ℕ) (family : isFamily f ≡ true) (few : n ≤
   header-read : length d ≡ fileBytes f n → isFileHeader d ≡ true
   unfolding isFileHeader
   header-read e = rw (header-0, header-1, header-2, header-3, e, family, le-leb n mostEntries few, eq-eqb (fileBytes f n) (fileBytes f n) refl)
-
-isList-within : (w : ℕ) (l : List Bits) → isList w l ≡ true → within w l ≡ true
-unfolding isList
-isList-within w l e = and-right (apart l) (within w l) (and-right (ascending l) (apart l && within w l) e)
 
 -- A list's file reads back to it.
 pub readFile-fileOf : (f : ℕ) (l : List Bits) → isFamily f ≡ true → isList (width f) l ≡ true → length l ≤ mostEntries → readFile (fileOf f l) ≡ file f l

@@ -20,7 +20,8 @@ use Rattle.merging.specs.Lanes.{laneAt, putLane, lanesOf, hereOf, Live, 
 use Rattle.merging.specs.Flow.{Stream, Flow}
 use Rattle.merging.specs.declared.lanes.Lane.{Lane}
 use Rattle.merging.proofs.Cursors.{length-putLane, laneAt-put, laneAt-putLane, lanesOf-putLane}
-use Rattle.merging.proofs.Read.{read-length, read-number, read-net, fileBytes-le}
+use Rattle.files.proofs.Written.{fileBytes-mono}
+use Rattle.merging.proofs.Read.{read-length, read-number, read-net}
 
 -- A lane that has entries left: its next one, and where it stands.
 module _ {d : List ℕ} {f n : ℕ} {ms : List Bits} {x : Lane} (e : Entries d f n) (r : Runs d f n ms x) (h : Live x) where
@@ -90,7 +91,7 @@ pub here-asks : {d : List ℕ} {f : ℕ} {c : List ℕ} {q : Bits} {ms : List Bi
 here-asks {d} {f} {c} {q} {ms} o x i =
     let e = o .stream .entries in
     let r = rw (← i) at (o .stream .lanes .runs (hereOf c) (o .here .0)) in
-    (first e r (ap (λ (y : Lane). y .len) i ∙ o .here .1) .0, (omega (arith, r .to, e .few), omega (arith, e .fits, fileBytes-le f (x .end) (o .stream .n) (r .to))))
+    (first e r (ap (λ (y : Lane). y .len) i ∙ o .here .1) .0, (omega (arith, r .to, e .few), omega (arith, e .fits, fileBytes-mono f (r .to))))
 
 -- Behind the first network its lane has the others of its length.
 module _ {d : List ℕ} {f : ℕ} {c : List ℕ} {q : Bits} {ms : List Bits} (o : Flow d f c (q ∷ ms)) {y : Lane} (u : Onward d f (laneAt c (hereOf c)) y) where

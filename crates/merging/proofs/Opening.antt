@@ -1,18 +1,16 @@
 -- What a file's tests say of its entries: they are networks of its family, ascending; and in address order those of the trie of its list, where it reads as one. Assumes nothing.
 use mathlib.Core.Bool.{true, _&&_}
 use mathlib.Core.List.{List}
-use mathlib.Core.Logic.{⊎-elim}
 use mathlib.Core.Path.{_≡_, ap, _∙_}
 use Prim.Native.Nat.{ℕ, _≤_, _<_}
 use native.Mathlib.Omega.{arith}
-use lib.Dec.{eqb}
 use lib.ListN.{length, getD}
-use borrow.Author.Tests.{eqb-true}
 use Rattle.nets.specs.Bits.{Bits}
 use Rattle.nets.specs.Lists.{ascending}
 use Rattle.nets.specs.Networks.{width}
 use Rattle.nets.specs.Tries.{trieOf}
-use Rattle.nets.proofs.Strings.{and-left, and-right, or-cases}
+use Rattle.nets.proofs.Numbers.{family-few}
+use Rattle.nets.proofs.Strings.{and-left, and-right}
 use Rattle.nets.proofs.TrieOf.{isList-ascending}
 use Rattle.files.specs.Files.{fileBytes, headNumber, areClean, networksIn, isFileHeader, file, readFile}
 use Rattle.files.specs.Streams.{flat, inAddressOrder}
@@ -60,4 +58,4 @@ unfolding fileBytes
 header-long d h = omega (arith, header-length d h)
 
 pub header-small : (d : List ℕ) → isFileHeader d ≡ true → headNumber d 0 < 256
-header-small d h = ⊎-elim (λ e. omega (arith, eqb-true (headNumber d 0) 4 e)) (λ e. omega (arith, eqb-true (headNumber d 0) 6 e)) (or-cases (eqb (headNumber d 0) 4) (eqb (headNumber d 0) 6) (header-family d h))
+header-small d h = omega (arith, family-few (headNumber d 0) (header-family d h))

@@ -3,11 +3,10 @@ use mathlib.Core.Bool.{true}
 use mathlib.Core.List.{List}
 use mathlib.Core.Path.{_≡_}
 use Prim.Native.Nat.{ℕ, _≤_, _<_}
-use native.Mathlib.Nat.{mul-le-mul-left}
 use native.Mathlib.Omega.{arith}
 use lib.ListN.{length}
 use Rattle.nets.specs.Networks.{width, address, netFrom}
-use Rattle.files.specs.Files.{entryBytes, fileBytes, entryNet, isClean}
+use Rattle.files.specs.Files.{entryNet, isClean}
 use Rattle.files.proofs.FileOrder.{networkAt, networkAt-within, areClean-at, entry-length, entry-number, entry-netFrom}
 use Rattle.files.proofs.Streams.{number}
 use Rattle.merging.specs.Lanes.{Entries}
@@ -17,17 +16,13 @@ module _ {d : List ℕ} {f n : ℕ} (e : Entries d f n) (j : ℕ) (h : j < n) wh
   clean = areClean-at f d 0 n j (e .clean) (omega arith) (omega arith)
 
   pub read-length : length (networkAt f d j) ≡ entryNet f d j .len
-  read-length = entry-length d (e .bytes) f (e .family) j clean
+  read-length = entry-length d (e .bytes) f j clean
 
   pub read-within : entryNet f d j .len ≤ width f
   read-within = rw (← read-length) (networkAt-within f d j)
 
   pub read-number : number (width f) (networkAt f d j) ≡ address (entryNet f d j)
-  read-number = entry-number d (e .bytes) f (e .family) j clean
+  read-number = entry-number d (e .bytes) f j clean
 
   pub read-net : netFrom f (networkAt f d j) ≡ entryNet f d j
-  read-net = entry-netFrom d (e .bytes) f (e .family) j clean
-
-pub fileBytes-le : (f i j : ℕ) → i ≤ j → fileBytes f i ≤ fileBytes f j
-unfolding fileBytes
-fileBytes-le f i j h = let m = mul-le-mul-left (entryBytes f) h in omega arith
+  read-net = entry-netFrom d (e .bytes) f j clean

@@ -2,16 +2,10 @@
 ghost use mathlib.Core.Path.{_≡_};
 ghost use Prim.Native.Nat.{ℕ, _≤_};
 ghost use lib.Count.{leadingZeros};
-ghost use Rattle.nets.specs.Networks.{width, value, netBits, refusalOf};
+ghost use Rattle.nets.specs.Networks.{value, netBits, refusalOf};
 ghost use Rattle.files.specs.Streams.{shared};
 use nets::Net;
-
-// How many bits an address of the family has.
-fn width(family: u8) -> u8
-    ensures { λ r. ⌜ r ≡ width family ⌝ }
-{
-    if family == 4 { 32 } else { 128 }
-}
+use nets::width;
 
 // How many leading zeros the number of two words has.
 fn zeros(hi: u64, lo: u64) -> u8

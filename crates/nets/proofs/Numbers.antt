@@ -2,6 +2,7 @@
 -- are those of its address without the low ones, and the bit iterator hands out just these. Assumes nothing.
 use mathlib.Core.Bool.{Bool, true, false, cond, _||_}
 use mathlib.Core.List.{[], _∷_}
+use mathlib.Core.Logic.{⊎-elim}
 use mathlib.Core.Path.{_≡_, refl, ap, sym, _∙_}
 use Prim.Native.Nat.{ℕ, zero, suc, _+_, _-_, _*_, _/_, _%_, _^_, _≤_, _<_}
 use native.Mathlib.Nat.{suc-add, add-comm, mod-eq-of-lt}
@@ -11,12 +12,12 @@ use lib.Dec.{eqb, leb, ltb, eqb·suc-zero}
 use lib.ListN.{length, take, getD}
 use lib.Pow.{mod-pow-add, shr-shr, shr-lt, shr-mod, shl-shr, shl-lt, split}
 use lib.Seq.{length-take-le, take-take}
-use borrow.Author.Tests.{eqb-true, eqb-false, eq-eqb, leb-true, ltb-true, le-leb, lt-ltb}
+use borrow.Author.Tests.{eqb-true, eqb-false, eq-eqb, ne-eqb, leb-true, ltb-true, le-leb, lt-ltb}
 use Rattle.nets.specs.Bits.{Bits, leads, equal, digit, val, bits}
 use Rattle.nets.specs.Networks.{width, value, netOf, address, netBits, netFrom, inRange, refusalOf, cleared, bitsLeft, startOf, nextOf, handed}
 use Rattle.nets.specs.declared.Net.{Net}
 use Rattle.nets.specs.declared.PrefixBits.{PrefixBits}
-use Rattle.nets.proofs.Strings.{and-left, and-right, bool-iff, equal-refl, equal-is}
+use Rattle.nets.proofs.Strings.{and-left, and-right, or-cases, bool-iff, equal-refl, equal-is}
 use Rattle.nets.proofs.Order.{val-high, key-one}
 
 pub length-bits : (w a : ℕ) → length (bits w a) ≡ w
@@ -144,12 +145,17 @@ module _ (n : Net) (e : refusalOf n ≡ 0) where
         let a : address n < 2 ^ (n .len + k) = rw g (refusalOf-is n e .address) in
         rw (length-netBits, d, netBits-number, val-bits, shr-mod (n .len) k a)
 
--- The bit iterator: what its two words hold, and that the bits left are those that it hands out.
-bits-words : (a : ℕ) → bits 128 (value (a / 2 ^ 64 % 2 ^ 64) (a % 2 ^ 64)) ≡ bits 128 a
-bits-words a = rw (← mod-pow-add a 64 64) (bits-mod 128 a)
+-- The families and their widths.
+pub family-few : (f : ℕ) → (eqb f 4 || eqb f 6) ≡ true → f ≤ 6
+family-few f e = ⊎-elim (λ q. omega (arith, eqb-true f 4 q)) (λ q. omega (arith, eqb-true f 6 q)) (or-cases (eqb f 4) (eqb f 6) e)
 
-take-moved : (k j w a : ℕ) → k ≤ j → j ≤ w → take k (bits w (a * 2 ^ (w - j))) ≡ take k (bits j a)
-take-moved k j w a h g = sym (take-take k j (bits w (a * 2 ^ (w - j))) h) ∙ ap (take k) (take-aligned j w a g)
+pub width-4 : (f : ℕ) → f ≡ 4 → width f ≡ 32
+unfolding width
+width-4 f e = rw (eq-eqb f 4 e)
+
+pub width-6 : (f : ℕ) → (f ≡ 4 → ⊥) → width f ≡ 128
+unfolding width
+width-6 f e = rw (ne-eqb f 4 e)
 
 pub width-le : (f : ℕ) → width f ≤ 128
 unfolding width
@@ -158,6 +164,13 @@ width-le f = go (eqb f 4)
     go : (b : Bool) → cond b 32 128 ≤ 128
     go true = omega arith
     go false = omega arith
+
+-- The bit iterator: what its two words hold, and that the bits left are those that it hands out.
+bits-words : (a : ℕ) → bits 128 (value (a / 2 ^ 64 % 2 ^ 64) (a % 2 ^ 64)) ≡ bits 128 a
+bits-words a = rw (← mod-pow-add a 64 64) (bits-mod 128 a)
+
+take-moved : (k j w a : ℕ) → k ≤ j → j ≤ w → take k (bits w (a * 2 ^ (w - j))) ≡ take k (bits j a)
+take-moved k j w a h g = sym (take-take k j (bits w (a * 2 ^ (w - j))) h) ∙ ap (take k) (take-aligned j w a g)
 
 pub startOf-few : (n : Net) → refusalOf n ≡ 0 → startOf n .len ≤ 128
 unfolding startOf

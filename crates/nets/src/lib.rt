@@ -139,6 +139,13 @@ impl PrefixBits {
     }
 }
 
+// How many bits an address of the family has.
+pub fn width(family: u8) -> u8
+    ensures { λ r. ⌜ r ≡ width family ⌝ }
+{
+    if family == IPV4 { 32 } else { 128 }
+}
+
 // The network of one IPv4 address, its most significant byte first.
 pub fn octets_to_network(a: [u8; 4]) -> Net
     ensures { λ r. ⌜ r ≡ netOf 4 (bigEndian 256 a 4) 32 ⌝ }
@@ -186,5 +193,5 @@ pub fn groups_to_network(a: [u16; 8]) -> Net
 pub fn words_to_network(family: u8, hi: u64, lo: u64) -> Taken
     ensures { λ r. ⌜ takenAs r ≡ judged (netWords family hi lo (width family)) ⌝ }
 {
-    Net::new(family, hi, lo, rules::width(family))
+    Net::new(family, hi, lo, width(family))
 }

@@ -1,18 +1,11 @@
-// What is a network: the width of a family, and the refusal of numbers that are none.
+// Which numbers are a network, and the refusal of those that are none.
 ghost use mathlib.Core.Path.{_≡_};
-ghost use Rattle.nets.specs.Networks.{width, inRange, takenAs, judged};
+ghost use Rattle.nets.specs.Networks.{inRange, takenAs, judged};
 use crate::IPV4;
 use crate::IPV6;
 use crate::Net;
 use crate::Refusal;
 use crate::Taken;
-
-// How many bits an address of the family has.
-pub fn width(family: u8) -> u8
-    ensures { λ r. ⌜ r ≡ width family ⌝ }
-{
-    if family == IPV4 { 32 } else { 128 }
-}
 
 // Whether length and address are within the family's range.
 fn in_range(n: Net) -> bool

@@ -6,7 +6,7 @@ ghost use lib.ListN.{getD};
 use crate::IPV4;
 use crate::Net;
 use crate::PrefixBits;
-use crate::rules;
+use crate::width;
 
 // The word with its k low bits cleared.
 fn keep(x: u64, k: u8) -> u64
@@ -20,7 +20,7 @@ pub fn clear(mut n: Net) -> Net
     requires { ⌜ refusalOf n ≡ 0 ⌝ }
     ensures { λ r. ⌜ r ≡ cleared n ⌝ }
 {
-    let k = rules::width(n.family) - n.len;
+    let k = width(n.family) - n.len;
     if k < 64 {
         n.lo = keep(n.lo, k);
     } else {

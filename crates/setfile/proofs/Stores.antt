@@ -2,13 +2,13 @@
 use mathlib.Core.Path.{_≡_, refl, sym, ap, _∙_}
 use mathlib.Core.List.{List, [], _∷_, _++_}
 use Prim.Native.Nat.{ℕ, _+_, _-_, _*_, _/_, _%_, _^_, _≤_, _<_}
-use native.Mathlib.Nat.{mul-add, add-mul, mul-one, one-mul, div-one, mod-eq-of-lt}
+use native.Mathlib.Nat.{add-mul, one-mul, div-one, mod-eq-of-lt}
 use native.Mathlib.Omega.{arith}
-use borrow.Author.Tests.{eq-eqb, ne-eqb}
 use lib.ListN.{length, set, length-append, length-set}
 use Rattle.nets.specs.Bits.{Bits, val}
 use Rattle.nets.specs.Networks.{width, netFrom}
 use Rattle.nets.specs.declared.Net.{Net}
+use Rattle.nets.proofs.Numbers.{width-4, width-6}
 use Rattle.nodes.specs.Words.{put}
 use Rattle.nodes.proofs.Put.{length-put, set-put, put-behind-at}
 use Rattle.listing.proofs.Paths.{path-is}
@@ -35,27 +35,7 @@ word-stores v k x h g =
     let xs = bytesOf 4 (x / 4294967296) in
     g ∙ rw (h, bytesOf-mod 4 x, put-behind-at v k (k + 4) xs (bytesOf 4 x) (rw (length-bytesOf 4 (x / 4294967296))), bytesOf-parts 4 4 x)
 
--- The bytes of an entry, and the bits of an address.
-width-4 : (f : ℕ) → f ≡ 4 → width f ≡ 32
-unfolding width
-width-4 f e = rw (eq-eqb f 4 e)
-
-width-6 : (f : ℕ) → (f ≡ 4 → ⊥) → width f ≡ 128
-unfolding width
-width-6 f e = rw (ne-eqb f 4 e)
-
-pub entry-4 : (f : ℕ) → f ≡ 4 → entryBytes f ≡ 5
-unfolding entryBytes
-entry-4 f e = rw (width-4 f e)
-
-pub entry-6 : (f : ℕ) → (f ≡ 4 → ⊥) → entryBytes f ≡ 17
-unfolding entryBytes
-entry-6 f e = rw (width-6 f e)
-
--- entries one behind the other
-pub entry-next : (f k : ℕ) → entryAt f (k + 1) ≡ entryAt f k + entryBytes f
-entry-next f k = omega (arith, mul-add (entryBytes f) k 1, mul-one (entryBytes f))
-
+-- at most as many entries as bytes
 pub entry-count : (f k : ℕ) → k ≤ entryAt f k
 unfolding entryBytes
 entry-count f k = omega (arith, add-mul (addressBytes f) 1 k, one-mul k)

@@ -1,16 +1,15 @@
 // Numbers and entries as bytes, the most significant byte first.
 ghost use mathlib.Core.Path.{_≡_};
-ghost use Prim.Native.Nat.{ℕ, _+_, _*_, _≤_, _<_};
+ghost use Prim.Native.Nat.{_+_, _≤_, _<_};
 ghost use lib.ListN.{length, getD};
-ghost use Rattle.nets.specs.Bits.{Bits};
 ghost use Rattle.nodes.specs.Words.{put};
 ghost use Rattle.listing.specs.Laying.{bump};
 ghost use Rattle.files.specs.Files.{bytesOf, entryBytes, entryAt};
 ghost use Rattle.setfile.specs.Saving.{Entry, EntryPut};
+use entries::reading::HEADER;
+use entries::reading::entry_bytes;
+use nets::IPV4;
 use nets::Net;
-
-// The bytes of the header.
-pub const HEADER: usize = 16;
 
 // Writes the four bytes of a number.
 pub fn put_number(out: &mut [u8], at: usize, x: u32)
@@ -32,19 +31,12 @@ pub fn put_word(out: &mut [u8], at: usize, x: u64)
     put_number(out, at + 4, (x % 4294967296) as u32);
 }
 
-// The bytes of an entry: an address, then a length.
-pub fn entry_bytes(family: u8) -> usize
-    ensures { λ r. ⌜ r ≡ entryBytes family ⌝ }
-{
-    if family == 4 { 5 } else { 17 }
-}
-
 // Writes the entry of a network from the byte k on.
 fn put_at(out: &mut [u8], k: usize, x: Net)
     requires { ⌜ Entry x × (k + entryBytes (x .family) ≤ length (now out)) ⌝ }
     ensures { λ _. ⌜ EntryPut (now (out .entry)) k x (now (out .exit)) ⌝ }
 {
-    if x.family == 4 {
+    if x.family == IPV4 {
         put_number(out, k, x.lo as u32);
         out[k + 4] = x.len;
         return;

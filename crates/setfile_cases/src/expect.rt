@@ -5,6 +5,7 @@ use nets::Refusal;
 use pool::Answer;
 use tally::Tally;
 use tally::count;
+use tally::same;
 
 // The call is granted and answers this number.
 pub fn gives(t: Tally, a: Answer, n: usize) -> Tally {
@@ -68,19 +69,6 @@ pub fn saves(t: Tally, pool: &[u32], bytes: &[u8]) -> Tally {
 // The refused call left every word.
 pub fn keeps(t: Tally, was: &[u32], pool: &[u32]) -> Tally {
     count(t, same(was, pool))
-}
-
-// Whether two rows of words are equal.
-fn same(a: &[u32], b: &[u32]) -> bool {
-    if a.len() != b.len() {
-        return false;
-    }
-    for i in 0..a.len() {
-        if a[i] != b[i] {
-            return false;
-        }
-    }
-    true
 }
 
 // The file is loaded into an empty set of the family, with so many nodes, and the set is saved as that file.

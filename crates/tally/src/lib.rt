@@ -1,5 +1,5 @@
-// What a program that runs cases counts, and the line in which it says so.
-ghost use mathlib.Core.Bool.{cond};
+// What a program that runs cases counts, and the line in which it says so; and how it compares words.
+ghost use mathlib.Core.Bool.{true, cond};
 ghost use mathlib.Core.Path.{_≡_};
 ghost use Prim.Native.Nat.{_+_, _%_, _^_};
 
@@ -28,6 +28,23 @@ pub fn count(t: Tally, right: bool) -> Tally
     }
     let wrong = std::num::wrapping_add_u32(t.wrong, 1);
     Tally { cases, wrong }
+}
+
+// Whether two rows of words are equal.
+pub fn same(a: &[u32], b: &[u32]) -> bool
+    ensures { λ r. ⌜ (r ≡ true → now (a .entry) ≡ now (b .entry)) × (now (a .entry) ≡ now (b .entry) → r ≡ true) ⌝ }
+{
+    if a.len() != b.len() {
+        return false;
+    }
+    let mut i = 0;
+    while i < a.len() {
+        if a[i] != b[i] {
+            return false;
+        }
+        i += 1;
+    }
+    true
 }
 
 // Writes how many cases there were, and how many of them came out wrong.

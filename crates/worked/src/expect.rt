@@ -4,6 +4,7 @@ use pool::Report;
 use pool::Told;
 use tally::Tally;
 use tally::count;
+use tally::same;
 
 // The call is granted and answers this number.
 pub fn gives(t: Tally, a: Answer, n: u32) -> Tally {
@@ -40,17 +41,4 @@ pub fn tells(t: Tally, a: Told, is: bool) -> Tally {
 // The refused call left every word.
 pub fn keeps(t: Tally, was: &[u32], pool: &[u32]) -> Tally {
     count(t, same(was, pool))
-}
-
-// Whether two rows of words are equal.
-fn same(a: &[u32], b: &[u32]) -> bool {
-    if a.len() != b.len() {
-        return false;
-    }
-    for i in 0..a.len() {
-        if a[i] != b[i] {
-            return false;
-        }
-    }
-    true
 }

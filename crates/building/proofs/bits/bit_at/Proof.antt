@@ -14,6 +14,7 @@ bit-at-spec =
     (λ c. search needs)
     (λ c. search needs)
     (λ c. search needs)
+    (λ c. search needs)
     (λ c. let s = c .before .before .before in bit-low (s .args .n) (s .args .d) _ (s .pre) (omega arith) (c .before .if1 .taken))
     (λ c. omega (arith, width-le (c .before .before .before .args .n .family)))
     (λ c. let s = c .before .before .before in bit-high (s .args .n) (s .args .d) _ (s .pre) (omega arith) (c .before .if1 .left) (omega arith)))

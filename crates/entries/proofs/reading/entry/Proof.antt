@@ -1,44 +1,53 @@
 -- `reading::entry` meets its contract, in each family. Assumes nothing.
+use mathlib.Core.Path.{_≡_}
+use Prim.Native.Nat.{_+_, _≤_}
 use native.Mathlib.Omega.{arith}
 use borrow.Author.Needs.{needs}
-use Prim.Native.Nat.{ℕ, _+_, _*_, _≤_, _<_}
-use mathlib.Core.Path.{_≡_}
-use Rattle.files.specs.Files.{fileBytes}
-use Rattle.entries.proofs.Numbers.{fileBytes-4, fileBytes-6, entryNet-4, entryNet-6, range-4, range-6}
+use lib.ListN.{length}
+use Rattle.files.specs.Files.{entryBytes, fileBytes, entryAt}
+use Rattle.files.proofs.Bytes.{Bytes}
+use Rattle.files.proofs.Written.{entryBytes-4, entryBytes-6, entryAt-next, fileBytes-few}
+use Rattle.entries.proofs.Numbers.{entryNet-4, entryNet-6, entry-known}
 use Rattle.entries.proofs.reading.entry.Statement.{statement}
 use Rattle.entries.proofs.reading.entry.Tie as tie
 
--- where an entry ends, in each family
-ends-4 : (f i n : ℕ) → f ≡ 4 → fileBytes f (i + 1) ≤ n → 16 + 5 * i + 5 ≤ n
-ends-4 f i n e h = omega (arith, fileBytes-4 f (i + 1) e)
+-- where the entry begins, and that it ends within the bytes
+place : (c : tie.After-file-bytes) → let a = c .before .before .args in c .file-bytes .result ≡ entryAt (a .family) (a .i)
+unfolding fileBytes
+place c = c .file-bytes .ensures
 
-ends-6 : (f i n : ℕ) → (f ≡ 4 → ⊥) → fileBytes f (i + 1) ≤ n → 16 + 17 * i + 17 ≤ n
-ends-6 f i n e h = let q = fileBytes-6 f (i + 1) e in omega (arith, q)
+ends : (c : tie.After-file-bytes) → let a = c .before .before .args in (c .file-bytes .result ≤ 71303184) × (c .file-bytes .result + entryBytes (a .family) ≤ length (a .bytes .now))
+unfolding fileBytes
+ends c =
+    let s = c .before .before in
+    (omega (arith, place c, fileBytes-few (s .args .family) (s .args .i) (s .pre .0)), omega (arith, place c, entryAt-next (s .args .family) (s .args .i), s .pre .1))
+
+bytes : (c : tie.After-file-bytes) → Bytes (c .before .before .args .bytes .now)
+bytes c i = omega (arith, c .before .shared-slice-known .given i)
 
 pub entry-spec : {M : Type 1} → statement M
 entry-spec =
     tie.close
     (tie.spec
-    (λ c. search needs)
-    (λ c. search needs)
-    (λ c κs. let s = c .before .before in (omega (arith, s .pre), omega (arith, ends-4 _ (s .args .i) _ (c .if1 .taken) (s .pre .1))))
-    (λ c. search needs)
-    (λ c. let s = c .before .before .before .before in omega (arith, ends-4 _ (s .args .i) _ (c .before .before .if1 .taken) (s .pre .1)))
+    (λ c κs. search needs)
+    (λ c κs. let x = ends (c .before) in (omega (arith, x), omega (arith, x, entryBytes-4 _ (c .if1 .taken))))
+    (λ c. omega (arith, ends (c .before .before)))
+    (λ c. omega (arith, ends (c .before .before .before), entryBytes-4 _ (c .before .before .if1 .taken)))
+    (λ c.
+    let s = c .before .before .before in
+    let a = s .before .before .args in
+    let r = c .before .four .ensures in
+    let e = c .before .before .if1 .taken in
+    entry-known (a .family) (a .bytes .now) (a .i) (bytes s) (rw (r .0) (entryNet-4 (a .family) (a .bytes .now) (a .i) _ (place s) e (rw (← r .0) (r .1)))))
+    (λ c κs. let x = ends (c .before) in (omega (arith, x), omega (arith, x, entryBytes-6 _ (c .if1 .left))))
+    (λ c. omega (arith, ends (c .before .before)))
+    (λ c κs. let x = ends (c .before .before) in (omega (arith, x), omega (arith, x, entryBytes-6 _ (c .before .if1 .left))))
+    (λ c. omega (arith, ends (c .before .before .before)))
+    (λ c. omega (arith, ends (c .before .before .before .before), entryBytes-6 _ (c .before .before .before .if1 .left)))
     (λ c.
     let s = c .before .before .before .before in
-    let a = c .before .four .ensures in
-    let e = c .before .before .if1 .taken in
-    (rw (a .0) (entryNet-4 (s .args .family) (s .args .bytes .now) (s .args .i) e (rw (← a .0) (a .1))), range-4 (s .args .family) (c .before .four .result) e (a .1)))
-    (λ c. search needs)
-    (λ c. search needs)
-    (λ c κs. let s = c .before .before in (omega (arith, s .pre), omega (arith, ends-6 _ (s .args .i) _ (c .if1 .left) (s .pre .1))))
-    (λ c. search needs)
-    (λ c κs. let s = c .before .before .before in (omega (arith, s .pre), omega (arith, ends-6 _ (s .args .i) _ (c .before .if1 .left) (s .pre .1))))
-    (λ c. search needs)
-    (λ c. let s = c .before .before .before .before .before in omega (arith, ends-6 _ (s .args .i) _ (c .before .before .before .if1 .left) (s .pre .1)))
-    (λ c.
-    let s = c .before .before .before .before .before in
-    let e = c .before .before .before .if1 .left in (
-      rw (c .before .before .eight .ensures, c .before .eight2 .ensures) (entryNet-6 (s .args .family) (s .args .bytes .now) (s .args .i) e (rw (← c .before .eight2 .ensures) (omega arith))),
-      range-6 (s .args .family) (c .before .before .eight .result) (c .before .eight2 .result) e (omega arith) (omega arith),
-    )))
+    let a = s .before .before .args in
+    let h = c .before .before .eight .ensures in
+    let l = c .before .eight2 .ensures in
+    let e = c .before .before .before .if1 .left in
+    entry-known (a .family) (a .bytes .now) (a .i) (bytes s) (rw (h, l) (entryNet-6 (a .family) (a .bytes .now) (a .i) _ (place s) e (rw (← l) (omega arith))))))

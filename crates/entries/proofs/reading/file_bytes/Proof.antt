@@ -1,16 +1,17 @@
--- `reading::file_bytes` meets its contract, in each family. Assumes nothing.
+-- `reading::file_bytes` meets its contract. Assumes nothing.
+use Prim.Native.Nat.{_+_, _*_, _≤_}
+use native.Mathlib.Omega.{arith}
 use borrow.Author.Needs.{needs}
-use Rattle.entries.proofs.Numbers.{fileBytes-4, fileBytes-6}
+use Rattle.files.specs.Files.{fileBytes}
+use Rattle.files.proofs.Written.{fileBytes-few}
 use Rattle.entries.proofs.reading.file_bytes.Statement.{statement}
 use Rattle.entries.proofs.reading.file_bytes.Tie as tie
 
+fits : (c : tie.After-entry-bytes) → 16 + c .entry-bytes .result * c .before .args .n ≤ 71303184
+unfolding fileBytes
+fits c = rw (c .entry-bytes .ensures) (fileBytes-few (c .before .args .family) (c .before .args .n) (c .before .pre))
+
 pub file-bytes-spec : {M : Type 1} → statement M
+unfolding fileBytes
 file-bytes-spec =
-    tie.close
-    (tie.spec
-    (λ c. search needs)
-    (λ c. search needs)
-    (λ c. fileBytes-4 _ _ (c .if1 .taken))
-    (λ c. search needs)
-    (λ c. search needs)
-    (λ c. fileBytes-6 _ _ (c .if1 .left)))
+    tie.close (tie.spec (λ c κs. search needs) (λ c. omega (arith, fits c)) (λ c. omega (arith, fits c)) (λ c. rw (c .entry-bytes .ensures)))

@@ -5,7 +5,7 @@ use native.Mathlib.Nat.{le-trans, pos-of-ne-zero}
 use native.Mathlib.Omega.{arith}
 use borrow.Author.Needs.{needs}
 use borrow.Author.Tests.{not-true, not-false}
-use Rattle.entries.proofs.Numbers.{fileBytes-mono}
+use Rattle.files.proofs.Written.{fileBytes-mono}
 use Rattle.entries.proofs.Ordered.{Going, ordered-none, ordered-unclean, ordered-start, going-end, going-unclean, going-unordered, going-on, entry-is, entry-pair}
 use Rattle.entries.proofs.reading.in_order.Statement.{statement}
 use Rattle.entries.proofs.reading.in_order.Tie as tie

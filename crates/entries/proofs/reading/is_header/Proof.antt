@@ -3,6 +3,7 @@ use mathlib.Core.Path.{sym, _∙_}
 use native.Mathlib.Omega.{arith}
 use borrow.Author.Needs.{needs}
 use borrow.Author.Tests.{not-true, not-false}
+use Rattle.nets.proofs.Numbers.{family-few}
 use Rattle.entries.proofs.Headers.{header-short, header-family, header-many, header-offset, header-length, header-is}
 use Rattle.entries.proofs.reading.is_header.Statement.{statement}
 use Rattle.entries.proofs.reading.is_header.Tie as tie
@@ -23,6 +24,10 @@ is-header-spec =
     (λ c κs. search needs)
     (λ c. search needs)
     (λ c. header-length _ (rw (← c .before .number4 .ensures) (c .if5 .taken)))
+    (λ c.
+    let s2 = c .before .before .before .before .before .before in
+    omega (arith, family-few (s2 .before .before .number .result) (sym (s2 .before .is-family .ensures) ∙ not-false _ (s2 .if2 .left))))
+    (λ c. search needs)
     (λ c κs. search needs)
     (λ c.
     let s5 = c .before in

@@ -5,7 +5,7 @@ use native.Mathlib.Omega.{arith}
 use borrow.Author.Needs.{needs}
 use Rattle.nets.specs.declared.Net.{Net}
 use Rattle.files.specs.Files.{entryNet}
-use Rattle.merging.proofs.Read.{fileBytes-le}
+use Rattle.files.proofs.Written.{fileBytes-mono}
 use Rattle.merging.proofs.heads.onward.Statement.{statement}
 use Rattle.merging.proofs.heads.onward.Tie as tie
 
@@ -17,7 +17,7 @@ onward-spec =
     (λ c. search needs)
     (λ c κs.
     let a = c .before .before .before .before .args in
-    (omega arith, omega (arith, fileBytes-le (a .family) (a .x .next + 1 + 1) (a .x .end) (omega arith))))
+    (omega arith, omega (arith, fileBytes-mono (a .family) {i = a .x .next + 1 + 1} {n = a .x .end} (omega arith))))
     (λ c.
     let a = c .before .before .before .before .before .args in
     let e : c .entry .result ≡ entryNet (a .family) (a .bytes .now) (a .x .next + 1) = c .entry .ensures .0 in

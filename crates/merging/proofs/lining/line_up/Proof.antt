@@ -3,7 +3,7 @@ use mathlib.Core.Path.{_≡_}
 use Prim.Native.Nat.{_+_, _-_, _≤_}
 use native.Mathlib.Omega.{arith}
 use Rattle.merging.specs.Lanes.{Adds, Lined}
-use Rattle.merging.proofs.Read.{fileBytes-le}
+use Rattle.files.proofs.Written.{fileBytes-mono}
 use Rattle.merging.proofs.Lines.{lined-none}
 use Rattle.merging.proofs.lining.line_up.Statement.{statement}
 use Rattle.merging.proofs.lining.line_up.Tie as tie
@@ -24,7 +24,7 @@ line-up-spec =
     (λ c κs.
     let d = c .before .before .before .before in
     let e = d .pre .entries in
-    (omega (arith, e .few), omega (arith, e .fits, fileBytes-le (d .args .family) (c .before .loop .i + 1) (d .args .n) (omega arith))))
+    (omega (arith, e .few), omega (arith, e .fits, fileBytes-mono (d .args .family) {i = c .before .loop .i + 1} {n = d .args .n} (omega arith))))
     (λ c κs.
     let d = c .before .before in
     (_, _, _, record { file = d .before .before .before .before .pre; lined = d .before .loop .inv .0; more = d .loop-test .taken; net = c .before .entry .ensures .0 }))

@@ -5,7 +5,8 @@ use native.Mathlib.Omega.{arith}
 use borrow.Author.Needs.{needs}
 use lib.ListN.{length, getD}
 use Rattle.files.specs.Files.{entryBytes, entryAt}
-use Rattle.setfile.proofs.Stores.{entry-next, entry-count}
+use Rattle.files.proofs.Written.{entryAt-next}
+use Rattle.setfile.proofs.Stores.{entry-count}
 use Rattle.setfile.proofs.writing.put_next.Statement.{statement}
 use Rattle.setfile.proofs.writing.put_next.Tie as tie
 
@@ -18,7 +19,7 @@ fits : (c : tie.After-entry-bytes) → let a = c .before .before .before .before
     16 + c .entry-bytes .result * getD (a .next .now) (a .x .len) 0 + entryBytes (a .x .family) ≤ length (a .out .now)
 fits c =
     let s = c .before .before .before .before .before in
-    omega (arith, place c, entry-next (s .args .x .family) (getD (s .args .next .now) (s .args .x .len) 0), s .pre)
+    omega (arith, place c, entryAt-next (s .args .x .family) (getD (s .args .next .now) (s .args .x .len) 0), s .pre)
 
 pub put-next-spec : {M : Type 1} → statement M
 put-next-spec =
