@@ -1,10 +1,10 @@
--- The outcomes of list into a row of networks: there is one, and on a sound pool the row begins with the set's list, each network with its family, words and length.
--- Assumes nothing.
+-- The outcomes of list into a row of networks: there is one, and on a sound pool the row begins with the set's list, each network with its family, words and length. Then those of page_of, which are list's on a
+-- page of zeros. Assumes nothing.
 use mathlib.Core.Path.{_≡_, refl, sym, ap, _∙_}
 use mathlib.Core.List.{List, [], _∷_}
 use Prim.Native.Nat.{ℕ, zero, suc, _≤_, _<_}
 use native.Mathlib.Omega.{arith}
-use lib.ListN.{length, getD}
+use lib.ListN.{length, replicate, getD}
 use borrow.Author.Tests.{lt-ltb, le-ltb, le-leb, lt-leb}
 use Rattle.nets.specs.Bits.{Bits}
 use Rattle.nets.specs.Networks.{netFrom, noNet}
@@ -16,7 +16,8 @@ use Rattle.pool.specs.Changes.{listAt}
 use Rattle.pool.specs.declared.Answer.{Answer}
 use Rattle.pool.specs.declared.Answer.the-variants.{Granted, Refused}
 use Rattle.pool.proofs.Determined.{answerAs-one}
-use Rattle.netrows.specs.Rows.{filled, rowNo, rowRule, rowAfter, Listed}
+use Rattle.netrows.specs.Rows.{filled, rowNo, rowRule, rowAfter, blank, Listed}
+use Rattle.netrows.specs.declared.Page.{Page}
 
 pub list-determined : {w : List ℕ} {v u x : List Net} {k : ℕ} {r s : Answer} → Listed w k v r u → Listed w k v s x → (r ≡ s) × (u ≡ x)
 list-determined {r = r} {s = s} g h = (answerAs-one r s (g .answer ∙ sym (h .answer)), g .row ∙ sym (h .row))
@@ -73,3 +74,29 @@ module _ {w : List ℕ} {v u : List Net} {k : ℕ} {r : Answer} (h : Listed w k 
 
         pub list-past : (i : ℕ) → length (listAt S k) ≤ i → getD u i noNet ≡ getD v i noNet
         list-past i more = rw (list-row .1) (filled-past (S .family) (listAt S k) v i le more)
+
+-- A page has 16 entries, and those past the list hold zeros.
+abbrev Paged : List ℕ → ℕ → Page → Type 0
+Paged w k r = Listed w k blank (r .answer) (r .nets)
+
+pub page-determined : {w : List ℕ} {k : ℕ} (r s : Page) → Paged w k r → Paged w k s → r ≡ s
+page-determined r s g h = let e = list-determined g h in λ i. record { answer = e .0 i; nets = e .1 i }
+
+zeros-at : (n i : ℕ) → getD (replicate n noNet) i noNet ≡ noNet
+zeros-at zero i = refl
+zeros-at (suc n) zero = refl
+zeros-at (suc n) (suc i) = zeros-at n i
+
+module _ {w : List ℕ} {k : ℕ} {r : Page} (h : Paged w k r) (S : State) (d : decode w ≡ sound S) (lt : k < length (S .sets)) where
+  pub page-short : 16 < length (listAt S k) → (r .answer ≡ Refused ShortBuffer) × (r .nets ≡ blank)
+  unfolding blank
+  page-short more = list-short h S d lt more
+
+  module _ (le : length (listAt S k) ≤ 16) where
+    pub page-row : (r .answer ≡ Granted (length (listAt S k))) × (r .nets ≡ filled (S .family) (listAt S k) blank)
+    unfolding blank
+    page-row = list-row h S d lt le
+
+    pub page-past : (i : ℕ) → length (listAt S k) ≤ i → getD (r .nets) i noNet ≡ noNet
+    unfolding blank
+    page-past i more = list-past h S d lt le i more ∙ zeros-at 16 i

@@ -4,14 +4,15 @@
 --   filled f l v         the row v, with the networks of l in its first entries
 --   rowNo, rowRule       the answer: 2 damaged, 3 no such set, 11 fewer entries than networks, else how many networks
 --   rowAfter             the row afterwards;  Listed: both, as the contract
+--   blank                a page: 16 entries of zeros
 use mathlib.Core.Bool.{cond}
 use mathlib.Core.List.{List, _++_, map}
 use mathlib.Core.Path.{_≡_}
 use Prim.Native.Nat.{ℕ}
 use lib.Dec.{eqb, leb, ltb}
-use lib.ListN.{length, drop}
+use lib.ListN.{length, drop, replicate}
 use Rattle.nets.specs.Bits.{Bits}
-use Rattle.nets.specs.Networks.{netFrom}
+use Rattle.nets.specs.Networks.{netFrom, noNet}
 use Rattle.nets.specs.Refusals.{answered}
 use Rattle.nets.specs.declared.Net.{Net}
 use Rattle.pool.specs.States.{State}
@@ -41,3 +42,6 @@ rowAfter v (sound S) k = cond (eqb (rowNo S k (length v)) 0) (filled (S .family)
 pub record Listed (w : List ℕ) (k : ℕ) (v : List Net) (r : Answer) (u : List Net) : Type 0 where
   pub answer : answerAs r ≡ rowRule (decode w) k (length v)
   pub row : u ≡ rowAfter v (decode w) k
+
+unfoldable pub blank : List Net
+blank = replicate 16 noNet

@@ -1,3 +1,3 @@
--- The walk through a set, and the network at a place of its list.
+-- The walk through a set, and the networks at a place and at the end of its list.
 pub mod Walks
 pub mod Places

@@ -2,15 +2,16 @@
 use crate::expect;
 use nets::Net;
 use tally::Tally;
+use walk::last;
 use walk::nth;
 
 // The words of the largest pool here: two sets, 300 nodes.
-const WORDS: usize = 2480;
+pub const WORDS: usize = 2480;
 
 // The largest address word.
-const LAST: u64 = 0xffff_ffff_ffff_ffff;
+pub const LAST: u64 = 0xffff_ffff_ffff_ffff;
 
-fn v4(address: u64, len: u8) -> Net {
+pub fn v4(address: u64, len: u8) -> Net {
     Net {
         family: 4,
         hi: 0,
@@ -19,7 +20,7 @@ fn v4(address: u64, len: u8) -> Net {
     }
 }
 
-fn v6(hi: u64, lo: u64, len: u8) -> Net {
+pub fn v6(hi: u64, lo: u64, len: u8) -> Net {
     Net {
         family: 6,
         hi,
@@ -29,7 +30,7 @@ fn v6(hi: u64, lo: u64, len: u8) -> Net {
 }
 
 // Two sets without a share in 300 nodes.
-fn two(t: Tally, pool: &mut [u32], family: u8) -> Tally {
+pub fn two(t: Tally, pool: &mut [u32], family: u8) -> Tally {
     expect::gives(
         t,
         pool::layout(pool, family, 2, 300, &[0, 0], &[300, 300]),
@@ -42,7 +43,9 @@ pub fn empty(t: Tally) -> Tally {
     let mut t = two(t, &mut pool, 4);
     t = expect::ends(t, nth(&pool, 0, 0));
     t = expect::ends(t, nth(&pool, 1, 0));
-    expect::ends(t, nth(&pool, 1, 4294967295))
+    t = expect::ends(t, nth(&pool, 1, 4294967295));
+    t = expect::ends(t, last(&pool, 0));
+    expect::ends(t, last(&pool, 1))
 }
 
 // In another order than the list's, with bits past the length.
@@ -63,7 +66,9 @@ fn ordered(t: Tally, pool: &[u32]) -> Tally {
     t = expect::is(t, nth(pool, 1, 2), v4(0xc0a8_0100, 24));
     t = expect::is(t, nth(pool, 1, 3), v4(0x0808_0808, 32));
     t = expect::ends(t, nth(pool, 1, 4));
-    expect::ends(t, nth(pool, 0, 0))
+    t = expect::is(t, last(pool, 1), v4(0x0808_0808, 32));
+    t = expect::ends(t, nth(pool, 0, 0));
+    expect::ends(t, last(pool, 0))
 }
 
 pub fn order(t: Tally) -> Tally {
@@ -80,8 +85,9 @@ fn all(t: Tally, pool: &mut [u32]) -> Tally {
 }
 
 fn one_listed(t: Tally, pool: &[u32]) -> Tally {
-    let t = expect::is(t, nth(pool, 0, 0), v4(0, 0));
-    expect::ends(t, nth(pool, 0, 1))
+    let mut t = expect::is(t, nth(pool, 0, 0), v4(0, 0));
+    t = expect::ends(t, nth(pool, 0, 1));
+    expect::is(t, last(pool, 0), v4(0, 0))
 }
 
 // One network of each length from 1 to 32.
@@ -90,7 +96,8 @@ fn all_lengths(t: Tally, pool: &[u32]) -> Tally {
     t = expect::is(t, nth(pool, 0, 1), v4(0x8000_0000, 2));
     t = expect::is(t, nth(pool, 0, 30), v4(0xffff_fffc, 31));
     t = expect::is(t, nth(pool, 0, 31), v4(0xffff_fffe, 32));
-    expect::ends(t, nth(pool, 0, 32))
+    t = expect::ends(t, nth(pool, 0, 32));
+    expect::is(t, last(pool, 0), v4(0xffff_fffe, 32))
 }
 
 // All addresses, and then all but the last one.
@@ -113,7 +120,8 @@ fn wide_listed(t: Tally, pool: &[u32]) -> Tally {
     let mut t = expect::is(t, nth(pool, 0, 0), v6(1, 0, 64));
     t = expect::is(t, nth(pool, 0, 1), v6(LAST, 0, 64));
     t = expect::is(t, nth(pool, 0, 2), v6(0, LAST, 128));
-    expect::ends(t, nth(pool, 0, 3))
+    t = expect::ends(t, nth(pool, 0, 3));
+    expect::is(t, last(pool, 0), v6(0, LAST, 128))
 }
 
 pub fn wide(t: Tally) -> Tally {
@@ -133,13 +141,17 @@ fn neighbours(t: Tally, pool: &mut [u32]) -> Tally {
 fn both_listed(t: Tally, pool: &[u32]) -> Tally {
     let mut t = expect::is(t, nth(pool, 0, 0), v4(0x4000_0000, 2));
     t = expect::ends(t, nth(pool, 0, 1));
+    t = expect::is(t, last(pool, 0), v4(0x4000_0000, 2));
     t = expect::is(t, nth(pool, 1, 0), v4(0x8000_0000, 1));
-    expect::ends(t, nth(pool, 1, 1))
+    t = expect::ends(t, nth(pool, 1, 1));
+    expect::is(t, last(pool, 1), v4(0x8000_0000, 1))
 }
 
 fn second_listed(t: Tally, pool: &[u32]) -> Tally {
-    let t = expect::ends(t, nth(pool, 0, 0));
-    expect::is(t, nth(pool, 1, 0), v4(0x8000_0000, 1))
+    let mut t = expect::ends(t, nth(pool, 0, 0));
+    t = expect::ends(t, last(pool, 0));
+    t = expect::is(t, nth(pool, 1, 0), v4(0x8000_0000, 1));
+    expect::is(t, last(pool, 1), v4(0x8000_0000, 1))
 }
 
 // A set that stands behind another reads its own list, also when the other was emptied.
@@ -151,11 +163,20 @@ pub fn beside(t: Tally) -> Tally {
     second_listed(t, &pool)
 }
 
+// Both calls on a set are refused with this number.
+fn both(t: Tally, pool: &[u32], set: u32, no: u8) -> Tally {
+    let t = expect::gets(t, nth(pool, set, 0), no);
+    expect::gets(t, last(pool, set), no)
+}
+
+// Words that are no pool, a set that isn't there, a root that is no next node, more sets than a pool has.
 pub fn refused(t: Tally) -> Tally {
     let mut pool = [0u32; WORDS];
-    let mut t = expect::gets(t, nth(&pool, 0, 0), 2);
+    let mut t = both(t, &pool, 0, 2);
     t = two(t, &mut pool, 4);
-    t = expect::gets(t, nth(&pool, 2, 0), 3);
+    t = both(t, &pool, 2, 3);
+    pool[64] = 2;
+    t = both(t, &pool, 0, 2);
     pool[2] = 65;
-    expect::gets(t, nth(&pool, 70, 0), 2)
+    both(t, &pool, 70, 2)
 }

@@ -1,6 +1,7 @@
-// Goes through whole sets, place by place, and counts the networks that are not those of the lists made by hand.
+// Goes through whole sets, place by place, to the end and on a page, and counts the networks that are not those of the lists made by hand.
 mod cases;
 mod expect;
+mod pages;
 
 fn main() {
     let mut t = cases::empty(tally::none());
@@ -9,5 +10,11 @@ fn main() {
     t = cases::wide(t);
     t = cases::beside(t);
     t = cases::refused(t);
+    t = pages::small(t);
+    t = pages::order(t);
+    t = pages::wide(t);
+    t = pages::full(t);
+    t = pages::over(t);
+    t = pages::refused(t);
     tally::say(t);
 }
