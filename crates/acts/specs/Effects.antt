@@ -1,6 +1,6 @@
 -- What each call answers and leaves, by its code. w are the pool's words, s the bytes of the call, c its fixed part.
 --
---   reportOf w c        the calls that read the pool: 2 to 7, 14, 16, 22, 23
+--   reportOf w c        the calls that read the pool: 2 to 7, 14, 16, 22 to 24
 --   changeOf w c        the calls that change a set: 8 to 13
 --   layoutOf w c s, writeOf w c s     layout, 1, and words written over the pool's, 48
 --   networkOf s c       the calls without a pool: 17, 32 to 40; madeOf: those from 37 on
@@ -8,7 +8,7 @@ use mathlib.Core.Bool.{cond}
 use mathlib.Core.List.{List, [], _∷_}
 use Prim.Native.Nat.{ℕ, _+_, _*_, _/_, _%_}
 use lib.Dec.{eqb}
-use lib.ListN.{drop}
+use lib.ListN.{length, getD, drop}
 use Rattle.nets.specs.Bits.{Bits}
 use Rattle.nets.specs.Lists.{mergeL, intersectL, excludeL}
 use Rattle.nets.specs.Refusals.{answered}
@@ -26,15 +26,20 @@ use Rattle.listing.specs.Calls.{nextRule}
 use Rattle.listing.specs.declared.From.{From}
 use Rattle.listing.specs.declared.From.the-variants.{Start, Past}
 use Rattle.walk.specs.Places.{nthRule, lastRule}
+use Rattle.netrows.specs.Rows.{rowRule, rowAfter, blank}
 use Rattle.text.specs.Ipv4.{readLine}
 use Rattle.codes.specs.Bytes.{u16At}
 use Rattle.codes.specs.Tails.{wordsFrom, numbersFrom}
 use Rattle.codes.specs.declared.Call.{Call}
 use Rattle.codes.specs.declared.Reply.{Reply}
-use Rattle.replies.specs.Replies.{noReply, oneReply, twoReply, flagReply, netReply, foundReply, bitsReply, bitReply, changed}
+use Rattle.replies.specs.Replies.{noReply, oneReply, twoReply, flagReply, netReply, foundReply, bitsReply, bitReply, changed, entryReply}
 
 abbrev pub fromOf : Call → From
 fromOf c = cond (eqb (c .b) 0) Start (Past (c .net))
+
+-- entry b mod 16 of the page of set k
+unfoldable pub entryOf : List ℕ → ℕ → ℕ → Reply
+entryOf w k b = entryReply (rowRule (decode w) k (length blank)) (getD (rowAfter blank (decode w) k) (b % 16) noNet)
 
 unfoldable pub reportOf : List ℕ → Call → Reply
 reportOf w c =
@@ -47,7 +52,8 @@ reportOf w c =
     (cond (eqb (c .code) 14) (flagReply (equalRule (decode w) (c .a) (c .b)))
     (cond (eqb (c .code) 22) (foundReply (nthRule (decode w) (c .a) (c .b)))
     (cond (eqb (c .code) 23) (foundReply (lastRule (decode w) (c .a)))
-    (foundReply (nextRule (decode w) (c .a) (fromOf c)))))))))))
+    (cond (eqb (c .code) 24) (entryOf w (c .a) (c .b))
+    (foundReply (nextRule (decode w) (c .a) (fromOf c))))))))))))
 
 -- the list that a call makes of sets b and c goes to set a
 abbrev pub combined : (List Bits → List Bits → List Bits) → List ℕ → Call → Reply × List ℕ

@@ -1,12 +1,13 @@
 // The calls that read the pool and answer with numbers, a flag or a network.
 ghost use mathlib.Core.Path.{_≡_};
-ghost use Rattle.acts.specs.Effects.{fromOf, reportOf};
+ghost use Rattle.acts.specs.Effects.{fromOf, reportOf, entryOf};
 use codes::Call;
 use codes::Reply;
 use codes::table;
 use listing::From;
 use replies::of_answer;
 use replies::of_covering;
+use replies::of_entry;
 use replies::of_follower;
 use replies::of_report;
 use replies::of_told;
@@ -20,6 +21,16 @@ fn from_of(c: Call) -> From
     }
     let net = c.net;
     From::Past(net)
+}
+
+// Entry b mod 16 of a set's page.
+fn entry(pool: &[u32], set: u32, b: u32) -> Reply
+    ensures { λ r. ⌜ r ≡ entryOf (now (pool .entry)) set b ⌝ }
+{
+    let page = netrows::page_of(pool, set);
+    let answer = page.answer;
+    let k = (b % 16) as usize;
+    of_entry(answer, page.nets[k])
 }
 
 // A call that reads the pool, by its code; next is the one that is left.
@@ -37,6 +48,7 @@ pub fn report(pool: &[u32], c: Call) -> Reply
         table::EQUAL => of_told(combine::equal(pool, c.a, c.b)),
         table::NTH => of_follower(walk::nth(pool, c.a, c.b)),
         table::LAST => of_follower(walk::last(pool, c.a)),
+        table::PAGE => entry(pool, c.a, c.b),
         _ => of_follower(listing::next(pool, c.a, from_of(c))),
     }
 }

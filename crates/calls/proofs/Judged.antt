@@ -16,25 +16,25 @@ pub code-none : (k : ℕ) → k < 1 → isCode k ≡ false
 unfolding isCode
 code-none k h = rw (lt-leb 1 k h, lt-leb 32 k (omega arith), lt-leb 48 k (omega arith))
 
-pub code-first : (k : ℕ) → 1 ≤ k → k ≤ 23 → isCode k ≡ true
+pub code-first : (k : ℕ) → 1 ≤ k → k ≤ 24 → isCode k ≡ true
 unfolding isCode
-code-first k h i = rw (le-leb 1 k h, le-leb k 23 i)
+code-first k h i = rw (le-leb 1 k h, le-leb k 24 i)
 
-pub code-gap : (k : ℕ) → 23 < k → k < 32 → isCode k ≡ false
+pub code-gap : (k : ℕ) → 24 < k → k < 32 → isCode k ≡ false
 unfolding isCode
-code-gap k h i = rw (le-leb 1 k (omega arith), lt-leb k 23 h, lt-leb 32 k i, lt-leb 48 k (omega arith))
+code-gap k h i = rw (le-leb 1 k (omega arith), lt-leb k 24 h, lt-leb 32 k i, lt-leb 48 k (omega arith))
 
 pub code-second : (k : ℕ) → 32 ≤ k → k ≤ 40 → isCode k ≡ true
 unfolding isCode
-code-second k h i = rw (le-leb 1 k (omega arith), lt-leb k 23 (omega arith), le-leb 32 k h, le-leb k 40 i)
+code-second k h i = rw (le-leb 1 k (omega arith), lt-leb k 24 (omega arith), le-leb 32 k h, le-leb k 40 i)
 
 pub code-gap2 : (k : ℕ) → 40 < k → k < 48 → isCode k ≡ false
 unfolding isCode
-code-gap2 k h i = rw (le-leb 1 k (omega arith), lt-leb k 23 (omega arith), le-leb 32 k (omega arith), lt-leb k 40 h, lt-leb 48 k i)
+code-gap2 k h i = rw (le-leb 1 k (omega arith), lt-leb k 24 (omega arith), le-leb 32 k (omega arith), lt-leb k 40 h, lt-leb 48 k i)
 
 pub code-third : (k : ℕ) → 48 ≤ k → isCode k ≡ leb k 49
 unfolding isCode
-code-third k h = rw (le-leb 1 k (omega arith), lt-leb k 23 (omega arith), le-leb 32 k (omega arith), lt-leb k 40 (omega arith), le-leb 48 k h)
+code-third k h = rw (le-leb 1 k (omega arith), lt-leb k 24 (omega arith), le-leb 32 k (omega arith), lt-leb k 40 (omega arith), le-leb 48 k h)
 
 -- the tails
 pub tail-list : (c : Call) → c .code ≡ 15 → tailLength c ≡ 8 * c .b

@@ -34,7 +34,7 @@ tailLength c =
     cond (eqb (c .code) 15) (8 * c .b) (cond (eqb (c .code) 18) (c .b) (cond (eqb (c .code) 19) (c .b) (cond (eqb (c .code) 49) (4 * c .b) 0)))
 
 unfoldable pub isCode : ℕ → Bool
-isCode k = (leb 1 k && leb k 23) || ((leb 32 k && leb k 40) || (leb 48 k && leb k 49))
+isCode k = (leb 1 k && leb k 24) || ((leb 32 k && leb k 40) || (leb 48 k && leb k 49))
 
 -- a call is judged by its fixed part, the rows that are lent and the bytes that are left for answers
 unfoldable pub stopOf : Call → ℕ → ℕ → ℕ

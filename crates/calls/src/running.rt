@@ -60,7 +60,7 @@ fn is_code(k: u8) -> bool
     if k < table::LAYOUT {
         return false;
     }
-    if k <= table::LAST {
+    if k <= table::PAGE {
         return true;
     }
     if k < table::NEW {

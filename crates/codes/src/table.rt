@@ -45,6 +45,8 @@ pub const NTH: u8 = 22;
 
 pub const LAST: u8 = 23;
 
+pub const PAGE: u8 = 24;
+
 pub const NEW: u8 = 32;
 
 pub const TO_NETWORK: u8 = 33;

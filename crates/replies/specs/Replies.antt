@@ -3,7 +3,7 @@
 --   noReply k, oneReply, twoReply, flagReply, netReply, foundReply, bitsReply     a number of the table with no value, one number, two, a flag, a network, one that
 --                                                                                 may be missing, what a bit iterator has left
 --   bitReply            the step of the bit iterator
---   toldReply           the answers by a flag
+--   toldReply           the answers by a flag;  entryReply: one number, and an entry of a page
 --   changed w k a f     a changing call on set k: its answer, and the words that it leaves
 use mathlib.Core.Bool.{Bool, true, false, cond}
 use mathlib.Core.List.{List}
@@ -41,6 +41,9 @@ netReply a = reply (a .0) false 0 0 (a .1)
 
 abbrev pub foundReply : ℕ × (Bool × Net) → Reply
 foundReply a = reply (a .0) (a .1 .0) 0 0 (a .1 .1)
+
+abbrev pub entryReply : ℕ × ℕ → Net → Reply
+entryReply a n = reply (a .0) false (a .1) 0 n
 
 abbrev pub leftNet : PrefixBits → Net
 leftNet s = netWords 0 (s .hi) (s .lo) (s .len)

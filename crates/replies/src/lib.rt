@@ -7,7 +7,7 @@ ghost use Rattle.pool.specs.Rules.{answerAs, reportAs};
 ghost use Rattle.lookup.specs.Rules.{supernetAs};
 ghost use Rattle.listing.specs.Calls.{followerAs};
 ghost use Rattle.text.specs.Answers.{writtenAs};
-ghost use Rattle.replies.specs.Replies.{noReply, oneReply, twoReply, flagReply, netReply, foundReply, leftNet, bitsReply, bitReply, toldReply};
+ghost use Rattle.replies.specs.Replies.{noReply, oneReply, twoReply, flagReply, netReply, foundReply, leftNet, bitsReply, bitReply, toldReply, entryReply};
 use codes::Reply;
 use listing::Follower;
 use lookup::Covering;
@@ -116,6 +116,20 @@ pub fn of_answer(a: Answer) -> Reply
     match a {
         Answer::Granted(x) => of_numbers(0, x, 0),
         Answer::Refused(no) => refused(no),
+    }
+}
+
+// An entry of a page beside the answer.
+pub fn of_entry(a: Answer, net: Net) -> Reply
+    ensures { λ r. ⌜ r ≡ entryReply (answerAs a) net ⌝ }
+{
+    let r = of_answer(a);
+    Reply {
+        no: r.no,
+        flag: false,
+        x: r.x,
+        y: 0,
+        net,
     }
 }
 

@@ -31,6 +31,7 @@ report-spec =
     (λ c κs. search needs)
     (λ c κs. search needs)
     (λ c κs. search needs)
+    (λ c κs. search needs)
     (λ c. rw (c .before .before .match .keys1) (rw (c .before .free .ensures) at (c .of-answer .ensures)))
     (λ c. rw (c .before .before .match .keys2) (rw (c .before .held .ensures) at (c .of-report .ensures)))
     (λ c. rw (c .before .before .match .keys3) (rw (c .before .plan .ensures) at (c .of-report2 .ensures)))
@@ -40,8 +41,9 @@ report-spec =
     (λ c. rw (c .before .before .match .keys7) (rw (c .before .equal .ensures) at (c .of-told3 .ensures)))
     (λ c. rw (c .before .before .match .keys8) (rw (c .before .nth .ensures) at (c .of-follower .ensures)))
     (λ c. rw (c .before .before .match .keys9) (rw (c .before .last .ensures) at (c .of-follower2 .ensures)))
+    (λ c. rw (c .before .match .keys10) (c .entry .ensures))
     (λ c.
     let n = c .before in
     let r = n .before .before .match .rest in
-    rw (ne-eqb _ _ (r .0 .0 .0 .0 .0 .0 .0 .0 .1), ne-eqb _ _ (r .0 .0 .0 .0 .0 .0 .0 .1), ne-eqb _ _ (r .0 .0 .0 .0 .0 .0 .1), ne-eqb _ _ (r .0 .0 .0 .0 .0 .1), ne-eqb _ _ (r .0 .0 .0 .0 .1), ne-eqb _ _ (r .0 .0 .0 .1), ne-eqb _ _ (r .0 .0 .1), ne-eqb _ _ (r .0 .1), ne-eqb _ _ (r .1))
+    rw (ne-eqb _ _ (r .0 .0 .0 .0 .0 .0 .0 .0 .0 .1), ne-eqb _ _ (r .0 .0 .0 .0 .0 .0 .0 .0 .1), ne-eqb _ _ (r .0 .0 .0 .0 .0 .0 .0 .1), ne-eqb _ _ (r .0 .0 .0 .0 .0 .0 .1), ne-eqb _ _ (r .0 .0 .0 .0 .0 .1), ne-eqb _ _ (r .0 .0 .0 .0 .1), ne-eqb _ _ (r .0 .0 .0 .1), ne-eqb _ _ (r .0 .0 .1), ne-eqb _ _ (r .0 .1), ne-eqb _ _ (r .1))
     (rw (n .next .ensures, n .before .from-of .ensures) at (c .of-follower3 .ensures))))
