@@ -371,6 +371,10 @@ pub fn apply(w: &mut [u32], c: &Call) -> Answer {
         LOAD => load(w, s, c),
         NTH => answered(if known { 0 } else { 3 }, || found(f, s.sets[k].list.iter().nth(c.b as usize).copied())),
         LAST => answered(if known { 0 } else { 3 }, || found(f, s.sets[k].list.last().copied())),
+        PAGE => answered(if !known { 3 } else if s.sets[k].list.len() > 16 { 11 } else { 0 }, || {
+            let l = &s.sets[k].list;
+            Answer { net: l.iter().nth(c.b as usize % 16).map_or(Net::default(), |&m| net(f, m)), ..number(l.len() as u32) }
+        }),
         NEXT => next(&s, c),
         code => panic!("no call has the code {code}"),
     }

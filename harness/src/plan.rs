@@ -206,7 +206,8 @@ impl Plan {
             27..=29 => LINES,
             30..=31 => NTH,
             32 => LAST,
-            33..=41 => REMOVE,
+            33 => PAGE,
+            34..=41 => REMOVE,
             42..=46 => SIMPLIFY,
             47..=51 => MERGE,
             52..=56 => INTERSECT,
@@ -240,7 +241,7 @@ impl Plan {
                 call.c = d.roll() as u32;
             }
             NEXT => call.b = d.below(4) as u32,
-            NTH => call.b = d.below(10) as u32,
+            NTH | PAGE => call.b = d.below(18) as u32,
             SAVE => {
                 let size = s.sets.get(a as usize).map_or(16, |set| file(self.family, &set.list).len() as u32);
                 call.b = d.pick(&[size, size + 1, size - 1, size + 40, 0, 15]);

@@ -51,6 +51,7 @@ pub const LOAD: u8 = 20;
 pub const LINES: u8 = 21;
 pub const NTH: u8 = 22;
 pub const LAST: u8 = 23;
+pub const PAGE: u8 = 24;
 pub const NEW: u8 = 32;
 pub const TO_NETWORK: u8 = 33;
 pub const WITH_NEW_PREFIX: u8 = 34;
