@@ -1,13 +1,13 @@
 -- The calls on a set: where its trie stands, by what a survey has seen, and then a law for each return of list and next, by the tests on the way to it.
 -- Assumes nothing.
 use mathlib.Core.Path.{_≡_, refl, sym, ap, _∙_}
-use mathlib.Core.Bool.{Bool, true, false, _||_}
+use mathlib.Core.Bool.{Bool, true, false}
 use mathlib.Core.List.{List}
 use Prim.Native.Nat.{ℕ, _+_, _*_, _≤_, _<_}
 use native.Mathlib.Omega.{arith}
 use lib.Dec.{eqb}
 use lib.ListN.{length, getD}
-use borrow.Author.Tests.{lt-ltb, le-ltb, le-leb, lt-leb, ne-eqb, eqb-true}
+use borrow.Author.Tests.{lt-ltb, le-ltb, le-leb, lt-leb, ne-eqb}
 use Rattle.nets.specs.Lists.{past, Found, found, missing, nextL}
 use Rattle.nets.specs.Networks.{refusalOf, startOf, noBits, prefixAs}
 use Rattle.nets.specs.Refusals.{number, answered}
@@ -18,10 +18,10 @@ use Rattle.nets.specs.declared.Prefix.the-variants as prefix
 use Rattle.nets.specs.declared.PrefixBits.{PrefixBits}
 use Rattle.nets.specs.declared.Refusal.{Refusal}
 use Rattle.nets.specs.declared.Refusal.the-variants.{Damaged, NoSet, ShortBuffer}
-use Rattle.nets.proofs.Numbers.{bitsLeft-start, startOf-few}
+use Rattle.nets.proofs.Numbers.{bitsLeft-start, startOf-few, family-few}
 use Rattle.nets.proofs.Answers.{number-some, prefix-bits}
 use Rattle.nodes.specs.Words.{put}
-use Rattle.pool.specs.States.{State, isFamily}
+use Rattle.pool.specs.States.{State}
 use Rattle.pool.specs.Decode.{Decoded, damaged, sound, base, decode}
 use Rattle.pool.specs.Rules.{surveyOf}
 use Rattle.pool.specs.Changes.{listAt}
@@ -51,13 +51,6 @@ use Rattle.listing.proofs.RowForm.{rows-laid}
 use Rattle.pool.proofs.Returns.{netNo-own, netNo-other}
 
 -- Where the trie of a set stands.
-isFamily-few : (f : ℕ) → isFamily f ≡ true → f ≤ 6
-isFamily-few f e = go (eqb f 4) refl e
-  where
-    go : (b : Bool) → eqb f 4 ≡ b → (b || eqb f 6) ≡ true → f ≤ 6
-    go true q e = omega (arith, eqb-true f 4 q)
-    go false q e = omega (arith, eqb-true f 6 e)
-
 module _ (w : List ℕ) (k : ℕ) (v : Survey) (e : v ≡ surveyOf (decode w) k) where
   pub seat-damaged : v .sound ≡ false → Seats w k (Refused Damaged)
   seat-damaged q = rw (survey-damaged w k v e q) refl
@@ -67,7 +60,7 @@ module _ (w : List ℕ) (k : ℕ) (v : Survey) (e : v ≡ surveyOf (decode w) k)
 
 module _ {w : List ℕ} {S : State} {k : ℕ} {v : Survey} (h : Seen w S k v) where
   pub seat-family : getD w 1 0 ≤ 6
-  seat-family = isFamily-few (getD w 1 0) (isHeader-header w (seen-header h .known) .family)
+  seat-family = family-few (getD w 1 0) (isHeader-header w (seen-header h .known) .family)
 
   pub seat-sits : Sits w k S (record { family = getD w 1 0; base = base (getD w 2 0); first = v .at; end = v .at + v .held })
   seat-sits =

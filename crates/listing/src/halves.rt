@@ -7,13 +7,7 @@ ghost use Rattle.nets.specs.Bits.{Bits};
 ghost use Rattle.nets.specs.Networks.{width, netFrom};
 ghost use Rattle.listing.specs.Spans.{snoc};
 use nets::Net;
-
-// How many bits an address of the family has.
-fn width(family: u8) -> u8
-    ensures { λ r. ⌜ r ≡ width family ⌝ }
-{
-    if family == 4 { 32 } else { 128 }
-}
+use nets::width;
 
 // The network of all addresses.
 pub fn whole(family: u8) -> Net
