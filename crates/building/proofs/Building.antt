@@ -1,269 +1,197 @@
--- Building, step by step: what the tests say of the trie that is due, its children as the next that are due, and the node over them. Assumes nothing.
-use mathlib.Core.Path.{_≡_, refl, sym, ap, _∙_}
-use mathlib.Core.Bool.{Bool, true, false}
-use mathlib.Core.List.{List, [], _∷_, _++_, append-assoc}
-use Prim.Native.Nat.{ℕ, suc, _+_, _≤_, _<_}
+-- Building, network by network: the state of the loop, its start, a turn and its end. Assumes nothing.
+use mathlib.Core.Path.{_≡_, sym, ap, _∙_}
+use mathlib.Core.List.{List, [], _∷_}
+use Prim.Native.Nat.{ℕ, suc, _+_, _-_, _*_, _≤_, _<_}
 use native.Mathlib.Omega.{arith}
-use lib.ListN.{length, getD, length-append}
-use lib.Seq.{getD-take, getD-at}
-use Rattle.nets.specs.Bits.{Bits, bits}
-use Rattle.nets.specs.Tries.{Trie, none, node, leaf, isNone, size, levels}
-use Rattle.nets.specs.Networks.{width, address, netBits, netFrom}
+use native.Mathlib.Decide.{decLt}
+use lib.ListN.{length, getD}
+use Rattle.nets.specs.Bits.{Bits}
+use Rattle.nets.specs.Tries.{Trie, size, levels}
+use Rattle.nets.specs.Networks.{width, netBits, netFrom}
 use Rattle.nets.specs.declared.Net.{Net}
-use Rattle.nets.proofs.Numbers.{netBits-netFrom, width-le}
-use Rattle.nodes.specs.Words.{put, place, enc, word, link0, link1}
-use Rattle.nodes.specs.Links.{linked}
-use Rattle.nodes.proofs.Put.{put-nil, length-put, put-behind-at, put-before-at}
-use Rattle.nodes.proofs.Tries.{length-enc}
-use Rattle.nodes.proofs.Linked.{linked-is}
+use Rattle.nets.proofs.Numbers.{netBits-netFrom}
+use Rattle.nodes.specs.Words.{put, place, enc}
+use Rattle.nodes.proofs.Put.{length-put}
+use Rattle.files.specs.Streams.{shared}
 use Rattle.merging.specs.Flow.{headAs, Flow}
 use Rattle.merging.specs.declared.Head.{Head}
-use Rattle.listing.specs.Spans.{snoc}
-use Rattle.listing.proofs.Paths.{length-snoc, path-is}
-use Rattle.building.specs.Building.{under, lastOf, Due, Writes}
-use Rattle.building.specs.declared.writing.Built.{Built}
-use Rattle.building.proofs.Under.{First, here, left, right, first-levels, first-some, under-first, under-none, under-leaf, under-node, lastOf-append, last-under, outside-longer, outside-other, deep-out, shared-other}
+use Rattle.listing.proofs.Paths.{path-is}
+use Rattle.building.specs.Building.{chain, Chains, Chained, Appends, Appended, Due}
+use Rattle.building.proofs.Growing.{offset, offset-chain, size-chain, grow-deep, grow-size, grow-at, grow-old, grow-new, grow-put, Cut, cut-size, cut-levels, cut-first, Next, Onward, onward}
 
--- Bit d of the address of a network is its own.
-bit-of : (n : Net) (f : ℕ) (q : Bits) (d : ℕ) → n ≡ netFrom f q → length q ≤ width f → d < length q → getD (bits (width (n .family)) (address n)) d false ≡ getD q d false
-unfolding netBits
-bit-of n f q d e h k =
-    let s = path-is n f q e in
-    sym (getD-take (n .len) (bits (width (n .family)) (address n)) d false (omega (arith, s .0))) ∙ ap (λ (l : Bits). getD l d false) (ap netBits e ∙ netBits-netFrom f q h)
+-- The networks of the trie t up to q are written from node o on over the words w₀, up to node e, and p are the nodes on the path to q; the head h and the cursors c are behind q.
+pub record Going (w₀ w : List ℕ) (b o e : ℕ) (p : List ℕ) (h : Head) (x : List ℕ) (f : ℕ) (c : List ℕ) (t : Trie) : Type 0 where
+  pub deep : levels t ≤ suc (width f)
+  pub one : 1 ≤ o
+  pub few : o + size t ≤ 1073741824
+  pub room : place b o + size t ≤ length w₀
+  pub wide : length p ≡ 129
+  pub u : Trie
+  pub q : Bits
+  pub ms : List Bits
+  pub cut : Cut t u q ms
+  pub wrote : w ≡ put w₀ (place b o) (enc u)
+  pub end : e ≡ o + size u
+  pub path : (k : ℕ) → k ≤ length q → getD p k 0 ≡ o + offset q u k
+  pub flow : Flow x f c ms
+  pub head : h ≡ headAs f q ms
 
--- The words of a node over its children.
-pub node-put : (w : List ℕ) (b o m e : ℕ) (l r : Trie) → 1 ≤ o → m ≡ o + 1 + size l → e ≡ m + size r
-    → put (put (put w (place b (o + 1)) (enc l)) (place b m) (enc r)) (place b o) (linked o m e ∷ []) ≡ put w (place b o) (enc (node l r))
-unfolding enc
-node-put w b o m e l r one em ee =
-    rw (linked-is l r o m e em ee, put-behind-at w (place b (o + 1)) (place b m) (enc l) (enc r) (omega (arith, length-enc l)))
-    (put-before-at w (place b o) (place b (o + 1)) (word l r ∷ []) (enc l ++ enc r) (omega arith))
+-- The network of a head.
+module _ {n : Net} (f : ℕ) (m : Bits) (e : n ≡ netFrom f m) (s : length m ≤ width f) where
+  net-bits : netBits n ≡ m
+  net-bits = ap netBits e ∙ netBits-netFrom f m s
 
-pub none-of : (t : Trie) → (isNone t ≡ false → ⊥) → t ≡ none
-none-of none f = refl
-none-of (node l r) f = absurd (f refl)
+  net-len : n .len ≡ length m
+  net-len = path-is n f m e .0
 
-pub some-of : (t : Trie) → (t ≡ none → ⊥) → isNone t ≡ false
-some-of none f = absurd (f refl)
-some-of (node l r) f = refl
+  net-short : n .len ≤ width (n .family)
+  net-short = rw (path-is n f m e .1) (omega (arith, net-len))
 
--- A node by the next bit of the first network below it: a second child alone, or a first one.
-pub data Turn : Bool → Trie → Type 0 where
-  second : {r : Trie} → isNone r ≡ false → Turn true (node none r)
-  first : {l r : Trie} → isNone l ≡ false → Turn false (node l r)
+-- The first network.
+module _ {w : List ℕ} {b o : ℕ} {h : Head} {x : List ℕ} {f : ℕ} {c : List ℕ} {t : Trie} (g : Due w b o h x f c t) where
+  pub record First : Type 0 where
+    pub q : Bits
+    pub ms : List Bits
+    pub cut : Cut t (chain q) q ms
+    pub flow : Flow x f c (q ∷ ms)
+    pub net : h .net ≡ netFrom f q
+    pub short : length q ≤ width f
 
-module _ {w : List ℕ} {b o d : ℕ} {h : Head} {x : List ℕ} {f : ℕ} {c : List ℕ} {q p : Bits} {t : Trie} {rest : List Bits} (g : Due w b o d h x f c q p t rest) where
-  -- the head is the first network of the trie
-  pub record Headed : Type 0 where
-    pub m : Bits
-    pub first : First t m
-    pub net : h .net ≡ netFrom f (p ++ m)
-    pub len : h .net .len ≡ d + length m
-    pub family : h .net .family ≡ f
-    pub within : d + length m ≤ width f
-
-  pub headed : Headed
+  pub first : First
   unfolding headAs
-  headed =
-      let (m, ms, k, e) = under-first p t (g .some) in
-      let n : h .net ≡ netFrom f (p ++ m) = ap (λ (y : Head). y .net) (g .head) ∙ rw e in
-      let i = path-is (h .net) f (p ++ m) n in
-      record {
-        m = m;
-        first = k;
-        net = n;
-        len = i .0 ∙ length-append p m ∙ ap (λ k. k + length m) (g .path);
-        family = i .1;
-        within = omega (arith, first-levels k, g .deep);
-      }
+  first =
+      let (q, ms, k, e) = cut-first t (g .some) in
+      record { q = q; ms = ms; cut = k; flow = rw e at (g .flow); net = ap (λ (y : Head). y .net) (g .head) ∙ rw e; short = omega (arith, cut-levels k, g .deep) }
 
-  -- a head of just d bits is a leaf
-  pub due-leaf : h .net .len ≡ d → (t ≡ leaf) × Due w b o d h x f c q p leaf rest
-  due-leaf e = let k = headed in go (k .first) (omega (arith, k .len)) g
-    where
-      go : {u : Trie} {m : Bits} → First u m → length m ≡ 0 → Due w b o d h x f c q p u rest → (u ≡ leaf) × Due w b o d h x f c q p leaf rest
-      go here z i = (refl, i)
-      go (left j) z i = absurd (omega arith)
-      go (right j) z i = absurd (omega arith)
+  first-size : suc (h .net .len) ≤ size t
+  first-size = let k = first in omega (arith, net-len f (k .q) (k .net) (k .short), size-chain (k .q), cut-size (k .cut))
 
-  -- a longer one goes on with a bit
-  module _ (e : h .net .len ≡ d → ⊥) where
-    due-within : d < width f
-    due-within = let k = headed in omega (arith, k .len, k .within, e)
+  pub first-chains : {p : List ℕ} → length p ≡ 129 → Chains w b o (h .net) 0 p
+  first-chains i = let k = first in record { one = g .one; few = omega (arith, g .few); from = omega arith; short = net-short f (k .q) (k .net) (k .short); room = omega (arith, g .room, first-size); wide = i }
 
-    pub due-depth : (o ≤ 1073741824) × (d < 128)
-    due-depth = (omega (arith, g .few), omega (arith, due-within, width-le f))
+  pub first-few : o + (h .net .len + 1) ≤ 1073741824
+  first-few = omega (arith, g .few, first-size)
 
-    pub due-turn : d < width (h .net .family)
-    due-turn = rw (headed .family) due-within
+  pub first-going : {v p z d : List ℕ} {y : Head} → length p ≡ 129 → Chained w v b o (h .net) 0 p z → (k : First) → Flow x f d (k .ms) × (y ≡ headAs f (k .q) (k .ms))
+      → Going w v b o (o + (h .net .len + 1)) z y x f d t
+  first-going i a k (j, n) = record {
+    deep = g .deep;
+    one = g .one;
+    few = g .few;
+    room = g .room;
+    wide = a .along .wide ∙ i;
+    u = chain (k .q);
+    q = k .q;
+    ms = k .ms;
+    cut = k .cut;
+    wrote = rw (net-bits f (k .q) (k .net) (k .short)) at (a .wrote);
+    end = omega (arith, net-len f (k .q) (k .net) (k .short), size-chain (k .q));
+    path = λ r l. omega (arith, a .along .new r (omega arith) (omega (arith, net-len f (k .q) (k .net) (k .short))), offset-chain (k .q) r l);
+    flow = j;
+    head = n;
+  }
 
-    pub due-bit : (z : Bool) → z ≡ getD (bits (width (h .net .family)) (address (h .net))) d false → Turn z t
-    due-bit z s =
-        let k = headed in
-        let v : z ≡ getD (p ++ k .m) d false =
-        s ∙ bit-of (h .net) f (p ++ k .m) d (k .net) (omega (arith, length-append p (k .m), k .within, g .path)) (omega (arith, length-append p (k .m), k .len, g .path, e)) in
-        go (k .first) (λ i. e (omega (arith, k .len))) v
+-- The head is of the next network m, by which the trie grows; or it is of none, and the trie is whole.
+pub record Heading (t u : Trie) (q : Bits) (h : Head) (x : List ℕ) (f : ℕ) (c : List ℕ) : Type 0 where
+  pub m : Bits
+  pub ms : List Bits
+  pub next : Next t u q m ms
+  pub flow : Flow x f c (m ∷ ms)
+  pub net : h .net ≡ netFrom f m
+  pub deep : h .deep ≡ suc (shared q m)
+
+heading : {t u : Trie} {q : Bits} {h : Head} {x : List ℕ} {f : ℕ} {c : List ℕ} (ms : List Bits) → Onward t u q ms → Flow x f c ms → h ≡ headAs f q ms → (h .deep ≡ 0 → ⊥) → Heading t u q h x f c
+unfolding headAs
+heading [] k i e n = absurd (n (ap (λ (y : Head). y .deep) e))
+heading (m ∷ ms) k i e n = record { m = m; ms = ms; next = k; flow = i; net = ap (λ (y : Head). y .net) e; deep = ap (λ (y : Head). y .deep) e }
+
+whole : {t u : Trie} (q : Bits) {h : Head} (f : ℕ) (ms : List Bits) → Onward t u q ms → h ≡ headAs f q ms → h .deep ≡ 0 → u ≡ t
+unfolding headAs
+whole q f [] k e z = k
+whole {t} {u} q {h} f (m ∷ ms) k e z = let d : h .deep ≡ suc (shared q m) = ap (λ (y : Head). y .deep) e in absurd (omega arith)
+
+module _ {w₀ w : List ℕ} {b o e : ℕ} {p : List ℕ} {h : Head} {x : List ℕ} {f : ℕ} {c : List ℕ} {t : Trie} (g : Going w₀ w b o e p h x f c t) where
+  pub going-few : e ≤ 1073741824
+  going-few = omega (arith, g .end, g .few, cut-size (g .cut))
+
+  pub going-end : h .deep ≡ 0 → w ≡ put w₀ (place b o) (enc t)
+  going-end z = g .wrote ∙ ap (λ u. put w₀ (place b o) (enc u)) (whole (g .q) f (g .ms) (onward (g .cut)) (g .head) z)
+
+  pub going-long : length w ≡ length w₀
+  going-long = rw (g .wrote) (length-put w₀ (place b o) (enc (g .u)))
+
+  pub going : (h .deep ≡ 0 → ⊥) → Heading t (g .u) (g .q) h x f c
+  going = heading (g .ms) (onward (g .cut)) (g .flow) (g .head)
+
+  -- the head's depth and length, the nodes that it brings, and the node that gets a second child
+  module _ (k : Heading t (g .u) (g .q) h x f c) where
+    short : length (k .m) ≤ width f
+    short = omega (arith, cut-levels (k .next .cut), g .deep)
+
+    len : h .net .len ≡ length (k .m)
+    len = net-len f (k .m) (k .net) short
+
+    turns : (h .deep ≤ h .net .len) × (h .deep ≤ suc (length (g .q)))
+    turns = let d = grow-deep (k .next .grows) in (omega (arith, len, k .deep), omega (arith, k .deep))
+
+    brings : e + (h .net .len + 1 - h .deep) ≡ o + size (k .next .grown)
+    brings = let d = grow-deep (k .next .grows) in let s = grow-size (k .next .grows) in omega (arith, len, k .deep, g .end)
+
+    at : getD p (h .deep - 1) 0 ≡ o + offset (g .q) (g .u) (shared (g .q) (k .m))
+    at =
+        let d : h .deep - 1 ≡ shared (g .q) (k .m) = omega (arith, k .deep) in
+        ap (λ j. getD p j 0) d ∙ g .path (shared (g .q) (k .m)) (omega (arith, grow-deep (k .next .grows)))
+
+    pub going-step : (h .deep ≤ h .net .len + 1) × ((e + (h .net .len + 1 - h .deep) ≤ 1073741824) × (e < e + (h .net .len + 1 - h .deep)))
+    going-step = let n = turns in (omega arith, (omega (arith, brings, g .few, cut-size (k .next .cut)), omega arith))
+
+    pub going-appends : Appends w b e h p
+    going-appends = record {
+      deep = omega (arith, k .deep);
+      one = omega (arith, at, g .one);
+      before = omega (arith, at, g .end, grow-at (k .next .grows));
+      chains = record {
+        one = omega (arith, g .end, g .one);
+        few = going-few;
+        from = turns .0;
+        short = net-short f (k .m) (k .net) short;
+        room = room;
+        wide = g .wide;
+      };
+    }
       where
-        go : {u : Trie} {m : Bits} → First u m → (length m ≡ 0 → ⊥) → z ≡ getD (p ++ m) d false → Turn z u
-        go here y v = absurd (y refl)
-        go (left {l} {r} {m} i) y v = rw (v ∙ getD-at p false m false d (g .path)) (first (first-some i))
-        go (right {r} {m} i) y v = rw (v ∙ getD-at p true m false d (g .path)) (second (first-some i))
+        room : place b e + (h .net .len - h .deep) < length w
+        room =
+            let n = turns .0 in
+            let s : e + (h .net .len - h .deep) + 1 ≤ o + size t = omega (arith, brings, cut-size (k .next .cut)) in
+            let i : 1 ≤ e = omega (arith, g .end, g .one) in
+            omega (arith, g .room, g .one, going-long)
 
-    module _ (z : Bool) (s : z ≡ getD (bits (width (h .net .family)) (address (h .net))) d false) where
-      pub due-second : z ≡ true → (r : Trie) × (t ≡ node none r) × (isNone r ≡ false) × Due w b o d h x f c q p (node none r) rest
-      due-second v = go (rw v at (due-bit z s)) g
-        where
-          go : {u : Trie} → Turn true u → Due w b o d h x f c q p u rest → (r : Trie) × (u ≡ node none r) × (isNone r ≡ false) × Due w b o d h x f c q p (node none r) rest
-          go (second {r} i) k = (r, refl, i, k)
-
-      pub due-first : z ≡ false → (l : Trie) × (r : Trie) × (t ≡ node l r) × (isNone l ≡ false) × Due w b o d h x f c q p (node l r) rest
-      due-first v = go (rw v at (due-bit z s)) g
-        where
-          go : {u : Trie} → Turn false u → Due w b o d h x f c q p u rest → (l : Trie) × (r : Trie) × (u ≡ node l r) × (isNone l ≡ false) × Due w b o d h x f c q p (node l r) rest
-          go (first {l} {r} i) k = (l, r, refl, i, k)
-
--- A leaf: its network is the head.
-module _ {w : List ℕ} {b o d : ℕ} {h : Head} {x : List ℕ} {f : ℕ} {c : List ℕ} {q p : Bits} {rest : List Bits} (g : Due w b o d h x f c q p leaf rest) where
-  pub leaf-room : (1 ≤ o) × (place b o < length w)
-  unfolding size
-  leaf-room = (g .one, omega (arith, g .room))
-
-  pub leaf-flow : Flow x f c (p ∷ rest)
-  leaf-flow = rw under-leaf at (g .flow)
-
-  pub leaf-net : h .net ≡ netFrom f p
-  unfolding headAs
-  leaf-net = ap (λ (y : Head). y .net) (rw under-leaf at (g .head))
-
-  pub leaf-done : {w₁ c₁ : List ℕ} {n : Head} → w₁ ≡ put w (place b o) (0 ∷ []) → Flow x f c₁ rest × (n ≡ headAs f p rest)
-      → Writes w w₁ b o (record { end = o + 1; next = n }) x f c₁ q p leaf rest
-  unfolding size enc word link0 link1 lastOf
-  leaf-done e (i, n) = record { wrote = e; end = refl; flow = i; next = n ∙ rw under-leaf }
-
--- A node whose second child alone is due, and the node over what is written of it.
-module _ {w : List ℕ} {b o d : ℕ} {h : Head} {x : List ℕ} {f : ℕ} {c : List ℕ} {q p : Bits} {r : Trie} {rest : List Bits} (g : Due w b o d h x f c q p (node none r) rest) (s : isNone r ≡ false) where
-  alone : under p (node none r) ≡ under (snoc p true) r
-  alone = under-node p none r s ∙ rw (under-none (snoc p false))
-
-  pub second-due : Due w b (o + 1) (d + 1) h x f c q (snoc p true) r rest
-  unfolding size levels
-  second-due = record {
-    some = s;
-    path = length-snoc p true ∙ ap (λ n. n + 1) (g .path);
-    deep = omega (arith, g .deep);
-    flow = rw alone at (g .flow);
-    head = rw alone at (g .head);
-    ends = outside-longer p (true ∷ []) rest (g .ends);
-    one = omega arith;
-    few = omega (arith, g .few);
-    room = omega (arith, g .room, g .one);
-  }
-
-  pub second-links : {w₁ c₁ : List ℕ} {z : Built} → Writes w w₁ b (o + 1) z x f c₁ q (snoc p true) r rest → (1 ≤ o) × ((o ≤ o + 1) × ((o + 1 < 2147483648) × (place b o < length w₁)))
-  unfolding size
-  second-links k = (g .one, (omega arith, (omega (arith, g .few), rw (k .wrote, length-put w (place b (o + 1)) (enc r)) (omega (arith, g .room)))))
-
-  pub second-done : {w₁ w₂ c₁ : List ℕ} {z : Built} → Writes w w₁ b (o + 1) z x f c₁ q (snoc p true) r rest → w₂ ≡ put w₁ (place b o) (linked o (o + 1) (z .end) ∷ [])
-      → Writes w w₂ b o z x f c₁ q p (node none r) rest
-  unfolding size enc
-  second-done {w₁} {w₂} {c₁} {z} k e = record {
-    wrote = e ∙ rw (k .wrote) (rw (put-nil w (place b (o + 1))) at (node-put w b o (o + 1) (z .end) none r (g .one) (omega arith) (k .end)));
-    end = omega (arith, k .end);
-    flow = k .flow;
-    next = rw alone (k .next);
-  }
-
--- A node with a first child: that child is due first, then the second, if there is one.
-module _ {w : List ℕ} {b o d : ℕ} {h : Head} {x : List ℕ} {f : ℕ} {c : List ℕ} {q p : Bits} {l r : Trie} {rest : List Bits} (g : Due w b o d h x f c q p (node l r) rest) (s : isNone l ≡ false) where
-  halves : under p (node l r) ≡ under (snoc p false) l ++ under (snoc p true) r
-  halves = under-node p l r (rw s)
-
-  stream : under p (node l r) ++ rest ≡ under (snoc p false) l ++ (under (snoc p true) r ++ rest)
-  stream = rw halves (append-assoc (under (snoc p false) l) (under (snoc p true) r) rest)
-
-  pub first-due : Due w b (o + 1) (d + 1) h x f c q (snoc p false) l (under (snoc p true) r ++ rest)
-  unfolding size levels
-  first-due = record {
-    some = s;
-    path = length-snoc p false ∙ ap (λ n. n + 1) (g .path);
-    deep = omega (arith, g .deep);
-    flow = rw stream at (g .flow);
-    head = rw stream at (g .head);
-    ends = outside-other p r rest (g .ends);
-    one = omega arith;
-    few = omega (arith, g .few);
-    room = omega (arith, g .room, g .one);
-  }
-
-  module _ {w₁ c₁ : List ℕ} {y : Built} (k : Writes w w₁ b (o + 1) y x f c₁ q (snoc p false) l (under (snoc p true) r ++ rest)) where
-    before : (m : Bits) × (lastOf q (under (snoc p false) l) ≡ snoc p false ++ m)
-    before = last-under (snoc p false) q l s
-
-    -- the next network shares more than d - 1 bits with the last exactly if there is a second child
-    deep-some : isNone r ≡ false → y .next .deep ≡ suc d
-    unfolding headAs
-    deep-some e =
-        let (m, ms, i, u) = under-first (snoc p true) r e in
-        ap (λ (n : Head). n .deep) (k .next) ∙ rw (u, before .1, shared-other p (before .0) m) (ap suc (g .path))
-
-    behind : r ≡ none → under (snoc p true) r ++ rest ≡ rest
-    behind e = rw (e, under-none (snoc p true))
-
-    deep-none : r ≡ none → y .next .deep ≤ d
-    deep-none e =
-        let m = before .0 in
-        let n : y .next ≡ headAs f (p ++ (false ∷ m)) rest = rw (behind e, before .1, append-assoc p (false ∷ []) m) at (k .next) in
-        omega (arith, deep-out f p (false ∷ m) rest (g .ends), ap (λ (n : Head). n .deep) n, g .path)
-
-    pub second-none : y .next .deep ≤ d → r ≡ none
-    second-none n = none-of r λ e. omega (arith, deep-some e)
-
-    pub second-some : d < y .next .deep → isNone r ≡ false
-    second-some n = some-of r λ e. omega (arith, deep-none e)
-
-    numbers : (y .end ≡ o + 1 + size l) × (length w₁ ≡ length w)
-    numbers = (k .end, rw (k .wrote) (length-put w (place b (o + 1)) (enc l)))
-
-    pub rest-due : isNone r ≡ false → Due w₁ b (y .end) (d + 1) (y .next) x f c₁ (lastOf q (under (snoc p false) l)) (snoc p true) r rest
-    unfolding size levels
-    rest-due e = record {
-      some = e;
-      path = length-snoc p true ∙ ap (λ n. n + 1) (g .path);
-      deep = omega (arith, g .deep);
-      flow = k .flow;
-      head = k .next;
-      ends = outside-longer p (true ∷ []) rest (g .ends);
-      one = omega (arith, numbers);
-      few = omega (arith, g .few, numbers);
-      room = omega (arith, g .room, g .one, numbers);
+    pub going-again : {v z d : List ℕ} {y : Head} → Appended w v b e h p z → Flow x f d (k .ms) × (y ≡ headAs f (k .m) (k .ms))
+        → Going w₀ v b o (e + (h .net .len + 1 - h .deep)) z y x f d t
+    going-again {v} {z} {d} {y} a (j, n) = record {
+      deep = g .deep;
+      one = g .one;
+      few = g .few;
+      room = g .room;
+      wide = a .along .wide ∙ g .wide;
+      u = k .next .grown;
+      q = k .m;
+      ms = k .ms;
+      cut = k .next .cut;
+      wrote = wrote;
+      end = brings;
+      path = λ r l. path r l (decLt r (h .deep));
+      flow = j;
+      head = n;
     }
+      where
+        wrote : v ≡ put w₀ (place b o) (enc (k .next .grown))
+        wrote =
+            let i = o + offset (g .q) (g .u) (shared (g .q) (k .m)) in
+            rw (at, net-bits f (k .m) (k .net) short, k .deep, g .wrote) at (a .wrote)
+            ∙ grow-put (k .next .grows) w₀ (place b o) (place b i) (place b e) (1 + 2 * (e - i)) (omega (arith, g .one)) (omega (arith, g .end, g .one)) (omega (arith, g .end, grow-at (k .next .grows)))
 
-    pub first-links : (1 ≤ o) × ((o ≤ y .end) × ((y .end < 2147483648) × (place b o < length w₁)))
-    unfolding size
-    first-links = (g .one, (omega (arith, numbers), (omega (arith, g .few, numbers), omega (arith, g .room, numbers))))
-
-    pub both-links : {w₂ c₂ : List ℕ} {z : Built} → Writes w₁ w₂ b (y .end) z x f c₂ (lastOf q (under (snoc p false) l)) (snoc p true) r rest
-        → (1 ≤ o) × ((o ≤ y .end) × ((y .end < 2147483648) × (place b o < length w₂)))
-    both-links i = let n = first-links in (n .0, (n .1 .0, (n .1 .1 .0, rw (i .wrote, length-put w₁ (place b (y .end)) (enc r)) (n .1 .1 .1))))
-
-    pub both-done : {w₂ w₃ c₂ : List ℕ} {z : Built} → Writes w₁ w₂ b (y .end) z x f c₂ (lastOf q (under (snoc p false) l)) (snoc p true) r rest
-        → w₃ ≡ put w₂ (place b o) (linked o (y .end) (z .end) ∷ []) → Writes w w₃ b o z x f c₂ q p (node l r) rest
-    unfolding size
-    both-done {w₂} {w₃} {c₂} {z} i e = record {
-      wrote = e ∙ rw (i .wrote, k .wrote) (node-put w b o (y .end) (z .end) l r (g .one) (k .end) (i .end));
-      end = omega (arith, i .end, k .end);
-      flow = i .flow;
-      next = i .next ∙ ap (λ m. headAs f m rest) (sym (lastOf-append q (under (snoc p false) l) (under (snoc p true) r)) ∙ ap (lastOf q) (sym halves));
-    }
-
-    -- nothing is written of a second child that is not there
-    pub first-done : {w₂ : List ℕ} → y .next .deep ≤ d → w₂ ≡ put w₁ (place b o) (linked o (y .end) (y .end) ∷ []) → Writes w w₂ b o y x f c₁ q p (node l r) rest
-    unfolding size enc lastOf
-    first-done n e =
-        let i = second-none n in
-        both-done (record {
-          wrote = rw i (sym (put-nil w₁ (place b (y .end))));
-          end = rw i (omega arith);
-          flow = rw (behind i) at (k .flow);
-          next = rw (behind i) at (k .next) ∙ rw (i, under-none (snoc p true));
-        }) e
+        path : (r : ℕ) → r ≤ length (k .m) → Dec (r < h .deep) → getD z r 0 ≡ o + offset (k .m) (k .next .grown) r
+        path r l (yes i) = a .along .old r i ∙ g .path r (omega (arith, turns)) ∙ ap (λ n. o + n) (sym (grow-old (k .next .grows) r (omega (arith, k .deep))))
+        path r l (no i) = omega (arith, a .along .new r (omega arith) (omega (arith, len)), grow-new (k .next .grows) r (omega (arith, k .deep)) l, g .end, k .deep)

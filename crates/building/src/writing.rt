@@ -1,75 +1,68 @@
-// The trie of the networks of a file, written in preorder as they come in address order. A network of just the depth's bits is a leaf; where it goes on, its next bit says whether the node has a
-// first child. Behind that there is a second one exactly where the next network still lies inside the node's block.
-ghost use mathlib.Core.List.{List};
-ghost use Prim.Native.Nat.{ℕ};
-ghost use Rattle.nets.specs.Bits.{Bits};
-ghost use Rattle.nets.specs.Tries.{Trie, leaf};
-ghost use Rattle.building.specs.Building.{Due, Writes};
+// The trie of the networks of a file, written in preorder as they come in address order. It grows at its right end: a network shares the first nodes of its path with the last one. The node where it
+// leaves that path gets its second child at the end, and the rest of its own path stands there. So each node is written once, and one with two children once more.
+ghost use mathlib.Core.Path.{_≡_};
+ghost use Rattle.nets.specs.Tries.{Trie};
+ghost use Rattle.nodes.specs.Words.{put, place, enc};
+ghost use Rattle.building.specs.Building.{Chains, Chained, Appends, Appended, Due};
 use crate::bits::bit_at;
 use merging::CURSORS;
 use merging::Head;
 use merging::flowing::advance;
+use nets::Net;
 use nodes::writing;
 
-// Where a trie ends that was written, and the network behind it.
-pub struct Built {
-    pub end: usize,
-    pub next: Head,
-}
+// The nodes on a path: the root, and one for each bit.
+const PATH: usize = 129;
 
-// Writes the head as a leaf at node o.
-fn leaf(
-    w: &mut [u32],
-    b: usize,
-    o: usize,
-    h: Head,
-    bytes: &[u8],
-    family: u8,
-    cursors: &mut [u64; CURSORS],
-) -> Built
-    requires { ⌜ ((d : ℕ) × (q : Bits) × (p : Bits) × (rest : List Bits) × Due (now w) b o d h (now bytes) family (now cursors) q p leaf rest) ⌝ }
-    ensures { λ r. ⌜ ((d : ℕ) (q p : Bits) (rest : List Bits) → Due (now (w .entry)) b o d h (now (bytes .entry)) family (now (cursors .entry)) q p leaf rest
-        → Writes (now (w .entry)) (now (w .exit)) b o r (now (bytes .entry)) family (now (cursors .exit)) q p leaf rest) ⌝ }
+// Writes from node e on the nodes of a network's path from depth d on, and notes their numbers. Each has one child, on the side of its bit, and the last is a leaf.
+fn chain(w: &mut [u32], b: usize, e: usize, n: Net, d: usize, path: &mut [usize; PATH])
+    requires { ⌜ Chains (now w) b e n d (now path) ⌝ }
+    ensures { λ _. ⌜ Chained (now (w .entry)) (now (w .exit)) b e n d (now (path .entry)) (now (path .exit)) ⌝ }
 {
-    writing::store(w, b, o, 0);
-    Built {
-        end: o + 1,
-        next: advance(bytes, family, cursors, h),
+    let len = n.len as usize;
+    let mut k = d;
+    let mut i = e;
+    while k < len {
+        path[k] = i;
+        writing::store(w, b, i, 1 + bit_at(n, k) as usize);
+        k += 1;
+        i += 1;
     }
+    path[len] = i;
+    writing::store(w, b, i, 0);
 }
 
-// Writes from node o on the trie of the networks that share their first d bits with the head. The depth left is the falling number.
+// Puts the head behind the networks that are written up to node e, to the last of which the path leads.
+fn append(w: &mut [u32], b: usize, e: usize, h: Head, path: &mut [usize; PATH])
+    requires { ⌜ Appends (now w) b e h (now path) ⌝ }
+    ensures { λ _. ⌜ Appended (now (w .entry)) (now (w .exit)) b e h (now (path .entry)) (now (path .exit)) ⌝ }
+{
+    let d = h.deep;
+    let i = path[d - 1];
+    writing::store(w, b, i, 1 + 2 * (e - i));
+    chain(w, b, e, h.net, d, path);
+}
+
+// Writes from node o on the trie of the networks from the head on.
 pub fn build(
     w: &mut [u32],
     b: usize,
     o: usize,
-    d: usize,
-    h: Head,
+    first: Head,
     bytes: &[u8],
     family: u8,
     cursors: &mut [u64; CURSORS],
-) -> Built
-    requires { ⌜ ((q : Bits) × (p : Bits) × (t : Trie) × (rest : List Bits) × Due (now w) b o d h (now bytes) family (now cursors) q p t rest) ⌝ }
-    ensures { λ r. ⌜ ((q p : Bits) (t : Trie) (rest : List Bits) → Due (now (w .entry)) b o d h (now (bytes .entry)) family (now (cursors .entry)) q p t rest
-        → Writes (now (w .entry)) (now (w .exit)) b o r (now (bytes .entry)) family (now (cursors .exit)) q p t rest) ⌝ }
+)
+    requires { ⌜ ((t : Trie) × Due (now w) b o first (now bytes) family (now cursors) t) ⌝ }
+    ensures { λ _. ⌜ ((t : Trie) → Due (now (w .entry)) b o first (now (bytes .entry)) family (now (cursors .entry)) t → now (w .exit) ≡ put (now (w .entry)) (place b o) (enc t)) ⌝ }
 {
-    let n = h.net;
-    if n.len as usize == d {
-        return leaf(w, b, o, h, bytes, family, cursors);
+    let mut path = [0usize; PATH];
+    chain(w, b, o, first.net, 0, &mut path);
+    let mut e = o + (first.net.len as usize + 1);
+    let mut h = advance(bytes, family, cursors, first);
+    while h.deep != 0 {
+        append(w, b, e, h, &mut path);
+        e += h.net.len as usize + 1 - h.deep;
+        h = advance(bytes, family, cursors, h);
     }
-    if bit_at(n, d) {
-        let r = build(w, b, o + 1, d + 1, h, bytes, family, cursors);
-        writing::links(w, b, o, o + 1, r.end);
-        return r;
-    }
-    let l = build(w, b, o + 1, d + 1, h, bytes, family, cursors);
-    let m = l.end;
-    let next = l.next;
-    if next.deep <= d {
-        writing::links(w, b, o, m, m);
-        return l;
-    }
-    let r = build(w, b, m, d + 1, next, bytes, family, cursors);
-    writing::links(w, b, o, m, r.end);
-    r
 }

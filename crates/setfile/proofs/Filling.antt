@@ -7,7 +7,7 @@ use native.Mathlib.Omega.{arith}
 use lib.ListN.{length, getD}
 use Rattle.nets.specs.Bits.{Bits}
 use Rattle.nets.specs.Lists.{nodesL}
-use Rattle.nets.specs.Tries.{Trie, isNone, size, listOf, trieOf}
+use Rattle.nets.specs.Tries.{Trie, none, node, isNone, size, listOf, trieOf}
 use Rattle.nets.specs.Networks.{width}
 use Rattle.nets.proofs.Nodes.{nodesL-listOf}
 use Rattle.nets.proofs.TrieOf.{listOf-trieOf, levels-trieOf, isList-within}
@@ -22,8 +22,7 @@ use Rattle.files.proofs.RoundTrip.{readFile-is}
 use Rattle.merging.specs.Flow.{headAs, Flow}
 use Rattle.merging.specs.declared.Head.{Head}
 use Rattle.building.specs.Building.{Due}
-use Rattle.building.proofs.Under.{under-root, first-flat}
-use Rattle.building.proofs.Building.{none-of, some-of}
+use Rattle.building.proofs.Growing.{cut-first}
 use Rattle.setfile.specs.LoadSteps.{Fillable, Writable, written}
 
 -- The list of a file is its trie's.
@@ -34,14 +33,16 @@ module _ (d : List ℕ) {f : ℕ} {l : List Bits} (e : readFile d ≡ file f l) 
   pub file-size : size (trieOf l) ≡ nodesL l
   file-size = sym (nodesL-listOf (trieOf l)) ∙ ap nodesL file-listOf
 
--- The head of no network, and of some.
-deep-none : (f : ℕ) → headAs f [] [] .deep ≡ 0
+-- The head is of no network where the trie is empty, and only there.
+head-none : (f : ℕ) (t : Trie) → headAs f [] (flat t) .deep ≡ 0 → t ≡ none
 unfolding headAs
-deep-none f = refl
+head-none f none e = refl
+head-none f (node l r) e = let (m, ms, i, q) = cut-first (node l r) refl in absurd (omega (arith, rw q at e))
 
-deep-flat : (f : ℕ) (t : Trie) → isNone t ≡ false → headAs f [] (flat t) .deep ≡ 0 → ⊥
-unfolding headAs
-deep-flat f t s e = let (m, ms, i, q) = first-flat t s in omega (arith, rw q at e)
+head-some : (f : ℕ) (t : Trie) → (headAs f [] (flat t) .deep ≡ 0 → ⊥) → isNone t ≡ false
+unfolding headAs flat
+head-some f none n = absurd (n refl)
+head-some f (node l r) n = refl
 
 module _ {w : List ℕ} {b o : ℕ} {d : List ℕ} {f : ℕ} {l : List Bits} (g : Fillable w b o d f l) {c : List ℕ} {h : Head} (k : Flow d f c (flat (trieOf l)) × (h ≡ headAs f [] (flat (trieOf l)))) where
   head-deep : h .deep ≡ headAs f [] (flat (trieOf l)) .deep
@@ -49,17 +50,14 @@ module _ {w : List ℕ} {b o : ℕ} {d : List ℕ} {f : ℕ} {l : List Bits} (g 
 
   pub fill-none : h .deep ≡ 0 → w ≡ put w (place b o) (enc (trieOf l))
   unfolding enc
-  fill-none e = rw (none-of (trieOf l) (λ s. deep-flat f (trieOf l) s (sym head-deep ∙ e))) (sym (put-nil w (place b o)))
+  fill-none e = rw (head-none f (trieOf l) (sym head-deep ∙ e)) (sym (put-nil w (place b o)))
 
-  pub fill-due : (h .deep ≡ 0 → ⊥) → Due w b o 0 h d f c [] [] (trieOf l) []
-  unfolding flat
+  pub fill-due : (h .deep ≡ 0 → ⊥) → Due w b o h d f c (trieOf l)
   fill-due ne = record {
-    some = some-of (trieOf l) (λ e. ne (head-deep ∙ rw e (deep-none f)));
-    path = refl;
+    some = head-some f (trieOf l) (λ e. ne (head-deep ∙ e));
     deep = omega (arith, levels-trieOf (width f) l (isList-within (width f) l (readFile-is d f l (g .reads) .list)));
-    flow = rw (under-root (trieOf l)) (k .0);
-    head = rw (under-root (trieOf l)) (k .1);
-    ends = refl;
+    flow = k .0;
+    head = k .1;
     one = g .one;
     few = omega (arith, g .few, file-size d (g .reads));
     room = omega (arith, g .room, file-size d (g .reads));

@@ -64,7 +64,7 @@ fn fill(pool: &mut [u32], b: usize, o: usize, bytes: &[u8], family: u8)
     if head.deep == 0 {
         return;
     }
-    build(pool, b, o, 0, head, bytes, family, &mut cursors);
+    build(pool, b, o, head, bytes, family, &mut cursors);
 }
 
 // Writes that trie, of n nodes, in the place of the empty set; the sets behind it move.

@@ -10,6 +10,6 @@ fill-spec =
     (tie.spec
     (λ c κs. let (l, g) = c .before .before .before .pre in (l, g .reads))
     (λ c l g. fill-none g (c .before .before .open .ensures l (g .reads)) (c .if1 .taken))
-    (λ c κs. let (l, g) = c .before .before .before .before .before .before .before .before .pre in (_, _, _, _, fill-due g (c .before .before .before .before .open .ensures l (g .reads)) (c .before .before .if1 .left)))
+    (λ c κs. let (l, g) = c .before .before .before .before .before .before .before .before .pre in (_, fill-due g (c .before .before .before .before .open .ensures l (g .reads)) (c .before .before .if1 .left)))
     (λ c. search needs)
-    (λ c l g. c .before .before .build .ensures _ _ _ _ (fill-due g (c .before .before .before .before .before .before .before .open .ensures l (g .reads)) (c .before .before .before .before .before .if1 .left)) .wrote))
+    (λ c l g. c .before .before .build .ensures _ (fill-due g (c .before .before .before .before .before .before .before .open .ensures l (g .reads)) (c .before .before .before .before .before .if1 .left))))
