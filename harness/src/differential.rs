@@ -238,6 +238,22 @@ const HEAD: usize = 136;
 const WORDS: usize = 8_192;
 const ROWS: u32 = 4_096;
 
+/// Words are read, one is written over and written back, with calls on what that gives.
+fn tamper(d: &mut Dice, case: &mut Case) {
+    let mut words = vec![0u32; WORDS];
+    case.calls.iter().for_each(|c| {
+        apply(&mut words, c);
+    });
+    let at = d.pick(&[0, 1, 2, 3, 64, 65, 66, 72, 64 + 8 * words[2] as usize]);
+    let write = |x: u32| Call { a: at as u32, tail: x.to_le_bytes().to_vec(), ..Call::new(WRITE_WORDS) };
+    let x = d.pick(&[0, 1, words[at + 1], u32::MAX, words[at] ^ 2]);
+    let net = Net { family: words[1] as u8, ..Net::default() };
+    let on = |code: u8| Call { b: 6, net: net.clone(), ..Call::new(code) };
+    case.calls.extend([Call { a: at as u32, ..on(READ_WORDS) }, write(x)]);
+    case.calls.extend([HELD, CONTAINS, IS_EMPTY, EQUAL, LIST, SAVE, LAST, PAGE].map(on));
+    case.calls.extend([write(words[at]), Call::new(FREE)]);
+}
+
 /// One frame: 128 bytes that say how it was made, how many bytes of calls and of answers there are, the calls, the answers, zeros. As many sequences as fit, each with its words and lists at its end.
 fn frame(d: &mut Dice, seed: u64) -> Result<Vec<u8>, String> {
     let (mut calls, mut answers) = (vec![], vec![]);
@@ -248,6 +264,7 @@ fn frame(d: &mut Dice, seed: u64) -> Result<Vec<u8>, String> {
             continue;
         }
         case.words = WORDS;
+        tamper(d, &mut case);
         let s = script(&case)?;
         let (mut c, mut a) = (vec![], vec![]);
         for (k, call) in s.calls.iter().enumerate() {
