@@ -1,7 +1,7 @@
 // Runs a list of calls from standard input and writes their answers to standard output: docs/CALLS.md, so that any language can drive the library through a pipe.
 use calls::running::run;
-use codes::bytes::put_u64;
-use codes::bytes::u32_at;
+use calls_bytes::bytes::put_u64;
+use calls_bytes::bytes::u32_at;
 ghost use mathlib.Core.Path.{_≡_};
 ghost use Prim.Native.Nat.{_≤_};
 ghost use lib.ListN.{length};

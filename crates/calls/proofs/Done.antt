@@ -6,16 +6,18 @@ use native.Mathlib.Omega.{arith}
 use borrow.Author.Tests.{eq-eqb, ne-eqb, le-leb, lt-leb}
 use Rattle.nodes.specs.Words.{put}
 use Rattle.nodes.proofs.Put.{put-nil, put-before-at}
-use Rattle.codes.specs.Bytes.{u32Bytes, u64Bytes}
-use Rattle.codes.specs.Records.{replyBytes}
-use Rattle.codes.specs.Tails.{wordsFrom, rowBytes}
-use Rattle.codes.specs.declared.Call.{Call}
-use Rattle.codes.specs.declared.Reply.{Reply}
-use Rattle.codes.proofs.Written.{length-reply}
-use Rattle.replies.specs.Replies.{noReply}
-use Rattle.acts.specs.Effects.{layoutOf, writeOf, changeOf, reportOf, networkOf}
-use Rattle.bulk.specs.Reading.{loadOf, linesOf}
-use Rattle.bulk.specs.Tailed.{rowsOf, listReply, lineBytes, lineReply, saveBytes, saveReply, Listing, Lining, Saving}
+use Rattle.calls_bytes.specs.Bytes.{u32Bytes, u64Bytes}
+use Rattle.calls_bytes.specs.Records.{replyBytes}
+use Rattle.calls_bytes.specs.Tails.{wordsFrom, rowBytes}
+use Rattle.calls_bytes.specs.declared.Call.{Call}
+use Rattle.calls_bytes.specs.declared.Reply.{Reply}
+use Rattle.calls_bytes.proofs.Written.{length-reply}
+use Rattle.calls_replies.specs.Replies.{noReply}
+use Rattle.calls_changes.specs.Changes.{layoutOf, writeOf, changeOf}
+use Rattle.calls_reports.specs.Reports.{reportOf}
+use Rattle.calls_networks.specs.Networks.{networkOf}
+use Rattle.calls_tailed.specs.Reading.{loadOf, linesOf}
+use Rattle.calls_tailed.specs.Tailed.{rowsOf, listReply, lineBytes, lineReply, saveBytes, saveReply, Listing, Lining, Saving}
 use Rattle.calls.specs.Runs.{groupOf, plainOf, Effect, effectOf, Answered, Stepped}
 
 -- which calls are which, by the tests of the code

@@ -7,8 +7,8 @@ use native.Mathlib.Omega.{arith}
 use lib.Dec.{eqb, leb, ltb}
 use lib.ListN.{length}
 use borrow.Author.Tests.{eq-eqb, ne-eqb, le-leb, lt-leb, leb-true, lt-ltb, le-ltb, ltb-false}
-use Rattle.codes.specs.Records.{callAt}
-use Rattle.codes.specs.declared.Call.{Call}
+use Rattle.calls_bytes.specs.Records.{callAt}
+use Rattle.calls_bytes.specs.declared.Call.{Call}
 use Rattle.calls.specs.Runs.{tailLength, isCode, stopOf, stopAt}
 
 -- the codes, from the lowest on

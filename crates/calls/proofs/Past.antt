@@ -9,13 +9,13 @@ use lib.Dec.{eqb}
 use lib.ListN.{length, getD, length-append}
 use borrow.Author.Tests.{eqb-true, eqb-false}
 use Rattle.nodes.proofs.Put.{getD-put-behind}
-use Rattle.codes.specs.Bytes.{u32Bytes, u64Bytes}
-use Rattle.codes.specs.Records.{callAt, replyBytes}
-use Rattle.codes.specs.Tails.{wordsFrom, rowBytes}
-use Rattle.codes.specs.declared.Call.{Call}
-use Rattle.codes.proofs.Written.{length-u32, length-u64, length-reply}
-use Rattle.bulk.specs.Tailed.{rowsOf}
-use Rattle.bulk.proofs.Lent.{length-rowsOf, length-lineBytes, length-saveBytes}
+use Rattle.calls_bytes.specs.Bytes.{u32Bytes, u64Bytes}
+use Rattle.calls_bytes.specs.Records.{callAt, replyBytes}
+use Rattle.calls_bytes.specs.Tails.{wordsFrom, rowBytes}
+use Rattle.calls_bytes.specs.declared.Call.{Call}
+use Rattle.calls_bytes.proofs.Written.{length-u32, length-u64, length-reply}
+use Rattle.calls_tailed.specs.Tailed.{rowsOf}
+use Rattle.calls_tailed.proofs.Lent.{length-rowsOf, length-lineBytes, length-saveBytes}
 use Rattle.calls.specs.Runs.{callBytes, effectOf, effectAt, tailLength, Machine, machine, stopsAt, stepOf, runFrom, runOf}
 use Rattle.calls.proofs.Judged.{tail-list, tail-line, tail-save, tail-words, tail-none}
 use Rattle.calls.proofs.Done.{effect-list, effect-line, effect-save, effect-words, effect-plain}

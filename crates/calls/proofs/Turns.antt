@@ -7,8 +7,8 @@ use native.Mathlib.Nat.{sub-zero}
 use native.Mathlib.Omega.{arith}
 use lib.ListN.{length, take, drop, length-take, length-drop}
 use borrow.Author.Tests.{eq-eqb, ne-eqb}
-use Rattle.codes.specs.Records.{callAt}
-use Rattle.codes.specs.declared.Call.{Call}
+use Rattle.calls_bytes.specs.Records.{callAt}
+use Rattle.calls_bytes.specs.declared.Call.{Call}
 use Rattle.calls.specs.Runs.{callBytes, tailLength, stopAt, Fits, Stepped, Machine, machine, stopsAt, stepOf, runFrom, runOf, Ran}
 use Rattle.calls.proofs.Judged.{Goes, goes}
 

@@ -14,15 +14,17 @@ use Prim.Native.Nat.{ℕ, zero, suc, _+_, _-_, _*_, _≤_}
 use lib.Dec.{eqb, leb, ltb}
 use lib.ListN.{length, take, drop}
 use Rattle.nodes.specs.Words.{put}
-use Rattle.codes.specs.Bytes.{u32Bytes, u64Bytes}
-use Rattle.codes.specs.Records.{callAt, replyBytes}
-use Rattle.codes.specs.Tails.{wordsFrom, rowBytes}
-use Rattle.codes.specs.declared.Call.{Call}
-use Rattle.codes.specs.declared.Reply.{Reply}
-use Rattle.replies.specs.Replies.{noReply}
-use Rattle.acts.specs.Effects.{layoutOf, writeOf, changeOf, reportOf, networkOf}
-use Rattle.bulk.specs.Reading.{loadOf, linesOf}
-use Rattle.bulk.specs.Tailed.{rowsOf, listReply, lineBytes, lineReply, saveBytes, saveReply}
+use Rattle.calls_bytes.specs.Bytes.{u32Bytes, u64Bytes}
+use Rattle.calls_bytes.specs.Records.{callAt, replyBytes}
+use Rattle.calls_bytes.specs.Tails.{wordsFrom, rowBytes}
+use Rattle.calls_bytes.specs.declared.Call.{Call}
+use Rattle.calls_bytes.specs.declared.Reply.{Reply}
+use Rattle.calls_replies.specs.Replies.{noReply}
+use Rattle.calls_changes.specs.Changes.{layoutOf, writeOf, changeOf}
+use Rattle.calls_reports.specs.Reports.{reportOf}
+use Rattle.calls_networks.specs.Networks.{networkOf}
+use Rattle.calls_tailed.specs.Reading.{loadOf, linesOf}
+use Rattle.calls_tailed.specs.Tailed.{rowsOf, listReply, lineBytes, lineReply, saveBytes, saveReply}
 use Rattle.calls.specs.declared.running.Ended.{Ended}
 
 unfoldable pub callBytes : List ℕ → ℕ → List ℕ

@@ -24,20 +24,20 @@ use Rattle.nets.proofs.Numbers.{bitsLeft-start, startOf-few}
 use Rattle.nets.proofs.Handing.{length-bitsLeft}
 use Rattle.nets.proofs.Answers.{number-some, prefix-bits, prefix-refused}
 use Rattle.nodes.specs.Segments.{Segment, Spliced}
-use Rattle.pool.specs.States.{State, roomOf}
-use Rattle.pool.specs.Decode.{base, sound, decode}
-use Rattle.pool.specs.Rules.{surveyOf}
-use Rattle.pool.specs.Changes.{listAt, netNo}
-use Rattle.pool.specs.declared.Survey.{Survey}
-use Rattle.pool.proofs.Decoded.{decode-header}
-use Rattle.pool.proofs.Seen.{Seen, behind, survey-sound, survey-seen, seen, seen-figures, trieAt, seen-list, seen-size, seen-segment}
-use Rattle.pool.proofs.Changed.{withTrie, gap-asks}
-use Rattle.pool.proofs.Returns.{Result, change-damaged, change-noset, change-args, changed, netNo-own, netNo-other}
+use Rattle.pool_state.specs.States.{State, roomOf}
+use Rattle.pool_state.specs.Decode.{base, sound, decode}
+use Rattle.pool_state.specs.Rules.{surveyOf}
+use Rattle.pool_state.specs.Changes.{listAt, netNo}
+use Rattle.pool_state.specs.declared.Survey.{Survey}
+use Rattle.pool_state.proofs.Decoded.{decode-header}
+use Rattle.pool_state.proofs.Seen.{Seen, behind, survey-sound, survey-seen, seen, seen-figures, trieAt, seen-list, seen-size, seen-segment}
+use Rattle.pool_state.proofs.Changed.{withTrie, gap-asks}
+use Rattle.pool_state.proofs.Returns.{Result, change-damaged, change-noset, change-args, changed, netNo-own, netNo-other}
 use Rattle.change.specs.Steps.{Ready, Asks, seatOf}
 use Rattle.change.specs.declared.calling.Asked.the-variants.{Go, Refused}
 use Rattle.change.specs.declared.calling.Seat.{Seat}
-use Rattle.change.proofs.Insertion.{size-insert}
-use Rattle.change.proofs.Remains.{size-removeT}
+use Rattle.trie_insert.proofs.Insertion.{size-insert}
+use Rattle.trie_remove.proofs.Remains.{size-removeT}
 
 -- What `ask` finds.
 module _ {w : List ℕ} {k : ℕ} {v : Survey} (n : Net) (e : v ≡ surveyOf (decode w) k) where

@@ -6,14 +6,14 @@ use Rattle.nets.specs.Networks.{width, netBits}
 use Rattle.nets.specs.declared.Net.{Net}
 use Rattle.nets.proofs.TrieOf.{isList-add}
 use Rattle.nets.proofs.Laws.{isList-remove}
-use Rattle.pool.specs.States.{State}
-use Rattle.pool.specs.Decode.{sound, decode}
-use Rattle.pool.specs.Changes.{listAt, netNo}
-use Rattle.pool.specs.declared.Answer.{Answer}
-use Rattle.pool.proofs.Claims.{isList-listAt}
-use Rattle.pool.proofs.Decoded.{decode-state}
-use Rattle.pool.proofs.Determined.{changed-one}
-use Rattle.pool.proofs.Leaves.{Leaves, changed-leaves, netNo-within}
+use Rattle.pool_state.specs.States.{State}
+use Rattle.pool_state.specs.Decode.{sound, decode}
+use Rattle.pool_state.specs.Changes.{listAt, netNo}
+use Rattle.pool_state.specs.declared.Answer.{Answer}
+use Rattle.pool_state.proofs.Claims.{isList-listAt}
+use Rattle.pool_state.proofs.Decoded.{decode-state}
+use Rattle.pool_state.proofs.Determined.{changed-one}
+use Rattle.pool_state.proofs.Leaves.{Leaves, changed-leaves, netNo-within}
 use Rattle.change.specs.Calls.{listWith, listWithout, Added, Removed}
 
 -- One outcome.

@@ -17,29 +17,29 @@ use Rattle.nets.proofs.Simplifying.{isList-simplify}
 use Rattle.nodes.specs.Words.{put, place, enc}
 use Rattle.nodes.proofs.Put.{length-put}
 use Rattle.nodes.proofs.Segments.{segment-fit}
-use Rattle.emit.specs.Answers.{body, Emits, endOf, restOf}
-use Rattle.emit.specs.Simplify.{Source}
-use Rattle.emit.specs.declared.emitting.Emitted.{Emitted}
-use Rattle.emit.specs.declared.emitting.Emitted.the-variants.{Full}
-use Rattle.emit.proofs.Answers.{end-is, full-size, settled}
-use Rattle.emit.proofs.Simplify.{size-simplify}
-use Rattle.pool.specs.States.{State, held, roomOf}
-use Rattle.pool.specs.Decode.{base, sound, decode}
-use Rattle.pool.specs.Rules.{answerAs, surveyOf}
-use Rattle.pool.specs.Changes.{setAt, listAt, withList, changeNo, changeRule}
-use Rattle.pool.specs.Steps.{behindAt, Gap, relinked, Relink}
-use Rattle.pool.specs.declared.Answer.{Answer}
-use Rattle.pool.specs.declared.Answer.the-variants as answer
-use Rattle.pool.specs.declared.Survey.{Survey}
-use Rattle.pool.proofs.Determined.{answerAs-one, changed-one}
-use Rattle.pool.proofs.Leaves.{Leaves, changed-leaves}
-use Rattle.pool.proofs.WithList.{claim-roomOf}
-use Rattle.pool.proofs.Claims.{isList-listAt, held-limit}
-use Rattle.pool.proofs.Holds.{set-size}
-use Rattle.pool.proofs.Decoded.{decode-state, decode-set}
-use Rattle.pool.proofs.Seen.{Seen, behind, seen-header, seen-figures, trieAt, seen-segment}
-use Rattle.pool.proofs.Changed.{withTrie, behind-last, relink-asks, gap-asks}
-use Rattle.pool.proofs.Returns.{change-damaged, change-noset, change-granted, changed}
+use Rattle.trie_emit.specs.Answers.{body, Emits, endOf, restOf}
+use Rattle.trie_emit.specs.Simplify.{Source}
+use Rattle.trie_emit.specs.declared.emitting.Emitted.{Emitted}
+use Rattle.trie_emit.specs.declared.emitting.Emitted.the-variants.{Full}
+use Rattle.trie_emit.proofs.Answers.{end-is, full-size, settled}
+use Rattle.trie_emit.proofs.Simplify.{size-simplify}
+use Rattle.pool_state.specs.States.{State, held, roomOf}
+use Rattle.pool_state.specs.Decode.{base, sound, decode}
+use Rattle.pool_state.specs.Rules.{answerAs, surveyOf}
+use Rattle.pool_state.specs.Changes.{setAt, listAt, withList, changeNo, changeRule}
+use Rattle.pool_state.specs.Steps.{behindAt, Gap, relinked, Relink}
+use Rattle.pool_state.specs.declared.Answer.{Answer}
+use Rattle.pool_state.specs.declared.Answer.the-variants as answer
+use Rattle.pool_state.specs.declared.Survey.{Survey}
+use Rattle.pool_state.proofs.Determined.{answerAs-one, changed-one}
+use Rattle.pool_state.proofs.Leaves.{Leaves, changed-leaves}
+use Rattle.pool_state.proofs.WithList.{claim-roomOf}
+use Rattle.pool_state.proofs.Claims.{isList-listAt, held-limit}
+use Rattle.pool_state.proofs.Holds.{set-size}
+use Rattle.pool_state.proofs.Decoded.{decode-state, decode-set}
+use Rattle.pool_state.proofs.Seen.{Seen, behind, seen-header, seen-figures, trieAt, seen-segment}
+use Rattle.pool_state.proofs.Changed.{withTrie, behind-last, relink-asks, gap-asks}
+use Rattle.pool_state.proofs.Returns.{change-damaged, change-noset, change-granted, changed}
 use Rattle.change.specs.Simplified.{listSimple, noArgs, Simplifies, Shrunk}
 
 -- The trie is simplified where it stands, and a leaf that the emission left is written.

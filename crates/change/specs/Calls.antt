@@ -8,9 +8,9 @@ use Rattle.nets.specs.Bits.{Bits}
 use Rattle.nets.specs.Lists.{addL, removeL}
 use Rattle.nets.specs.Networks.{netBits}
 use Rattle.nets.specs.declared.Net.{Net}
-use Rattle.pool.specs.States.{State}
-use Rattle.pool.specs.Changes.{listAt, Changed, netNo}
-use Rattle.pool.specs.declared.Answer.{Answer}
+use Rattle.pool_state.specs.States.{State}
+use Rattle.pool_state.specs.Changes.{listAt, Changed, netNo}
+use Rattle.pool_state.specs.declared.Answer.{Answer}
 
 abbrev pub listWith : ℕ → Net → State → List Bits
 listWith k n S = addL (listAt S k) (netBits n)

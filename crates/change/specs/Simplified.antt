@@ -9,9 +9,9 @@ use Rattle.nets.specs.Bits.{Bits}
 use Rattle.nets.specs.Lists.{simplifyL}
 use Rattle.nets.specs.Tries.{Trie, size, simplifyT}
 use Rattle.nodes.specs.Words.{put, place, enc}
-use Rattle.pool.specs.States.{State}
-use Rattle.pool.specs.Changes.{listAt, Changed}
-use Rattle.pool.specs.declared.Answer.{Answer}
+use Rattle.pool_state.specs.States.{State}
+use Rattle.pool_state.specs.Changes.{listAt, Changed}
+use Rattle.pool_state.specs.declared.Answer.{Answer}
 
 -- the list of set k, simplified; and no argument but the set, so none is wrong
 abbrev pub listSimple : ℕ → State → List Bits

@@ -11,12 +11,12 @@ use Rattle.nets.specs.Bits.{Bits}
 use Rattle.nets.specs.Networks.{netBits, bitsLeft}
 use Rattle.nets.specs.declared.Net.{Net}
 use Rattle.nets.specs.declared.PrefixBits.{PrefixBits}
-use Rattle.pool.specs.States.{State}
-use Rattle.pool.specs.Decode.{base, sound, decode}
-use Rattle.pool.specs.Changes.{Changed, netNo}
-use Rattle.pool.specs.Steps.{Surveyed}
-use Rattle.pool.specs.declared.Answer.the-variants as answer
-use Rattle.pool.specs.declared.Survey.{Survey}
+use Rattle.pool_state.specs.States.{State}
+use Rattle.pool_state.specs.Decode.{base, sound, decode}
+use Rattle.pool_state.specs.Changes.{Changed, netNo}
+use Rattle.pool_state.specs.Steps.{Surveyed}
+use Rattle.pool_state.specs.declared.Answer.the-variants as answer
+use Rattle.pool_state.specs.declared.Survey.{Survey}
 use Rattle.change.specs.declared.calling.Asked.{Asked}
 use Rattle.change.specs.declared.calling.Asked.the-variants.{Go, Refused}
 use Rattle.change.specs.declared.calling.Seat.{Seat}

@@ -4,22 +4,20 @@ use calling::ask;
 use calling::seat_of;
 use nets::Net;
 use nets::Refusal;
-use pool::Answer;
-use pool::checking::HEAD;
-use pool::checking::RECORD;
-use pool::checking::most_levels;
-use pool::checking::survey;
-use pool::judging::judge;
-use pool::judging::too_many;
-use pool::relinking::granted;
-use pool::relinking::shift_behind;
+use pool_change::judging::judge;
+use pool_change::judging::too_many;
+use pool_change::relinking::granted;
+use pool_change::relinking::shift_behind;
+use pool_check::HEAD;
+use pool_check::RECORD;
+use pool_check::most_levels;
+use pool_check::survey;
+use pool_state::Answer;
 use shrinking::shrink;
 ghost use Rattle.change.specs.Calls.{Added, Removed};
 ghost use Rattle.change.specs.Simplified.{Simplifies};
 
 pub mod calling;
-pub mod inserting;
-pub mod removing;
 pub mod shrinking;
 
 // Adds a network to a set: where no member contains it, the members inside it go and it joins. Answers the nodes of the set.
@@ -31,12 +29,12 @@ pub fn add(pool: &mut [u32], set: u32, net: Net) -> Answer
         Asked::Refused(no) => Answer::Refused(no),
         Asked::Go(found, s) => {
             let at = seat_of(pool, found);
-            let n = inserting::insert_size(pool, at.base, at.first, at.end, s) as u32;
+            let n = trie_insert::insert_size(pool, at.base, at.first, at.end, s) as u32;
             let no = judge(pool, set, found, n);
             if no != 0 {
                 return too_many(no);
             }
-            inserting::insert(pool, at.base, at.first, at.end, at.used, s);
+            trie_insert::insert(pool, at.base, at.first, at.end, at.used, s);
             granted(pool, set, found, n)
         }
     }
@@ -51,12 +49,12 @@ pub fn remove(pool: &mut [u32], set: u32, net: Net) -> Answer
         Asked::Refused(no) => Answer::Refused(no),
         Asked::Go(found, s) => {
             let at = seat_of(pool, found);
-            let n = removing::remove_size(pool, at.base, at.first, at.end, s) as u32;
+            let n = trie_remove::remove_size(pool, at.base, at.first, at.end, s) as u32;
             let no = judge(pool, set, found, n);
             if no != 0 {
                 return too_many(no);
             }
-            removing::remove(pool, at.base, at.first, at.first, at.end, at.used, s);
+            trie_remove::remove(pool, at.base, at.first, at.first, at.end, at.used, s);
             granted(pool, set, found, n)
         }
     }

@@ -1,11 +1,11 @@
 // Simplifying the trie of a set where it stands.
-use emit::emitting::end_of;
-use emit::emitting::settle;
-use emit::simplifying;
-use pool::Survey;
+use pool_state::Survey;
+use trie_emit::emitting::end_of;
+use trie_emit::emitting::settle;
+use trie_emit::simplifying;
 ghost use Prim.Native.Nat.{_+_};
 ghost use Rattle.nets.specs.Tries.{Trie};
-ghost use Rattle.emit.specs.Simplify.{Source};
+ghost use Rattle.trie_emit.specs.Simplify.{Source};
 ghost use Rattle.change.specs.Simplified.{Shrunk};
 
 // Simplifies the trie of the surveyed set where it stands, and moves nothing behind it. Answers the nodes that the trie has then.

@@ -17,18 +17,18 @@ use Rattle.nets.specs.declared.Refusal.the-variants.{Damaged, NoSet, Occupied}
 use Rattle.nets.proofs.Answers.{number-some}
 use Rattle.nets.proofs.Combining.{listOf-union, listOf-common}
 use Rattle.nets.proofs.Excluding.{listOf-except}
-use Rattle.emit.specs.Combine.{opOf, joined, opOn}
-use Rattle.emit.proofs.Answers.{length-body}
-use Rattle.emit.proofs.Combine.{opOn-union, opOn-common, opOn-except, size-op}
-use Rattle.pool.specs.States.{State, roomOf}
-use Rattle.pool.specs.Decode.{recordAt, sound, decode}
-use Rattle.pool.specs.Rules.{surveyOf}
-use Rattle.pool.specs.Changes.{listAt, isEmpty}
-use Rattle.pool.specs.declared.Survey.{Survey}
-use Rattle.pool.proofs.Decoded.{decode-header}
-use Rattle.pool.proofs.Seen.{Seen, trieAt, survey-sound, survey-seen, seen, seen-figures, seen-empty, seen-some}
-use Rattle.pool.proofs.Changed.{withTrie, behind-first, gap-asks}
-use Rattle.pool.proofs.Returns.{Result, change-damaged, change-noset, change-args, changed}
+use Rattle.trie_emit.specs.Combine.{opOf, joined, opOn}
+use Rattle.trie_emit.proofs.Answers.{length-body}
+use Rattle.trie_emit.proofs.Combine.{opOn-union, opOn-common, opOn-except, size-op}
+use Rattle.pool_state.specs.States.{State, roomOf}
+use Rattle.pool_state.specs.Decode.{recordAt, sound, decode}
+use Rattle.pool_state.specs.Rules.{surveyOf}
+use Rattle.pool_state.specs.Changes.{listAt, isEmpty}
+use Rattle.pool_state.specs.declared.Survey.{Survey}
+use Rattle.pool_state.proofs.Decoded.{decode-header}
+use Rattle.pool_state.proofs.Seen.{Seen, trieAt, survey-sound, survey-seen, seen, seen-figures, seen-empty, seen-some}
+use Rattle.pool_state.proofs.Changed.{withTrie, behind-first, gap-asks}
+use Rattle.pool_state.proofs.Returns.{Result, change-damaged, change-noset, change-args, changed}
 use Rattle.combine.specs.Rules.{combineNo}
 use Rattle.combine.specs.Steps.{Operation, merging, intersecting, excluding, combineL, Ready, Asks, sourcesOf, Reads, Writable, written}
 use Rattle.combine.specs.declared.asking.Asked.the-variants.{Go, Refused}

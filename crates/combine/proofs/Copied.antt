@@ -18,10 +18,10 @@ use Rattle.nodes.specs.Parse.{parse, after}
 use Rattle.nodes.proofs.Has.{has-seg}
 use Rattle.nodes.proofs.Parsed.{parse-of}
 use Rattle.nodes.proofs.Tries.{length-enc, some}
-use Rattle.emit.specs.Combine.{opOn, Means, nothing, everything, standing}
-use Rattle.emit.proofs.Combine.{opOn-except}
-use Rattle.pool.specs.Steps.{behindAt}
-use Rattle.pool.specs.declared.Survey.{Survey}
+use Rattle.trie_emit.specs.Combine.{opOn, Means, nothing, everything, standing}
+use Rattle.trie_emit.proofs.Combine.{opOn-except}
+use Rattle.pool_state.specs.Steps.{behindAt}
+use Rattle.pool_state.specs.declared.Survey.{Survey}
 use Rattle.combine.specs.Steps.{isCopy, Reads, movedTo, Writable, written}
 use Rattle.combine.specs.declared.asking.Sources.{Sources}
 use Rattle.combine.proofs.Gaps.{opened-length, means-moved}

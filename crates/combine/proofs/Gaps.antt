@@ -13,13 +13,13 @@ use Rattle.nodes.specs.Words.{put, Has, place, enc}
 use Rattle.nodes.proofs.Put.{length-put, getD-put-in}
 use Rattle.nodes.proofs.Has.{has-put, has-at}
 use Rattle.nodes.proofs.Tries.{length-enc}
-use Rattle.emit.specs.Answers.{Emits, restOf}
-use Rattle.emit.specs.Combine.{opOn, Here, Means, nothing, everything, standing, Inputs, Gap as Free}
-use Rattle.emit.specs.declared.emitting.Emitted.{Emitted}
-use Rattle.emit.specs.declared.emitting.Emitted.the-variants.{Full}
-use Rattle.emit.proofs.Answers.{full-size, settled}
-use Rattle.pool.specs.Steps.{behindAt}
-use Rattle.pool.specs.declared.Survey.{Survey}
+use Rattle.trie_emit.specs.Answers.{Emits, restOf}
+use Rattle.trie_emit.specs.Combine.{opOn, Here, Means, nothing, everything, standing, Inputs, Gap as Free}
+use Rattle.trie_emit.specs.declared.emitting.Emitted.{Emitted}
+use Rattle.trie_emit.specs.declared.emitting.Emitted.the-variants.{Full}
+use Rattle.trie_emit.proofs.Answers.{full-size, settled}
+use Rattle.pool_state.specs.Steps.{behindAt}
+use Rattle.pool_state.specs.declared.Survey.{Survey}
 use Rattle.combine.specs.Steps.{movedTo, Whole, Writable, written}
 use Rattle.combine.specs.declared.asking.Sources.{Sources}
 

@@ -5,7 +5,5 @@ pub mod Copied
 -- The sources of a combination, and its returns.
 pub mod Sources
 pub mod Calls
--- The comparison of two sets.
-pub mod Compared
 -- What the calls come to.
 pub mod Outcomes

@@ -11,18 +11,16 @@ use Rattle.nets.specs.Networks.{width}
 use Rattle.nets.proofs.Combining.{isList-merge, isList-intersect}
 use Rattle.nets.proofs.Laws.{isList-exclude}
 use Rattle.nets.proofs.TrieOf.{isList-within}
-use Rattle.pool.specs.States.{State}
-use Rattle.pool.specs.Decode.{sound, decode}
-use Rattle.pool.specs.Rules.{toldAs}
-use Rattle.pool.specs.Changes.{listAt, changeNo, isEmpty}
-use Rattle.pool.specs.declared.Answer.{Answer}
-use Rattle.pool.specs.declared.Told.{Told}
-use Rattle.pool.proofs.Claims.{isList-listAt}
-use Rattle.pool.proofs.Decoded.{decode-state}
-use Rattle.pool.proofs.Judged.{changeNo-granted}
-use Rattle.pool.proofs.Determined.{toldAs-one, changed-one}
-use Rattle.pool.proofs.Leaves.{Leaves, changed-leaves}
-use Rattle.combine.specs.Rules.{areKnown, combineNo, Combined, Merged, Intersected, Excluded, equalRule}
+use Rattle.pool_state.specs.States.{State}
+use Rattle.pool_state.specs.Decode.{sound, decode}
+use Rattle.pool_state.specs.Changes.{listAt, areKnown, changeNo, isEmpty}
+use Rattle.pool_state.specs.declared.Answer.{Answer}
+use Rattle.pool_state.proofs.Claims.{isList-listAt}
+use Rattle.pool_state.proofs.Decoded.{decode-state}
+use Rattle.pool_state.proofs.Judged.{changeNo-granted}
+use Rattle.pool_state.proofs.Determined.{changed-one}
+use Rattle.pool_state.proofs.Leaves.{Leaves, changed-leaves}
+use Rattle.combine.specs.Rules.{combineNo, Combined, Merged, Intersected, Excluded}
 
 -- One outcome.
 module _ (w : List ℕ) (to first second : ℕ) {r s : Answer} {u v : List ℕ} where
@@ -34,9 +32,6 @@ module _ (w : List ℕ) (to first second : ℕ) {r s : Answer} {u v : List ℕ} 
 
   pub exclude-determined : Excluded w to first second r u → Excluded w to first second s v → (r ≡ s) × (u ≡ v)
   exclude-determined h g = changed-one h g
-
-pub equal-determined : (w : List ℕ) (first second : ℕ) (r s : Told) → toldAs r ≡ equalRule (decode w) first second → toldAs s ≡ equalRule (decode w) first second → r ≡ s
-equal-determined w first second r s e f = toldAs-one r s (e ∙ sym f)
 
 -- What is left of a sound pool, where an operation makes lists of lists.
 abbrev Keeps : (List Bits → List Bits → List Bits) → Type 0

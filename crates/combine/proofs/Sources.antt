@@ -11,24 +11,19 @@ use Rattle.nets.specs.Tries.{Trie, none, node, size, levels, isNone, listOf}
 use Rattle.nets.specs.Networks.{width}
 use Rattle.nets.proofs.TrieOf.{trieOf-listOf}
 use Rattle.nodes.proofs.Tries.{some}
-use Rattle.emit.specs.Combine.{Here, Means}
-use Rattle.emit.proofs.Sources.{means-here}
-use Rattle.pool.specs.States.{State}
-use Rattle.pool.specs.Decode.{recordAt, base, rootAt, decode}
-use Rattle.pool.specs.Rules.{startOf, surveyOf}
-use Rattle.pool.specs.Changes.{listAt}
-use Rattle.pool.specs.declared.Survey.{Survey}
-use Rattle.pool.proofs.Holds.{rootAt-trie}
-use Rattle.pool.proofs.Decoded.{decode-header, decode-root, decode-at}
-use Rattle.pool.proofs.Seen.{Seen, trieAt, survey-seen, seen-figures, own-has, seen-list, seen-size}
-use Rattle.pool.proofs.Changed.{startOf-behind}
+use Rattle.trie_emit.specs.Combine.{Here, Means}
+use Rattle.trie_emit.proofs.Sources.{means-here}
+use Rattle.pool_state.specs.States.{State}
+use Rattle.pool_state.specs.Decode.{recordAt, base, rootAt, decode}
+use Rattle.pool_state.specs.Rules.{startOf, surveyOf}
+use Rattle.pool_state.specs.Changes.{listAt}
+use Rattle.pool_state.specs.declared.Survey.{Survey}
+use Rattle.pool_state.proofs.Holds.{rootAt-trie}
+use Rattle.pool_state.proofs.Decoded.{decode-header, decode-root, decode-at}
+use Rattle.pool_state.proofs.Seen.{Seen, trieAt, survey-seen, seen-figures, own-has, seen-list, seen-size}
+use Rattle.pool_state.proofs.Changed.{startOf-behind}
+use Rattle.pool_state.proofs.Beside.{its, beside-seen, beside-root}
 use Rattle.combine.specs.Steps.{Whole}
-
--- The root of a set's trie, by the trie.
-root-is : (i : ℕ) (t : Trie) → rootAt i (listOf t) ≡ cond (isNone t) 0 i
-unfolding listOf levels
-root-is i none = refl
-root-is i (node l r) = rootAt-trie i (listOf (node l r)) (λ e. some l r (sym (trieOf-listOf (node l r)) ∙ e))
 
 whole-root : (o e i : ℕ) (t : Trie) → (i < o → i + size t ≤ o) → i + size t ≤ e → Whole o e (cond (isNone t) 0 i) t
 unfolding size
@@ -44,34 +39,23 @@ pub record Source (w : List ℕ) (S : State) (v : Survey) (j : ℕ) : Type 0 whe
   pub few : size (trieAt S j) ≤ 4194304
 
 module _ {w : List ℕ} {S : State} {k : ℕ} {v : Survey} (h : Seen w S k v) (j : ℕ) (lt : j < getD w 2 0) where
-  abbrev pub its : Survey
-  its = surveyOf (decode w) j
-
-  pub source-seen : Seen w S j its
-  source-seen = survey-seen w j its refl S (h .decoded) lt
-
-  pub source-root : getD w (recordAt j) 0 ≡ cond (isNone (trieAt S j)) 0 (its .at)
-  source-root =
-      let g = source-seen in
-      rw (g .at) (decode-root w S (h .decoded) j (g .known) ∙ ap (rootAt (startOf j 1 (S .sets))) (sym (seen-list g)) ∙ root-is (startOf j 1 (S .sets)) (trieAt S j))
-
-  source-before : its .at < v .at → its .at + size (trieAt S j) ≤ v .at
-  source-before l = go source-seen (decLt j k) (decLt k j)
+  source-before : (its h j lt) .at < v .at → (its h j lt) .at + size (trieAt S j) ≤ v .at
+  source-before l = go (beside-seen h j lt) (decLt j k) (decLt k j)
     where
-      go : Seen w S j its → Dec (j < k) → Dec (k < j) → its .at + size (trieAt S j) ≤ v .at
+      go : Seen w S j (its h j lt) → Dec (j < k) → Dec (k < j) → (its h j lt) .at + size (trieAt S j) ≤ v .at
       go g (yes a) b = omega (arith, startOf-behind j k 1 (S .sets) a (h .known), seen-size g)
       go g (no a) (yes b) = absurd (omega (arith, startOf-behind k j 1 (S .sets) b (g .known)))
       go g (no a) (no b) = let e : j ≡ k = omega arith in absurd (omega (arith, ap (λ n. startOf n 1 (S .sets)) e))
 
   pub source : Source w S v j
   source =
-      let g = source-seen in
+      let g = beside-seen h j lt in
       let f = seen-figures g in
-      let here : Here w (base (getD w 2 0)) 0 0 (its .at) (trieAt S j) =
+      let here : Here w (base (getD w 2 0)) 0 0 ((its h j lt) .at) (trieAt S j) =
       record { has = own-has g; one = f .first; few = omega (arith, seen-size g); clear = λ n a b c d. omega arith } in
       record {
-        means = rw source-root (means-here (trieAt S j) here);
-        whole = rw source-root (whole-root (v .at) (v .used + 1) (its .at) (trieAt S j) source-before (omega (arith, seen-size g)));
+        means = rw (beside-root h j lt) (means-here (trieAt S j) here);
+        whole = rw (beside-root h j lt) (whole-root (v .at) (v .used + 1) ((its h j lt) .at) (trieAt S j) source-before (omega (arith, seen-size g)));
         deep = rw (decode-header w S (h .decoded) .family) (decode-at w S (h .decoded) j (g .known) .deep);
         list = seen-list g;
         few = omega (arith, seen-size g);

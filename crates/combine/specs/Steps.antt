@@ -1,4 +1,4 @@
--- The steps of a combination and of a comparison: what they ask, and what they leave.
+-- The steps of a combination: what they ask, and what they leave.
 --
 --   Operation op, combineL op    the numbers of the operations, and what each makes of two lists
 --   Ready w to first second v    a combination can go on: v is what a pass over the pool found for its empty destination;  Asks: that, or its refusal
@@ -6,8 +6,7 @@
 --   isCopy op s                  the operation leaves its first source as it is
 --   movedTo o n i                the number of node i after n nodes were put in before node o
 --   Writable, written            what writing the result asks, and the words that it leaves
---   Agree w p q n r              r says whether n words from p on are those from q on
-use mathlib.Core.Bool.{Bool, true, false, cond, _&&_}
+use mathlib.Core.Bool.{Bool, cond, _&&_}
 use mathlib.Core.List.{List}
 use mathlib.Core.Path.{_≡_}
 use Prim.Native.Nat.{ℕ, zero, suc, _+_, _≤_, _<_}
@@ -19,13 +18,13 @@ use Rattle.nets.specs.Tries.{Trie, size}
 use Rattle.nets.specs.Networks.{width}
 use Rattle.nodes.specs.Words.{put, place, enc}
 use Rattle.nodes.specs.Parse.{Room}
-use Rattle.emit.specs.Combine.{opOn, Inputs}
-use Rattle.pool.specs.States.{State}
-use Rattle.pool.specs.Decode.{recordAt, base}
-use Rattle.pool.specs.Changes.{Changed}
-use Rattle.pool.specs.Steps.{Surveyed, behindAt, Gap}
-use Rattle.pool.specs.declared.Answer.the-variants as answer
-use Rattle.pool.specs.declared.Survey.{Survey}
+use Rattle.trie_emit.specs.Combine.{opOn, Inputs}
+use Rattle.pool_state.specs.States.{State}
+use Rattle.pool_state.specs.Decode.{recordAt, base}
+use Rattle.pool_state.specs.Changes.{Changed}
+use Rattle.pool_state.specs.Steps.{Surveyed, behindAt, Gap}
+use Rattle.pool_state.specs.declared.Answer.the-variants as answer
+use Rattle.pool_state.specs.declared.Survey.{Survey}
 use Rattle.combine.specs.Rules.{combineNo}
 use Rattle.combine.specs.declared.asking.Asked.{Asked}
 use Rattle.combine.specs.declared.asking.Asked.the-variants.{Go, Refused}
@@ -86,7 +85,3 @@ pub record Writable (w : List ℕ) (op : ℕ) (s : Sources) (v : Survey) (n : �
 -- the sets behind the gap moved, and the result in it
 abbrev pub written : List ℕ → ℕ → Sources → Survey → ℕ → Trie → Trie → List ℕ
 written w op s v n t u = put (put w (place (s .base) (v .at + n)) (behindAt w (s .base) v)) (place (s .base) (v .at)) (enc (opOn op (s .levels) t u))
-
-abbrev pub Agree : List ℕ → ℕ → ℕ → ℕ → Bool → Type 0
-Agree w p q n true = (k : ℕ) → k < n → getD w (p + k) 0 ≡ getD w (q + k) 0
-Agree w p q n false = (k : ℕ) × (k < n) × (getD w (p + k) 0 ≡ getD w (q + k) 0 → ⊥)

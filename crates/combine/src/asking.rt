@@ -1,14 +1,14 @@
 // The first steps of a combination, and its refusals.
 use nets::Refusal;
-use pool::Survey;
-use pool::checking::HEAD;
-use pool::checking::RECORD;
-use pool::checking::most_levels;
-use pool::checking::survey;
+use pool_check::HEAD;
+use pool_check::RECORD;
+use pool_check::most_levels;
+use pool_check::survey;
+use pool_state::Survey;
 ghost use mathlib.Core.Path.{_≡_};
 ghost use Prim.Native.Nat.{_<_};
 ghost use lib.ListN.{length};
-ghost use Rattle.pool.specs.Decode.{recordAt};
+ghost use Rattle.pool_state.specs.Decode.{recordAt};
 ghost use Rattle.combine.specs.Steps.{Asks, sourcesOf};
 
 // What a combination goes on with: what a pass over the pool found for its destination. Or its refusal.

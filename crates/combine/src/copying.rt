@@ -3,7 +3,7 @@ use crate::EXCLUDE;
 use crate::asking::Sources;
 use nodes::reading::trie_end;
 use nodes::writing::shift;
-use pool::Survey;
+use pool_state::Survey;
 ghost use mathlib.Core.Path.{_≡_};
 ghost use Prim.Native.Nat.{_+_, _≤_};
 ghost use lib.ListN.{length, take, drop};

@@ -2,7 +2,7 @@
 use mathlib.Core.List.{List}
 use Prim.Native.Nat.{ℕ}
 use Rattle.nets.specs.declared.Net.{Net}
-use Rattle.pool.specs.declared.Answer.{Answer}
+use Rattle.pool_state.specs.declared.Answer.{Answer}
 use Rattle.change.specs.Calls.{Added, Removed}
 use Rattle.change.specs.Simplified.{Simplifies}
 use Rattle.combine.specs.Rules.{Merged, Intersected, Excluded}

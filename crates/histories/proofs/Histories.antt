@@ -13,15 +13,15 @@ use Rattle.nets.specs.Networks.{width, netBits, inRange, refusalOf}
 use Rattle.nets.specs.declared.Net.{Net}
 use Rattle.nets.specs.declared.Refusal.{Refusal}
 use Rattle.nets.proofs.Answers.{number-some}
-use Rattle.pool.specs.States.{SetState, held, used, claimed, claimedBut, freeOf, roomOf, isState}
-use Rattle.pool.specs.Decode.{Decoded, damaged, sound, decode}
-use Rattle.pool.specs.Rules.{answerAs, layoutNo, freeRule}
-use Rattle.pool.specs.Changes.{setAt, listAt, withList, changeNo, netNo, changeRule, wordsAfter}
-use Rattle.pool.specs.declared.Answer.{Answer}
-use Rattle.pool.specs.declared.Answer.the-variants as answer
-use Rattle.pool.proofs.Claims.{isList-listAt, held-limit, freeOf-is}
-use Rattle.pool.proofs.Decoded.{decode-state, decode-laid}
-use Rattle.pool.proofs.Determined.{answerAs-one}
+use Rattle.pool_state.specs.States.{SetState, held, used, claimed, claimedBut, freeOf, roomOf, isState}
+use Rattle.pool_state.specs.Decode.{Decoded, damaged, sound, decode}
+use Rattle.pool_state.specs.Rules.{answerAs, layoutNo, freeRule}
+use Rattle.pool_state.specs.Changes.{setAt, listAt, withList, changeNo, netNo, changeRule, wordsAfter}
+use Rattle.pool_state.specs.declared.Answer.{Answer}
+use Rattle.pool_state.specs.declared.Answer.the-variants as answer
+use Rattle.pool_state.proofs.Claims.{isList-listAt, held-limit, freeOf-is}
+use Rattle.pool_state.proofs.Decoded.{decode-state, decode-laid}
+use Rattle.pool_state.proofs.Determined.{answerAs-one}
 use Rattle.histories.specs.Calls.{Call, add, target, argsNo, resultOf, callNo, answerOf, stateAfter, Outcome}
 use Rattle.histories.specs.Histories.{Setup, stateOf, answersOf, History, begin, step}
 use Rattle.histories.proofs.Step.{callNo-share, callNo-room, answerAs-outcome, stateAfter-numbers, stateAfter-plan, stateAfter-other, decode-outcome}

@@ -17,18 +17,18 @@ use Rattle.nets.proofs.TrieOf.{isList-within, isList-add}
 use Rattle.nets.proofs.Simplifying.{isList-simplify}
 use Rattle.nets.proofs.Combining.{isList-merge, isList-intersect}
 use Rattle.nets.proofs.Laws.{isList-remove, isList-exclude}
-use Rattle.pool.specs.States.{SetState, State, roomOf, isState}
-use Rattle.pool.specs.Decode.{sound, decode}
-use Rattle.pool.specs.Rules.{answerAs}
-use Rattle.pool.specs.Changes.{setAt, listAt, setWith, withList, changeNo, changeRule, netNo, isEmpty}
-use Rattle.pool.specs.declared.Answer.{Answer}
-use Rattle.pool.proofs.Claims.{isList-listAt}
-use Rattle.pool.proofs.WithList.{length-withList, withList-at, share-roomOf, isState-withList}
-use Rattle.pool.proofs.Decoded.{decode-state}
-use Rattle.pool.proofs.Judged.{Granted, changeNo-granted}
-use Rattle.pool.proofs.Leaves.{after-cases, after-other, after-plan, changed-leaves, netNo-within}
+use Rattle.pool_state.specs.States.{SetState, State, roomOf, isState}
+use Rattle.pool_state.specs.Decode.{sound, decode}
+use Rattle.pool_state.specs.Rules.{answerAs}
+use Rattle.pool_state.specs.Changes.{setAt, listAt, setWith, withList, changeNo, changeRule, netNo, isEmpty}
+use Rattle.pool_state.specs.declared.Answer.{Answer}
+use Rattle.pool_state.proofs.Claims.{isList-listAt}
+use Rattle.pool_state.proofs.WithList.{length-withList, withList-at, share-roomOf, isState-withList}
+use Rattle.pool_state.proofs.Decoded.{decode-state}
+use Rattle.pool_state.proofs.Judged.{Granted, changeNo-granted}
+use Rattle.pool_state.proofs.Leaves.{after-cases, after-other, after-plan, changed-leaves, netNo-within}
 use Rattle.combine.specs.Rules.{combineNo}
-use Rattle.files.specs.Files.{File, broken, file, readFile}
+use Rattle.setfile_format.specs.Files.{File, broken, file, readFile}
 use Rattle.setfile.specs.Loading.{loadNo, fileList}
 use Rattle.setfile.proofs.LoadOutcomes.{isList-load}
 use Rattle.histories.specs.Calls.{Call, add, remove, simplify, merge, intersect, exclude, load, target, namesOne, argsNo, resultOf, callNo, answerOf, stateAfter, Outcome}

@@ -9,11 +9,11 @@ use lib.Dec.{eqb, ltb}
 use lib.ListN.{length}
 use borrow.Author.Tests.{eqb-true, eqb-false}
 use Rattle.nets.specs.Lists.{nodesL}
-use Rattle.pool.specs.States.{SetState, State, isState}
-use Rattle.pool.specs.Decode.{decode}
-use Rattle.pool.specs.Rules.{answerAs, onSet}
-use Rattle.pool.specs.Changes.{listAt, setWith}
-use Rattle.pool.specs.declared.Answer.{Answer}
+use Rattle.pool_state.specs.States.{SetState, State, isState}
+use Rattle.pool_state.specs.Decode.{decode}
+use Rattle.pool_state.specs.Rules.{answerAs, onSet}
+use Rattle.pool_state.specs.Changes.{listAt, setWith}
+use Rattle.pool_state.specs.declared.Answer.{Answer}
 use Rattle.histories.specs.Calls.{Call, target, argsNo, resultOf, callNo, answerOf, stateAfter}
 use Rattle.histories.specs.Histories.{Setup, emptyState, stateOf, answersOf, History, begin, step, callsOn, answersOn, Alone, AllAlone}
 use Rattle.histories.proofs.Step.{SameAt, sameAt-list, call-same, changeNo-share, stateAfter-numbers, stateAfter-other, stateAfter-own, isState-after}

@@ -15,11 +15,11 @@ use Rattle.nets.specs.Lists.{nodesL, addL, removeL, simplifyL, mergeL, intersec
 use Rattle.nets.specs.Networks.{netBits}
 use Rattle.nets.specs.Refusals.{answered}
 use Rattle.nets.specs.declared.Net.{Net}
-use Rattle.pool.specs.States.{State}
-use Rattle.pool.specs.Changes.{listAt, withList, changeNo, Changed, netNo}
-use Rattle.pool.specs.declared.Answer.{Answer}
+use Rattle.pool_state.specs.States.{State}
+use Rattle.pool_state.specs.Changes.{listAt, withList, changeNo, Changed, netNo}
+use Rattle.pool_state.specs.declared.Answer.{Answer}
 use Rattle.combine.specs.Rules.{combineNo}
-use Rattle.files.specs.Files.{readFile}
+use Rattle.setfile_format.specs.Files.{readFile}
 use Rattle.setfile.specs.Loading.{loadNo, fileList}
 
 -- a set and a network; a set; the set to write and the two to read; a set and the bytes of a file

@@ -12,11 +12,11 @@ use mathlib.Core.Path.{_≡_}
 use Prim.Native.Nat.{ℕ, _≤_}
 use lib.Dec.{eqb}
 use Rattle.nets.specs.Lists.{nodesL}
-use Rattle.pool.specs.States.{State}
-use Rattle.pool.specs.Rules.{emptySets, Laid}
-use Rattle.pool.specs.Changes.{setAt}
-use Rattle.pool.specs.declared.Answer.{Answer}
-use Rattle.pool.specs.declared.Answer.the-variants as answer
+use Rattle.pool_state.specs.States.{State}
+use Rattle.pool_state.specs.Rules.{emptySets, Laid}
+use Rattle.pool_state.specs.Changes.{setAt}
+use Rattle.pool_state.specs.declared.Answer.{Answer}
+use Rattle.pool_state.specs.declared.Answer.the-variants as answer
 use Rattle.histories.specs.Calls.{Call, target, namesOne, argsNo, resultOf, answerOf, stateAfter, Outcome}
 
 pub record Setup : Type 0 where

@@ -11,11 +11,11 @@ use Rattle.nets.specs.Lists.{addL, nodesL}
 use Rattle.nets.specs.Networks.{netBits}
 use Rattle.nets.specs.declared.Net.{Net}
 use Rattle.text.specs.Ipv4.{readLine}
-use Rattle.pool.specs.States.{State}
-use Rattle.pool.specs.Decode.{sound, decode}
-use Rattle.pool.specs.Changes.{listAt, withList, changeNo, changeRule, netNo}
-use Rattle.pool.specs.declared.Answer.the-variants.{Granted}
-use Rattle.pool.proofs.WithList.{length-withList, withList-list}
+use Rattle.pool_state.specs.States.{State}
+use Rattle.pool_state.specs.Decode.{sound, decode}
+use Rattle.pool_state.specs.Changes.{listAt, withList, changeNo, changeRule, netNo}
+use Rattle.pool_state.specs.declared.Answer.the-variants.{Granted}
+use Rattle.pool_state.proofs.WithList.{length-withList, withList-list}
 use Rattle.change.specs.Calls.{listWith, Added}
 use Rattle.change.proofs.Outcomes.{add-leaves}
 use Rattle.lines.specs.Lines.{addNo, addWords, lineNo, wordsWith, taken, withLines}

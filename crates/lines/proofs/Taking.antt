@@ -13,11 +13,11 @@ use Rattle.nets.specs.declared.Refusal.{Refusal}
 use Rattle.nets.specs.declared.Taken.{Taken}
 use Rattle.nets.specs.declared.Taken.the-variants as taken
 use Rattle.nets.specs.Bits.{Bits}
-use Rattle.pool.specs.States.{State}
-use Rattle.pool.specs.Decode.{Decoded, damaged, sound, decode}
-use Rattle.pool.specs.Changes.{changeNo, changeRule, wordsAfter, netNo}
-use Rattle.pool.specs.Rules.{answerAs}
-use Rattle.pool.specs.declared.Answer.{Answer}
+use Rattle.pool_state.specs.States.{State}
+use Rattle.pool_state.specs.Decode.{Decoded, damaged, sound, decode}
+use Rattle.pool_state.specs.Changes.{changeNo, changeRule, wordsAfter, netNo}
+use Rattle.pool_state.specs.Rules.{answerAs}
+use Rattle.pool_state.specs.declared.Answer.{Answer}
 use Rattle.change.specs.Calls.{listWith, Added}
 use Rattle.text.specs.Ipv4.{readLine}
 use Rattle.lines.specs.Lines.{lineNo, wordsWith}

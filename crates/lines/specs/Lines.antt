@@ -15,8 +15,8 @@ use Rattle.nets.specs.Lists.{addL}
 use Rattle.nets.specs.Networks.{netBits}
 use Rattle.nets.specs.declared.Net.{Net}
 use Rattle.text.specs.Ipv4.{readLine}
-use Rattle.pool.specs.Decode.{decode}
-use Rattle.pool.specs.Changes.{changeRule, wordsAfter, netNo}
+use Rattle.pool_state.specs.Decode.{decode}
+use Rattle.pool_state.specs.Changes.{changeRule, wordsAfter, netNo}
 use Rattle.change.specs.Calls.{listWith}
 
 abbrev pub lineFeed : ℕ

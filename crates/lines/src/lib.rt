@@ -1,6 +1,6 @@
 // Lines of IPv4 networks, added to set 0 of a pool. The input comes in pieces of any length: start, then feed with each piece, then finish.
 use nets::Taken;
-use pool::Answer;
+use pool_state::Answer;
 ghost use mathlib.Core.Path.{_≡_};
 ghost use Rattle.lines.specs.Lines.{lineNo, wordsWith};
 ghost use Rattle.lines.specs.Reading.{begun, kept, pushed, ended, stepped, fed, finished};

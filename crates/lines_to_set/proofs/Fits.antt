@@ -8,11 +8,11 @@ use lib.Dec.{leb, ltb}
 use lib.ListN.{length}
 use borrow.Author.Tests.{leb-true}
 use Rattle.nets.proofs.Answers.{answered-granted}
-use Rattle.pool.specs.Decode.{Decoded, damaged, sound, decode}
-use Rattle.pool.specs.Rules.{answerAs}
-use Rattle.pool.specs.States.{State}
-use Rattle.pool.specs.declared.Answer.{Answer}
-use Rattle.pool.specs.declared.Answer.the-variants.{Granted}
+use Rattle.pool_state.specs.Decode.{Decoded, damaged, sound, decode}
+use Rattle.pool_state.specs.Rules.{answerAs}
+use Rattle.pool_state.specs.States.{State}
+use Rattle.pool_state.specs.declared.Answer.{Answer}
+use Rattle.pool_state.specs.declared.Answer.the-variants.{Granted}
 use Rattle.setfile.specs.Calls.{fileAt, saveNo, saveRule, Saved}
 
 saveNo-fits : (S : State) (k n : ℕ) → saveNo S k n ≡ 0 → length (fileAt S k) ≤ n

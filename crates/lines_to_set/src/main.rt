@@ -3,23 +3,23 @@
 // The list is the one that add gives, line after line: a network inside another goes, and two halves of a block are not joined. Where a line is refused, standard error
 // says which and why, and no file is written. The set has at most 100,000 nodes: a line that needs more is refused, OverLimit.
 use libc::STDERR_FILENO;
-use pool::Answer;
-use programs::BYTES;
-use programs::Input;
-use programs::NODES;
-use programs::WORDS;
+use pool_state::Answer;
+use tool_io::BYTES;
+use tool_io::Input;
+use tool_io::NODES;
+use tool_io::WORDS;
 
 // The line that is refused.
 fn refused(number: u64, no: u8) {
     io::write_all(STDERR_FILENO, b"lines-to-set: line ");
     io::print_decimal(STDERR_FILENO, number);
     io::write_all(STDERR_FILENO, b" refused: ");
-    programs::say_refusal(no);
+    tool_io::say_refusal(no);
 }
 
 // Adds the networks of the lines to the set. Whether none is refused.
 fn take(fd: i32, path: &[u8], pool: &mut [u32]) -> bool {
-    let input = programs::read_lines(fd, pool);
+    let input = tool_io::read_lines(fd, pool);
     match input {
         Input::Added => true,
         Input::Refused(number, no) => {
@@ -41,7 +41,7 @@ fn take_file(pool: &mut [u32]) -> bool {
         os::fail(b"LINES");
         return false;
     }
-    let fd = programs::open_source(&path[..n]);
+    let fd = tool_io::open_source(&path[..n]);
     if fd < 0 {
         os::fail(&path[..n]);
         return false;
@@ -51,7 +51,7 @@ fn take_file(pool: &mut [u32]) -> bool {
 
 // Writes a file. One that is cut short, as on a full disk, is no set file: its header has its length.
 fn write(path: &[u8], bytes: &[u8]) {
-    let fd = programs::open_target(path);
+    let fd = tool_io::open_target(path);
     if fd < 0 {
         os::fail(path);
         return;
@@ -68,7 +68,7 @@ fn save(pool: &[u32], path: &[u8], bytes: &mut [u8]) {
     match saved {
         Answer::Refused(no) => {
             io::write_all(STDERR_FILENO, b"lines-to-set: ");
-            programs::say_refusal(no.number());
+            tool_io::say_refusal(no.number());
         }
         Answer::Granted(k) => {
             let n = k as usize;

@@ -21,34 +21,34 @@ use Rattle.nets.specs.declared.Refusal.the-variants.{Damaged, NoSet, ShortBuffe
 use Rattle.nets.proofs.Numbers.{bitsLeft-start, startOf-few, family-few}
 use Rattle.nets.proofs.Answers.{number-some, prefix-bits}
 use Rattle.nodes.specs.Words.{put}
-use Rattle.pool.specs.States.{State}
-use Rattle.pool.specs.Decode.{Decoded, damaged, sound, base, decode}
-use Rattle.pool.specs.Rules.{surveyOf}
-use Rattle.pool.specs.Changes.{listAt}
-use Rattle.pool.specs.declared.Answer.the-variants as answer
-use Rattle.pool.specs.declared.Survey.{Survey}
-use Rattle.pool.proofs.Header.{isHeader-header}
-use Rattle.pool.proofs.Decoded.{decode-header, decode-set}
-use Rattle.pool.proofs.Seen.{Seen, trieAt, behind, survey-sound, survey-damaged, survey-seen, seen-header, seen-segment, seen-list}
-use Rattle.listing.specs.Rows.{rowsOf}
-use Rattle.listing.specs.Spans.{Holds}
+use Rattle.pool_state.specs.States.{State}
+use Rattle.pool_state.specs.Decode.{Decoded, damaged, sound, base, decode}
+use Rattle.pool_state.specs.Rules.{surveyOf}
+use Rattle.pool_state.specs.Changes.{listAt}
+use Rattle.pool_state.specs.declared.Answer.the-variants as answer
+use Rattle.pool_state.specs.declared.Survey.{Survey}
+use Rattle.pool_state.proofs.Header.{isHeader-header}
+use Rattle.pool_state.proofs.Decoded.{decode-header, decode-set}
+use Rattle.pool_state.proofs.Seen.{Seen, trieAt, behind, survey-sound, survey-damaged, survey-seen, seen-header, seen-segment, seen-list}
+use Rattle.trie_paths.specs.Rows.{rowsOf}
+use Rattle.trie_paths.specs.Spans.{Holds}
 use Rattle.listing.specs.Seats.{seatAt, Sits, Refuses, Seats}
-use Rattle.listing.specs.Laying.{rowForm, tallied, clear, Starts, Layable, laid}
+use Rattle.trie_paths.specs.Laying.{rowForm, tallied, clear, Starts, Layable, laid}
 use Rattle.listing.specs.Calls.{listNo, listRule, rowsAfter, Listed, placeFrom, nothing, foundAs, nextNo, nextRule}
-use Rattle.listing.specs.Following.{placeOf, nextAs}
+use Rattle.trie_next.specs.Following.{placeOf, nextAs}
 use Rattle.listing.specs.Places.{Numbers, Right}
 use Rattle.listing.specs.declared.From.{From}
 use Rattle.listing.specs.declared.From.the-variants as from
-use Rattle.listing.specs.declared.following.Place.{Place}
-use Rattle.listing.specs.declared.following.Place.the-variants as place
-use Rattle.listing.specs.declared.following.Next.{Next}
-use Rattle.listing.specs.declared.following.Next.the-variants as next
-use Rattle.listing.specs.declared.seats.Seat.{Seat}
+use Rattle.trie_next.specs.declared.following.Place.{Place}
+use Rattle.trie_next.specs.declared.following.Place.the-variants as place
+use Rattle.trie_next.specs.declared.following.Next.{Next}
+use Rattle.trie_next.specs.declared.following.Next.the-variants as next
+use Rattle.nodes.specs.declared.seats.Seat.{Seat}
 use Rattle.listing.specs.declared.seats.Seated.the-variants.{Refused}
-use Rattle.listing.proofs.Reading.{spans-small}
-use Rattle.listing.proofs.Counting.{listOf-size}
-use Rattle.listing.proofs.RowForm.{rows-laid}
-use Rattle.pool.proofs.Returns.{netNo-own, netNo-other}
+use Rattle.trie_paths.proofs.Reading.{spans-small}
+use Rattle.trie_paths.proofs.Counting.{listOf-size}
+use Rattle.trie_paths.proofs.RowForm.{rows-laid}
+use Rattle.pool_state.proofs.Returns.{netNo-own, netNo-other}
 
 -- Where the trie of a set stands.
 module _ (w : List ℕ) (k : ℕ) (v : Survey) (e : v ≡ surveyOf (decode w) k) where

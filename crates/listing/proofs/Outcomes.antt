@@ -16,15 +16,15 @@ use Rattle.nets.specs.declared.Refusal.the-variants.{Damaged, NoSet, ShortBuffe
 use Rattle.nets.proofs.Answers.{number-one, number-some}
 use Rattle.nodes.specs.Words.{put}
 use Rattle.nodes.proofs.Put.{length-put, getD-put-in, getD-put-behind}
-use Rattle.pool.specs.States.{State}
-use Rattle.pool.specs.Decode.{damaged, sound, decode}
-use Rattle.pool.specs.Changes.{listAt}
-use Rattle.pool.specs.declared.Answer.{Answer}
-use Rattle.pool.specs.declared.Answer.the-variants as answer
-use Rattle.pool.proofs.Determined.{answerAs-one}
-use Rattle.listing.specs.Rows.{rowsOf}
+use Rattle.pool_state.specs.States.{State}
+use Rattle.pool_state.specs.Decode.{damaged, sound, decode}
+use Rattle.pool_state.specs.Changes.{listAt}
+use Rattle.pool_state.specs.declared.Answer.{Answer}
+use Rattle.pool_state.specs.declared.Answer.the-variants as answer
+use Rattle.pool_state.proofs.Determined.{answerAs-one}
+use Rattle.trie_paths.specs.Rows.{rowsOf}
 use Rattle.listing.specs.Calls.{listNo, listRule, rowsAfter, Listed, fromNo, placeFrom, foundAs, followerAs, nextNo, nextRule}
-use Rattle.listing.proofs.RowForm.{length-rowsOf}
+use Rattle.trie_paths.proofs.RowForm.{length-rowsOf}
 use Rattle.listing.specs.declared.From.{From}
 use Rattle.listing.specs.declared.Follower.{Follower}
 use Rattle.listing.specs.declared.Follower.the-variants.{Network, End, Refused}

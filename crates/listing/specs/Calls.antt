@@ -14,12 +14,12 @@ use Rattle.nets.specs.Networks.{netBits, netFrom, noNet}
 use Rattle.nets.specs.Refusals.{number, answered}
 use Rattle.nets.specs.declared.Net.{Net}
 use Rattle.nodes.specs.Words.{put}
-use Rattle.pool.specs.States.{State}
-use Rattle.pool.specs.Decode.{Decoded, damaged, sound, decode}
-use Rattle.pool.specs.Rules.{answerAs}
-use Rattle.pool.specs.Changes.{listAt, netNo}
-use Rattle.pool.specs.declared.Answer.{Answer}
-use Rattle.listing.specs.Rows.{rowsOf}
+use Rattle.pool_state.specs.States.{State}
+use Rattle.pool_state.specs.Decode.{Decoded, damaged, sound, decode}
+use Rattle.pool_state.specs.Rules.{answerAs}
+use Rattle.pool_state.specs.Changes.{listAt, netNo}
+use Rattle.pool_state.specs.declared.Answer.{Answer}
+use Rattle.trie_paths.specs.Rows.{rowsOf}
 use Rattle.listing.specs.declared.From.{From}
 use Rattle.listing.specs.declared.From.the-variants.{Start, Past}
 use Rattle.listing.specs.declared.Follower.{Follower}

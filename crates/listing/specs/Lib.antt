@@ -1,10 +1,4 @@
--- The rows of a list and the calls; then what the inner functions cite: a trie to be read and where it stands, the road on which rows are written, the networks
--- still to come on the way through a trie, the network that follows a place.
-pub mod Rows
+-- What a reader must believe of list and next; then where the trie of a set stands, and a place as an argument.
 pub mod Calls
-pub mod Spans
 pub mod Seats
-pub mod Laying
-pub mod Preorder
-pub mod Following
 pub mod Places

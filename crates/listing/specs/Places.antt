@@ -2,11 +2,11 @@
 use mathlib.Core.Path.{_≡_}
 use Prim.Native.Nat.{ℕ, _≤_}
 use Rattle.nets.specs.Refusals.{number}
-use Rattle.pool.specs.States.{State}
+use Rattle.pool_state.specs.States.{State}
 use Rattle.listing.specs.Calls.{fromNo, placeFrom}
-use Rattle.listing.specs.Following.{placeOf, lenOf}
+use Rattle.trie_next.specs.Following.{placeOf, lenOf}
 use Rattle.listing.specs.declared.From.{From}
-use Rattle.listing.specs.declared.following.Place.{Place}
+use Rattle.trie_next.specs.declared.following.Place.{Place}
 use Rattle.listing.specs.declared.places.Placed.{Placed}
 use Rattle.listing.specs.declared.places.Placed.the-variants.{At, Refused}
 

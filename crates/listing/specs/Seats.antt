@@ -10,12 +10,12 @@ use Prim.Native.Nat.{ℕ, _+_, _≤_, _<_}
 use lib.ListN.{length}
 use Rattle.nets.specs.Refusals.{number}
 use Rattle.nets.specs.Tries.{trieOf, listOf}
-use Rattle.pool.specs.States.{State, held}
-use Rattle.pool.specs.Decode.{Decoded, damaged, sound, base, decode}
-use Rattle.pool.specs.Rules.{startOf}
-use Rattle.pool.specs.Changes.{setAt, listAt}
-use Rattle.listing.specs.Spans.{Holds}
-use Rattle.listing.specs.declared.seats.Seat.{Seat}
+use Rattle.pool_state.specs.States.{State, held}
+use Rattle.pool_state.specs.Decode.{Decoded, damaged, sound, base, decode}
+use Rattle.pool_state.specs.Rules.{startOf}
+use Rattle.pool_state.specs.Changes.{setAt, listAt}
+use Rattle.trie_paths.specs.Spans.{Holds}
+use Rattle.nodes.specs.declared.seats.Seat.{Seat}
 use Rattle.listing.specs.declared.seats.Seated.{Seated}
 use Rattle.listing.specs.declared.seats.Seated.the-variants.{At, Refused}
 

@@ -1,27 +1,22 @@
 // Lists out: the rows of a set, and the network that follows a place. Each public call checks the pool in one pass; who goes through a whole set uses
 // following::next_after, which asks in its contract that a trie stands where it is to read one.
-use following::Next;
-use following::next_after;
-use lengths::starts;
-use lengths::tally;
 use nets::Net;
 use nets::Refusal;
 use places::Placed;
 use places::place_of;
-use pool::Answer;
-use rows::write_rows;
+use pool_state::Answer;
 use seats::Seated;
 use seats::seat_of;
+use trie_list::lengths::starts;
+use trie_list::lengths::tally;
+use trie_list::rows::write_rows;
+use trie_next::following::Next;
+use trie_next::following::next_after;
 ghost use mathlib.Core.Path.{_≡_};
-ghost use Rattle.pool.specs.Decode.{decode};
+ghost use Rattle.pool_state.specs.Decode.{decode};
 ghost use Rattle.listing.specs.Calls.{Listed, followerAs, nextRule};
 
-pub mod following;
-pub mod halves;
-pub mod lengths;
 mod places;
-pub mod preorder;
-pub mod rows;
 pub mod seats;
 
 // From the first network on, or behind a network, which need not be listed.

@@ -1,8 +1,8 @@
 // A place as an argument.
-use super::From;
-use crate::following::Place;
+use crate::From;
 use nets::Prefix;
 use nets::Refusal;
+use trie_next::following::Place;
 ghost use Rattle.listing.specs.Places.{Places};
 
 pub enum Placed {

@@ -1,17 +1,10 @@
 // Where the trie of a set stands: the first step of every call that reads one.
 use nets::Refusal;
-use pool::checking::HEAD;
-use pool::checking::RECORD;
-use pool::checking::survey;
+use nodes::seats::Seat;
+use pool_check::HEAD;
+use pool_check::RECORD;
+use pool_check::survey;
 ghost use Rattle.listing.specs.Seats.{Seats};
-
-// The nodes stand from the word `base` on, the trie from node `first` up to node `end`; its networks are of the family.
-pub struct Seat {
-    pub family: u8,
-    pub base: usize,
-    pub first: usize,
-    pub end: usize,
-}
 
 pub enum Seated {
     At(Seat),

@@ -20,9 +20,9 @@ use Rattle.nets.specs.declared.Refusal.the-variants.{Damaged, NoSet, WrongFamil
 use Rattle.nets.proofs.Strings.{cond-both}
 use Rattle.nets.proofs.Answers.{number-some}
 use Rattle.nets.proofs.Numbers.{bitsLeft-start, refusalOf-is}
-use Rattle.pool.specs.Decode.{recordAt, base, isHeader}
-use Rattle.pool.specs.declared.Answer.{Answer}
-use Rattle.pool.specs.declared.Answer.the-variants as answer
+use Rattle.pool_state.specs.Decode.{recordAt, base, isHeader}
+use Rattle.pool_state.specs.declared.Answer.{Answer}
+use Rattle.pool_state.specs.declared.Answer.the-variants as answer
 use Rattle.lookup.specs.Walks.{walkFrom}
 use Rattle.lookup.specs.Rules.{onRoot, query, lookup, memberOf, isMember, supernetRule, containsRule, emptyAt, emptyRule}
 use Rattle.lookup.specs.declared.walking.Shown.{Shown}

@@ -14,7 +14,7 @@ use Rattle.nets.specs.declared.Refusal.the-variants.{Damaged, NoSet, WrongFamil
 use Rattle.nets.proofs.Strings.{cond-both}
 use Rattle.nets.proofs.Numbers.{refusalOf-is, is-refusalOf, length-netBits}
 use Rattle.nodes.specs.Words.{wordAt}
-use Rattle.pool.specs.Decode.{recordAt, base, isHeader}
+use Rattle.pool_state.specs.Decode.{recordAt, base, isHeader}
 use Rattle.lookup.specs.Walks.{areNodes, toward, shows, walk, walkFrom}
 use Rattle.lookup.specs.Rules.{onRoot, query, lookup}
 use Rattle.lookup.specs.declared.walking.Shown.{Shown}

@@ -10,7 +10,7 @@ use Rattle.nets.specs.Networks.{width, netWords, netBits, netFrom, inRange, ref
 use Rattle.nets.specs.declared.Net.{Net}
 use Rattle.nodes.specs.Words.{put}
 use Rattle.nodes.specs.Parse.{parse}
-use Rattle.pool.specs.Decode.{mark, damaged, isHeader, readSet, readSets, decode}
+use Rattle.pool_state.specs.Decode.{mark, damaged, isHeader, readSet, readSets, decode}
 use Rattle.lookup.specs.Walks.{walk, walkFrom}
 use Rattle.lookup.specs.Rules.{onRoot, query, lookup, supernetRule, emptyRule}
 

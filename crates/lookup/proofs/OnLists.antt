@@ -22,13 +22,13 @@ use Rattle.nets.proofs.Strings.{and-left, leads-head, leads-tail, leads-length}
 use Rattle.nets.proofs.Numbers.{length-netBits}
 use Rattle.nets.proofs.TrieOf.{listOf-trieOf}
 use Rattle.nets.proofs.Lookups.{supernetL-found, searchT-listOf}
-use Rattle.pool.specs.States.{State, isFamily, held}
-use Rattle.pool.specs.Decode.{recordAt, base, decode, sound}
-use Rattle.pool.specs.Rules.{startOf}
-use Rattle.pool.specs.Changes.{setAt, listAt, netNo}
-use Rattle.pool.proofs.Claims.{isState-family}
-use Rattle.pool.proofs.Encoded.{HeaderOf}
-use Rattle.pool.proofs.Decoded.{decode-header, decode-state, decode-set, decode-root, decode-at, decode-parts}
+use Rattle.pool_state.specs.States.{State, isFamily, held}
+use Rattle.pool_state.specs.Decode.{recordAt, base, decode, sound}
+use Rattle.pool_state.specs.Rules.{startOf}
+use Rattle.pool_state.specs.Changes.{setAt, listAt, netNo}
+use Rattle.pool_state.proofs.Claims.{isState-family}
+use Rattle.pool_state.proofs.Encoded.{HeaderOf}
+use Rattle.pool_state.proofs.Decoded.{decode-header, decode-state, decode-set, decode-root, decode-at, decode-parts}
 use Rattle.lookup.specs.Walks.{walkFrom}
 use Rattle.lookup.specs.Rules.{onRoot, query, lookup, memberOf, isMember, supernetRule, containsRule, emptyAt, emptyRule, setNo, lookupNo, foundAs}
 use Rattle.lookup.specs.declared.walking.Shown.{Shown}

@@ -5,9 +5,9 @@ use mathlib.Core.Path.{_≡_, refl, ap, sym, _∙_}
 use Prim.Native.Nat.{ℕ}
 use Rattle.nets.specs.declared.Net.{Net}
 use Rattle.nets.proofs.Answers.{number-one, number-some}
-use Rattle.pool.specs.Rules.{toldAs}
-use Rattle.pool.specs.declared.Told.{Told}
-use Rattle.pool.proofs.Determined.{toldAs-one}
+use Rattle.pool_state.specs.Rules.{toldAs}
+use Rattle.pool_state.specs.declared.Told.{Told}
+use Rattle.pool_state.proofs.Determined.{toldAs-one}
 use Rattle.lookup.specs.Rules.{lookup, supernetAs, memberOf, isMember, supernetRule, containsRule, emptyRule}
 use Rattle.lookup.specs.declared.walking.Shown.{Shown}
 use Rattle.lookup.specs.declared.walking.Shown.the-variants.{Member, Nothing, Refused}

@@ -16,7 +16,7 @@ use Rattle.nodes.specs.Words.{Has, link0, link1, word, enc, place, wordAt}
 use Rattle.nodes.specs.Parse.{Stands}
 use Rattle.nodes.proofs.Has.{has-at}
 use Rattle.nodes.proofs.Tries.{some, word-first, word-second, word-le, word-leaf, Split, apart}
-use Rattle.pool.specs.Decode.{rootAt}
+use Rattle.pool_state.specs.Decode.{rootAt}
 use Rattle.lookup.specs.Walks.{areNodes, toward, shows, walk, walkFrom}
 use Rattle.lookup.specs.declared.walking.Shown.{Shown}
 use Rattle.lookup.specs.declared.walking.Shown.the-variants.{Member, Nothing}

@@ -15,9 +15,9 @@ use Rattle.nets.specs.Networks.{netBits, netFrom, refusalOf, noNet, withLen, cl
 use Rattle.nets.specs.declared.Net.{Net}
 use Rattle.nets.specs.declared.Refusal.{Refusal}
 use Rattle.nets.specs.declared.Refusal.the-variants.{Damaged, NoSet, WrongFamily, BadNetwork}
-use Rattle.pool.specs.States.{State}
-use Rattle.pool.specs.Decode.{recordAt, base, isHeader}
-use Rattle.pool.specs.Changes.{netNo}
+use Rattle.pool_state.specs.States.{State}
+use Rattle.pool_state.specs.Decode.{recordAt, base, isHeader}
+use Rattle.pool_state.specs.Changes.{netNo}
 use Rattle.lookup.specs.Walks.{walkFrom}
 use Rattle.lookup.specs.declared.walking.Shown.{Shown}
 use Rattle.lookup.specs.declared.walking.Shown.the-variants.{Member, Nothing, Refused}

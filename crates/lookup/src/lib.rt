@@ -2,15 +2,15 @@
 use nets::Net;
 use nets::Refusal;
 use nets::Taken;
-use pool::Answer;
-use pool::Told;
+use pool_state::Answer;
+use pool_state::Told;
 use walking::Shown;
 use walking::lookup;
 use walking::root;
 ghost use mathlib.Core.Bool.{true};
 ghost use mathlib.Core.Path.{_≡_};
 ghost use Rattle.nets.specs.Networks.{refusalOf, withLen, cleared};
-ghost use Rattle.pool.specs.Rules.{toldAs};
+ghost use Rattle.pool_state.specs.Rules.{toldAs};
 ghost use Rattle.lookup.specs.Rules.{supernetAs, supernetRule, containsRule, emptyRule};
 
 mod walking;

@@ -1,5 +1,5 @@
 // Reads lines of IPv4 networks into a set, simplifies it once and prints it.
-use programs::Input;
+use tool_io::Input;
 
 mod report;
 
@@ -9,7 +9,7 @@ const WORDS: usize = 8072;
 fn main() {
     let mut pool = [0u32; WORDS];
     pool::layout(&mut pool, 4, 1, 1000, &[1000], &[1000]);
-    let input = programs::read_lines(0, &mut pool);
+    let input = tool_io::read_lines(0, &mut pool);
     match input {
         Input::Unreadable => {
             io::write_all(2, b"netlist: the input cannot be read\n");

@@ -1,5 +1,5 @@
 // What is written to standard output.
-use pool::Report;
+use pool_state::Report;
 
 // A pool of 1,000 nodes has no more networks than nodes; three numbers each.
 const ROWS: usize = 3000;
@@ -31,5 +31,5 @@ fn counts(pool: &[u32]) {
 pub fn set(pool: &[u32]) {
     counts(pool);
     let mut rows = [0u64; ROWS];
-    programs::print_set(pool, 0, &mut rows);
+    tool_io::print_set(pool, 0, &mut rows);
 }

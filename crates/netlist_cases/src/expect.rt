@@ -2,10 +2,10 @@
 use crate::reading;
 use crate::reading::WORDS;
 use lines::Reader;
-use pool::Answer;
-use pool::Report;
-use tally::Tally;
-use tally::count;
+use pool_state::Answer;
+use pool_state::Report;
+use test_counts::Tally;
+use test_counts::count;
 ghost use Prim.Native.Nat.{_<_};
 
 // A pool of 1,000 nodes has no more networks than nodes; three numbers each.

@@ -4,7 +4,7 @@ use crate::filled;
 use crate::filled::BYTES;
 use crate::reading;
 use crate::reading::WORDS;
-use tally::Tally;
+use test_counts::Tally;
 ghost use Prim.Native.Nat.{_<_};
 
 // The 39th of the networks 0.0.0.1/32, 1.0.0.1/32 and so on is the first that has more than 1,000 nodes with those before it: they have 992.

@@ -8,7 +8,7 @@ mod reading;
 mod small;
 
 fn main() {
-    let mut t = small::accepted(tally::none());
+    let mut t = small::accepted(test_counts::none());
     t = small::joined(t);
     t = small::refused(t);
     t = small::unfit(t);
@@ -16,5 +16,5 @@ fn main() {
     t = large::over_limit(t);
     t = large::many(t);
     t = large::long_lines(t);
-    tally::say(t);
+    test_counts::say(t);
 }

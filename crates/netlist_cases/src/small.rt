@@ -1,6 +1,6 @@
 // Inputs of a few lines.
 use crate::expect;
-use tally::Tally;
+use test_counts::Tally;
 
 // No line, one with and without its line feed, the document's input, addresses with bits past the length.
 pub fn accepted(t: Tally) -> Tally {

@@ -11,21 +11,21 @@ use Rattle.nets.specs.Tries.{Trie, none, levels, listOf}
 use Rattle.nets.specs.declared.Net.{Net}
 use Rattle.nets.specs.declared.Refusal.{Refusal}
 use Rattle.nets.specs.declared.Refusal.the-variants.{ShortBuffer}
-use Rattle.pool.specs.States.{State}
-use Rattle.pool.specs.Decode.{Decoded, damaged, sound, decode}
-use Rattle.pool.specs.Changes.{listAt}
-use Rattle.pool.specs.declared.Answer.{Answer}
-use Rattle.pool.specs.declared.Answer.the-variants as answer
-use Rattle.pool.proofs.Claims.{isState-family}
-use Rattle.pool.proofs.Decoded.{decode-state}
-use Rattle.pool.proofs.Seen.{trieAt}
-use Rattle.listing.specs.Spans.{Spans}
+use Rattle.pool_state.specs.States.{State}
+use Rattle.pool_state.specs.Decode.{Decoded, damaged, sound, decode}
+use Rattle.pool_state.specs.Changes.{listAt}
+use Rattle.pool_state.specs.declared.Answer.{Answer}
+use Rattle.pool_state.specs.declared.Answer.the-variants as answer
+use Rattle.pool_state.proofs.Claims.{isState-family}
+use Rattle.pool_state.proofs.Decoded.{decode-state}
+use Rattle.pool_state.proofs.Seen.{trieAt}
+use Rattle.trie_paths.specs.Spans.{Spans}
 use Rattle.listing.specs.Seats.{Sits, Refuses, Seats}
-use Rattle.listing.specs.declared.seats.Seat.{Seat}
+use Rattle.nodes.specs.declared.seats.Seat.{Seat}
 use Rattle.listing.specs.declared.seats.Seated.the-variants.{Refused}
-use Rattle.going.specs.Spots.{beforeAll, goneOn, StandsIn}
-use Rattle.going.specs.declared.spots.Spot.{Spot}
-use Rattle.going.proofs.Onward.{stands-nowhere, seat-gone}
+use Rattle.trie_next.specs.Spots.{beforeAll, goneOn, StandsIn}
+use Rattle.trie_next.specs.declared.spots.Spot.{Spot}
+use Rattle.trie_next.proofs.Onward.{stands-nowhere, seat-gone}
 use Rattle.netrows.specs.Rows.{rowNo, rowRule, rowAfter, Listed}
 use Rattle.netrows.specs.Turns.{idle, Begins}
 

@@ -10,12 +10,12 @@ use Rattle.nets.specs.Bits.{Bits}
 use Rattle.nets.specs.Networks.{netFrom, noNet}
 use Rattle.nets.specs.declared.Net.{Net}
 use Rattle.nets.specs.declared.Refusal.the-variants.{Damaged, NoSet, ShortBuffer}
-use Rattle.pool.specs.States.{State}
-use Rattle.pool.specs.Decode.{damaged, sound, decode}
-use Rattle.pool.specs.Changes.{listAt}
-use Rattle.pool.specs.declared.Answer.{Answer}
-use Rattle.pool.specs.declared.Answer.the-variants.{Granted, Refused}
-use Rattle.pool.proofs.Determined.{answerAs-one}
+use Rattle.pool_state.specs.States.{State}
+use Rattle.pool_state.specs.Decode.{damaged, sound, decode}
+use Rattle.pool_state.specs.Changes.{listAt}
+use Rattle.pool_state.specs.declared.Answer.{Answer}
+use Rattle.pool_state.specs.declared.Answer.the-variants.{Granted, Refused}
+use Rattle.pool_state.proofs.Determined.{answerAs-one}
 use Rattle.netrows.specs.Rows.{filled, rowNo, rowRule, rowAfter, blank, Listed}
 use Rattle.netrows.specs.declared.Page.{Page}
 

@@ -15,11 +15,11 @@ use Rattle.nets.specs.Bits.{Bits}
 use Rattle.nets.specs.Networks.{netFrom, noNet}
 use Rattle.nets.specs.Refusals.{answered}
 use Rattle.nets.specs.declared.Net.{Net}
-use Rattle.pool.specs.States.{State}
-use Rattle.pool.specs.Decode.{Decoded, damaged, sound, decode}
-use Rattle.pool.specs.Rules.{answerAs}
-use Rattle.pool.specs.Changes.{listAt}
-use Rattle.pool.specs.declared.Answer.{Answer}
+use Rattle.pool_state.specs.States.{State}
+use Rattle.pool_state.specs.Decode.{Decoded, damaged, sound, decode}
+use Rattle.pool_state.specs.Rules.{answerAs}
+use Rattle.pool_state.specs.Changes.{listAt}
+use Rattle.pool_state.specs.declared.Answer.{Answer}
 
 abbrev pub netsOf : ℕ → List Bits → List Net
 netsOf f l = map (netFrom f) l

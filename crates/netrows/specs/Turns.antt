@@ -12,9 +12,9 @@ use lib.ListN.{length}
 use Rattle.nets.specs.Bits.{Bits}
 use Rattle.nets.specs.Tries.{Trie, listOf}
 use Rattle.nets.specs.declared.Net.{Net}
-use Rattle.pool.specs.States.{isFamily}
-use Rattle.pool.specs.declared.Answer.{Answer}
-use Rattle.going.specs.Spots.{nowhere, beforeAll, goneOn, StandsIn, Goes}
+use Rattle.pool_state.specs.States.{isFamily}
+use Rattle.pool_state.specs.declared.Answer.{Answer}
+use Rattle.trie_next.specs.Spots.{nowhere, beforeAll, goneOn, StandsIn, Goes}
 use Rattle.netrows.specs.Rows.{filled, Listed}
 use Rattle.netrows.specs.declared.turns.Turn.{Turn}
 

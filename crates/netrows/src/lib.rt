@@ -1,6 +1,6 @@
 // The list of a set in a lent row of networks, each with its family, its words and its length.
 use nets::Net;
-use pool::Answer;
+use pool_state::Answer;
 ghost use Rattle.netrows.specs.Rows.{blank, Listed};
 
 mod turns;

@@ -9,17 +9,17 @@ use lib.ListN.{length, getD, take, drop}
 use borrow.Author.Tests.{lt-ltb, le-ltb}
 use Rattle.nets.specs.Networks.{width}
 use Rattle.nodes.specs.Words.{zeros}
-use Rattle.pool.specs.States.{State}
-use Rattle.pool.specs.Decode.{sound, decode}
-use Rattle.pool.specs.Rules.{shareIn, limitIn, freeRule, heldRule, planRule, surveyOf}
-use Rattle.pool.specs.Changes.{setAt}
-use Rattle.pool.specs.Steps.{Surveyed}
-use Rattle.pool.specs.declared.Survey.{Survey}
+use Rattle.pool_state.specs.States.{State}
+use Rattle.pool_state.specs.Decode.{sound, decode}
+use Rattle.pool_state.specs.Rules.{shareIn, limitIn, freeRule, heldRule, planRule, surveyOf}
+use Rattle.pool_state.specs.Changes.{setAt}
+use Rattle.pool_state.specs.Steps.{Surveyed}
+use Rattle.pool_state.specs.declared.Survey.{Survey}
 use Rattle.nodes.proofs.Has.{has-seg}
 use Rattle.nodes.proofs.Zeros.{zeros-enc}
-use Rattle.pool.proofs.Holds.{set-listOf}
-use Rattle.pool.proofs.Decoded.{decode-header, decode-set, decode-share, decode-limit}
-use Rattle.pool.proofs.Seen.{Seen, placeOf, trieAt, survey-sound, survey-header, survey-damaged, seen-header, own-length, own-has}
+use Rattle.pool_state.proofs.Holds.{set-listOf}
+use Rattle.pool_state.proofs.Decoded.{decode-header, decode-set, decode-share, decode-limit}
+use Rattle.pool_state.proofs.Seen.{Seen, placeOf, trieAt, survey-sound, survey-header, survey-damaged, seen-header, own-length, own-has}
 
 module _ (w : List ℕ) (k : ℕ) (v : Survey) (e : v ≡ surveyOf (decode w) k) where
   -- A damaged pool.

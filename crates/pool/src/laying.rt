@@ -1,17 +1,17 @@
 // The parts of layout: the rules of a setup, the cleared buffer, the header, and the records of empty sets.
-use crate::checking::HEAD;
-use crate::checking::MARK;
-use crate::checking::NODE;
-use crate::checking::RECORD;
-use crate::checking::is_family;
-use crate::checking::is_size;
+use pool_check::HEAD;
+use pool_check::MARK;
+use pool_check::NODE;
+use pool_check::RECORD;
+use pool_check::is_family;
+use pool_check::is_size;
 ghost use mathlib.Core.Path.{_≡_};
 ghost use mathlib.Core.List.{[], _∷_};
 ghost use Prim.Native.Nat.{_≤_};
 ghost use lib.ListN.{length, replicate};
 ghost use Rattle.nodes.specs.Words.{put};
-ghost use Rattle.pool.specs.Decode.{mark, base, leastWords, overRecords};
-ghost use Rattle.pool.specs.Rules.{sharesFit, isSetup, emptySets};
+ghost use Rattle.pool_state.specs.Decode.{mark, base, leastWords, overRecords};
+ghost use Rattle.pool_state.specs.Rules.{sharesFit, isSetup, emptySets};
 
 // The words of the smallest buffer. The sum cannot wrap, whatever the counts are.
 pub fn least_words(sets: u32, nodes: u32) -> usize

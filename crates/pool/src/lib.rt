@@ -1,44 +1,17 @@
 // The pool: up to 64 sets of networks in one lent slice of words. docs/LAYOUT.md has every word.
-use checking::HEAD;
-use checking::RECORD;
-use checking::survey;
 use nets::Refusal;
 use nodes::reading::zeros_at;
+use pool_check::HEAD;
+use pool_check::RECORD;
+use pool_check::survey;
+pub use pool_state::Answer;
+pub use pool_state::Report;
+pub use pool_state::Told;
 ghost use mathlib.Core.Path.{_≡_};
-ghost use Rattle.pool.specs.Decode.{decode};
-ghost use Rattle.pool.specs.Rules.{answerAs, reportAs, Laid, freeRule, heldRule, planRule};
+ghost use Rattle.pool_state.specs.Decode.{decode};
+ghost use Rattle.pool_state.specs.Rules.{answerAs, reportAs, Laid, freeRule, heldRule, planRule};
 
-pub mod checking;
-pub mod judging;
 mod laying;
-pub mod relinking;
-
-// What a changing call answers: the nodes of its result.
-pub enum Answer {
-    Granted(u32),
-    Refused(Refusal),
-}
-
-// What a question about sets is answered.
-pub enum Told {
-    Is(bool),
-    Refused(Refusal),
-}
-
-// Two numbers of a set: its nodes and its networks, or its share and its limit.
-pub enum Report {
-    Numbers(u32, u32),
-    Refused(Refusal),
-}
-
-// What one pass over the pool finds out for the calls on one set.
-pub struct Survey {
-    pub sound: bool,
-    pub used: u32,
-    pub claimed: u32,
-    pub at: u32,
-    pub held: u32,
-}
 
 // Lays out a pool of empty sets in the lent words, a share and a limit for each set. A refusal changes no word, and no word past the smallest buffer is touched.
 pub fn layout(

@@ -1,7 +1,7 @@
 // Replays calls whose answers the Rust crate iprange and the harness's model made: `harness/run sample` writes them. Standard input is frames of 65,536 bytes: 128 that say in words how
 // they were made, how many bytes of calls and of answers there are, the calls and the answers as docs/CALLS.md has them, and zeros. Each frame has a pool of its own.
 use calls::running::run;
-use codes::bytes::u32_at;
+use calls_bytes::bytes::u32_at;
 ghost use mathlib.Core.Path.{_≡_};
 ghost use lib.ListN.{length};
 

@@ -3,11 +3,11 @@
 // Where the file is refused, standard error says why and nothing is printed. The set has at most 100,000 nodes: a file with more is refused, OverLimit. One
 // with more bytes than the file of such a set can have is not read whole, and standard error says so.
 use libc::STDERR_FILENO;
-use pool::Answer;
-use programs::BYTES;
-use programs::NODES;
-use programs::ROWS;
-use programs::WORDS;
+use pool_state::Answer;
+use tool_io::BYTES;
+use tool_io::NODES;
+use tool_io::ROWS;
+use tool_io::WORDS;
 
 // One byte more of a file that was read: how many came, 0 at its end, or -1.
 fn past(fd: i32) -> isize {
@@ -22,7 +22,7 @@ fn load(pool: &mut [u32], bytes: &[u8]) -> bool {
         Answer::Granted(_) => true,
         Answer::Refused(no) => {
             io::write_all(STDERR_FILENO, b"set-to-lines: ");
-            programs::say_refusal(no.number());
+            tool_io::say_refusal(no.number());
             false
         }
     }
@@ -55,7 +55,7 @@ fn load_file(pool: &mut [u32]) -> bool {
         os::fail(b"SETFILE");
         return false;
     }
-    let fd = programs::open_source(&path[..n]);
+    let fd = tool_io::open_source(&path[..n]);
     if fd < 0 {
         os::fail(&path[..n]);
         return false;
@@ -65,7 +65,7 @@ fn load_file(pool: &mut [u32]) -> bool {
 
 // Prints the networks of the set, by way of lent rows.
 fn print(pool: &[u32], rows: &mut [u64]) {
-    if !programs::print_set(pool, 0, rows) {
+    if !tool_io::print_set(pool, 0, rows) {
         os::fail(b"standard output");
     }
 }

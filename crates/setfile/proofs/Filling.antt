@@ -13,16 +13,16 @@ use Rattle.nets.proofs.Nodes.{nodesL-listOf}
 use Rattle.nets.proofs.TrieOf.{listOf-trieOf, levels-trieOf, isList-within}
 use Rattle.nodes.specs.Words.{put, place, enc}
 use Rattle.nodes.proofs.Put.{put-nil, length-put}
-use Rattle.pool.specs.Decode.{base}
-use Rattle.pool.specs.Steps.{behindAt}
-use Rattle.pool.specs.declared.Survey.{Survey}
-use Rattle.files.specs.Files.{file, readFile}
-use Rattle.files.specs.Streams.{flat}
-use Rattle.files.proofs.RoundTrip.{readFile-is}
-use Rattle.merging.specs.Flow.{headAs, Flow}
-use Rattle.merging.specs.declared.Head.{Head}
-use Rattle.building.specs.Building.{Due}
-use Rattle.building.proofs.Growing.{cut-first}
+use Rattle.pool_state.specs.Decode.{base}
+use Rattle.pool_state.specs.Steps.{behindAt}
+use Rattle.pool_state.specs.declared.Survey.{Survey}
+use Rattle.setfile_format.specs.Files.{file, readFile}
+use Rattle.address_order.specs.Streams.{flat}
+use Rattle.setfile_format.proofs.RoundTrip.{readFile-is}
+use Rattle.setfile_order.specs.Flow.{headAs, Flow}
+use Rattle.setfile_order.specs.declared.Head.{Head}
+use Rattle.setfile_build.specs.Building.{Due}
+use Rattle.setfile_build.proofs.Growing.{cut-first}
 use Rattle.setfile.specs.LoadSteps.{Fillable, Writable, written}
 
 -- The list of a file is its trie's.

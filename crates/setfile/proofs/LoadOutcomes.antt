@@ -15,19 +15,19 @@ use Rattle.nets.specs.Refusals.{number}
 use Rattle.nets.specs.declared.Refusal.{Refusal}
 use Rattle.nets.specs.declared.Refusal.the-variants.{Damaged, NoSet, BadFile, WrongFamily, Occupied, OverLimit, NoRoom}
 use Rattle.nets.proofs.Answers.{number-some}
-use Rattle.pool.specs.States.{State, roomOf}
-use Rattle.pool.specs.Decode.{damaged, sound, decode}
-use Rattle.pool.specs.Rules.{surveyOf}
-use Rattle.pool.specs.Changes.{setAt, listAt, isEmpty, withList, changeNo, changeRule}
-use Rattle.pool.specs.declared.Answer.{Answer}
-use Rattle.pool.specs.declared.Answer.the-variants as answer
-use Rattle.pool.proofs.Decoded.{decode-header}
-use Rattle.pool.proofs.Seen.{Seen, survey-seen}
-use Rattle.pool.proofs.Determined.{answerAs-one, changed-one}
-use Rattle.pool.proofs.Returns.{changed, change-damaged, change-noset, change-args, change-judged}
-use Rattle.pool.proofs.Leaves.{Leaves, changed-leaves}
-use Rattle.files.specs.Files.{File, broken, file, readFile}
-use Rattle.files.proofs.RoundTrip.{readFile-is}
+use Rattle.pool_state.specs.States.{State, roomOf}
+use Rattle.pool_state.specs.Decode.{damaged, sound, decode}
+use Rattle.pool_state.specs.Rules.{surveyOf}
+use Rattle.pool_state.specs.Changes.{setAt, listAt, isEmpty, withList, changeNo, changeRule}
+use Rattle.pool_state.specs.declared.Answer.{Answer}
+use Rattle.pool_state.specs.declared.Answer.the-variants as answer
+use Rattle.pool_state.proofs.Decoded.{decode-header}
+use Rattle.pool_state.proofs.Seen.{Seen, survey-seen}
+use Rattle.pool_state.proofs.Determined.{answerAs-one, changed-one}
+use Rattle.pool_state.proofs.Returns.{changed, change-damaged, change-noset, change-args, change-judged}
+use Rattle.pool_state.proofs.Leaves.{Leaves, changed-leaves}
+use Rattle.setfile_format.specs.Files.{File, broken, file, readFile}
+use Rattle.setfile_format.proofs.RoundTrip.{readFile-is}
 use Rattle.setfile.specs.Calls.{fileAt, Saved}
 use Rattle.setfile.specs.Loading.{loadNo, fileList, Loaded}
 use Rattle.setfile.proofs.Outcomes.{save-reads}

@@ -15,22 +15,22 @@ use Rattle.nets.specs.declared.Refusal.{Refusal}
 use Rattle.nets.specs.declared.Refusal.the-variants.{Damaged, NoSet, BadFile, WrongFamily, Occupied}
 use Rattle.nets.proofs.Answers.{number-some}
 use Rattle.nodes.specs.Words.{enc}
-use Rattle.pool.specs.States.{State, roomOf}
-use Rattle.pool.specs.Decode.{sound, decode}
-use Rattle.pool.specs.Rules.{answerAs, surveyOf}
-use Rattle.pool.specs.Changes.{listAt, isEmpty, changeNo}
-use Rattle.pool.specs.Steps.{relinked, Relink}
-use Rattle.pool.specs.declared.Answer.{Answer}
-use Rattle.pool.specs.declared.Survey.{Survey}
-use Rattle.pool.proofs.Decoded.{decode-header}
-use Rattle.pool.proofs.Seen.{Seen, behind, survey-sound, survey-seen, seen, seen-figures, seen-empty, seen-some}
-use Rattle.pool.proofs.Judged.{judge-zero, changeNo-granted}
-use Rattle.pool.proofs.Changed.{withTrie, behind-first, relink-asks, gap-asks}
-use Rattle.pool.proofs.Returns.{changed, change-damaged, change-noset, change-args, change-judged, change-granted}
-use Rattle.files.specs.Files.{File, broken, file, readFile}
-use Rattle.merging.specs.Flow.{checkedOf}
-use Rattle.merging.specs.declared.Checked.{Checked}
-use Rattle.merging.specs.declared.Checked.the-variants as checked
+use Rattle.pool_state.specs.States.{State, roomOf}
+use Rattle.pool_state.specs.Decode.{sound, decode}
+use Rattle.pool_state.specs.Rules.{answerAs, surveyOf}
+use Rattle.pool_state.specs.Changes.{listAt, isEmpty, changeNo}
+use Rattle.pool_state.specs.Steps.{relinked, Relink}
+use Rattle.pool_state.specs.declared.Answer.{Answer}
+use Rattle.pool_state.specs.declared.Survey.{Survey}
+use Rattle.pool_state.proofs.Decoded.{decode-header}
+use Rattle.pool_state.proofs.Seen.{Seen, behind, survey-sound, survey-seen, seen, seen-figures, seen-empty, seen-some}
+use Rattle.pool_state.proofs.Judged.{judge-zero, changeNo-granted}
+use Rattle.pool_state.proofs.Changed.{withTrie, behind-first, relink-asks, gap-asks}
+use Rattle.pool_state.proofs.Returns.{changed, change-damaged, change-noset, change-args, change-judged, change-granted}
+use Rattle.setfile_format.specs.Files.{File, broken, file, readFile}
+use Rattle.setfile_order.specs.Flow.{checkedOf}
+use Rattle.setfile_order.specs.declared.Checked.{Checked}
+use Rattle.setfile_order.specs.declared.Checked.the-variants as checked
 use Rattle.setfile.specs.Loading.{loadNo, fileList, Loaded}
 use Rattle.setfile.specs.LoadSteps.{Ready, Asks, Writable, written}
 use Rattle.setfile.specs.declared.loading.Asked.the-variants.{Go, Refused}

@@ -10,17 +10,17 @@ use Rattle.nets.specs.Networks.{width}
 use Rattle.nets.specs.declared.Refusal.the-variants.{Damaged, NoSet, ShortBuffer}
 use Rattle.nodes.specs.Words.{put}
 use Rattle.nodes.proofs.Put.{length-put, getD-put-behind}
-use Rattle.pool.specs.States.{State}
-use Rattle.pool.specs.Decode.{damaged, sound, decode}
-use Rattle.pool.specs.Changes.{setAt, listAt}
-use Rattle.pool.specs.declared.Answer.{Answer}
-use Rattle.pool.specs.declared.Answer.the-variants as answer
-use Rattle.pool.proofs.Claims.{isState-family, isSet-list}
-use Rattle.pool.proofs.Determined.{answerAs-one}
-use Rattle.pool.proofs.Holds.{set-listOf}
-use Rattle.pool.proofs.Decoded.{decode-state, decode-set}
-use Rattle.files.specs.Files.{file, readFile}
-use Rattle.files.proofs.Written.{readFile-fileOf}
+use Rattle.pool_state.specs.States.{State}
+use Rattle.pool_state.specs.Decode.{damaged, sound, decode}
+use Rattle.pool_state.specs.Changes.{setAt, listAt}
+use Rattle.pool_state.specs.declared.Answer.{Answer}
+use Rattle.pool_state.specs.declared.Answer.the-variants as answer
+use Rattle.pool_state.proofs.Claims.{isState-family, isSet-list}
+use Rattle.pool_state.proofs.Determined.{answerAs-one}
+use Rattle.pool_state.proofs.Holds.{set-listOf}
+use Rattle.pool_state.proofs.Decoded.{decode-state, decode-set}
+use Rattle.setfile_format.specs.Files.{file, readFile}
+use Rattle.setfile_format.proofs.Written.{readFile-fileOf}
 use Rattle.setfile.specs.Calls.{fileAt, saveNo, saveRule, bytesAfter, Saved}
 use Rattle.setfile.proofs.Returns.{decode-few}
 

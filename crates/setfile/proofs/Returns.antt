@@ -11,22 +11,22 @@ use Rattle.nets.specs.Tries.{listOf, trieOf}
 use Rattle.nets.specs.declared.Refusal.{Refusal}
 use Rattle.nets.specs.declared.Refusal.the-variants.{ShortBuffer}
 use Rattle.nodes.specs.Words.{put}
-use Rattle.pool.specs.States.{State}
-use Rattle.pool.specs.Decode.{Decoded, damaged, sound, decode}
-use Rattle.pool.specs.Changes.{setAt, listAt}
-use Rattle.pool.specs.declared.Answer.the-variants as answer
-use Rattle.pool.proofs.Claims.{isState-claimed, claimedBut-is}
-use Rattle.pool.proofs.Header.{isHeader-header}
-use Rattle.pool.proofs.Holds.{set-size}
-use Rattle.pool.proofs.Decoded.{decode-header, decode-state, decode-set}
-use Rattle.listing.specs.Laying.{tallied, clear, Starts}
+use Rattle.pool_state.specs.States.{State}
+use Rattle.pool_state.specs.Decode.{Decoded, damaged, sound, decode}
+use Rattle.pool_state.specs.Changes.{setAt, listAt}
+use Rattle.pool_state.specs.declared.Answer.the-variants as answer
+use Rattle.pool_state.proofs.Claims.{isState-claimed, claimedBut-is}
+use Rattle.pool_state.proofs.Header.{isHeader-header}
+use Rattle.pool_state.proofs.Holds.{set-size}
+use Rattle.pool_state.proofs.Decoded.{decode-header, decode-state, decode-set}
+use Rattle.trie_paths.specs.Laying.{tallied, clear, Starts}
 use Rattle.listing.specs.Seats.{Sits, Refuses, Seats}
-use Rattle.listing.specs.declared.seats.Seat.{Seat}
+use Rattle.nodes.specs.declared.seats.Seat.{Seat}
 use Rattle.listing.specs.declared.seats.Seated.the-variants.{Refused}
-use Rattle.listing.proofs.Counting.{listOf-size}
-use Rattle.files.specs.Files.{fileBytes, mostEntries, fileOf}
-use Rattle.files.proofs.Written.{length-fileOf, fileBytes-few}
-use Rattle.setfile.specs.Saving.{Writable}
+use Rattle.trie_paths.proofs.Counting.{listOf-size}
+use Rattle.setfile_format.specs.Files.{fileBytes, mostEntries, fileOf}
+use Rattle.setfile_format.proofs.Written.{length-fileOf, fileBytes-few}
+use Rattle.setfile_write.specs.Saving.{Writable}
 use Rattle.setfile.specs.Calls.{fileAt, saveNo, saveRule, bytesAfter, Saved}
 
 saveRule-refused : (d : Decoded) (k n x : ℕ) → Refuses d k x → (x, 0) ≡ saveRule d k n

@@ -10,12 +10,12 @@ use lib.Dec.{eqb, leb, ltb}
 use lib.ListN.{length}
 use Rattle.nets.specs.Refusals.{answered}
 use Rattle.nodes.specs.Words.{put}
-use Rattle.pool.specs.States.{State}
-use Rattle.pool.specs.Decode.{Decoded, damaged, sound, decode}
-use Rattle.pool.specs.Rules.{answerAs}
-use Rattle.pool.specs.Changes.{listAt}
-use Rattle.pool.specs.declared.Answer.{Answer}
-use Rattle.files.specs.Files.{fileOf}
+use Rattle.pool_state.specs.States.{State}
+use Rattle.pool_state.specs.Decode.{Decoded, damaged, sound, decode}
+use Rattle.pool_state.specs.Rules.{answerAs}
+use Rattle.pool_state.specs.Changes.{listAt}
+use Rattle.pool_state.specs.declared.Answer.{Answer}
+use Rattle.setfile_format.specs.Files.{fileOf}
 
 -- the file of set k
 abbrev pub fileAt : State → ℕ → List ℕ

@@ -11,11 +11,11 @@ use Rattle.nets.specs.Bits.{Bits}
 use Rattle.nets.specs.Lists.{nodesL}
 use Rattle.nets.specs.Tries.{trieOf}
 use Rattle.nodes.specs.Words.{put, place, enc}
-use Rattle.pool.specs.Decode.{base}
-use Rattle.pool.specs.Steps.{Surveyed, behindAt, Gap}
-use Rattle.pool.specs.declared.Answer.the-variants as answer
-use Rattle.pool.specs.declared.Survey.{Survey}
-use Rattle.files.specs.Files.{file, readFile}
+use Rattle.pool_state.specs.Decode.{base}
+use Rattle.pool_state.specs.Steps.{Surveyed, behindAt, Gap}
+use Rattle.pool_state.specs.declared.Answer.the-variants as answer
+use Rattle.pool_state.specs.declared.Survey.{Survey}
+use Rattle.setfile_format.specs.Files.{file, readFile}
 use Rattle.setfile.specs.Loading.{Loaded}
 use Rattle.setfile.specs.declared.loading.Asked.{Asked}
 use Rattle.setfile.specs.declared.loading.Asked.the-variants.{Go, Refused}

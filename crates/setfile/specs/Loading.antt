@@ -8,10 +8,10 @@ use mathlib.Core.List.{List, []}
 use Prim.Native.Nat.{ℕ}
 use lib.Dec.{eqb}
 use Rattle.nets.specs.Bits.{Bits}
-use Rattle.pool.specs.States.{State}
-use Rattle.pool.specs.Changes.{listAt, isEmpty, Changed}
-use Rattle.pool.specs.declared.Answer.{Answer}
-use Rattle.files.specs.Files.{File, broken, file, readFile}
+use Rattle.pool_state.specs.States.{State}
+use Rattle.pool_state.specs.Changes.{listAt, isEmpty, Changed}
+use Rattle.pool_state.specs.declared.Answer.{Answer}
+use Rattle.setfile_format.specs.Files.{File, broken, file, readFile}
 
 unfoldable pub loadNo : File → ℕ → State → ℕ
 loadNo broken k S = 5

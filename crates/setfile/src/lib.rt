@@ -1,19 +1,17 @@
 // Set files: a set into bytes, and bytes into a set. Each call checks the pool in one pass.
-use entries::reading::file_bytes;
-use listing::lengths::starts;
-use listing::lengths::tally;
 use listing::seats::Seated;
 use listing::seats::seat_of;
 use loading::load_file;
 use nets::Refusal;
-use pool::Answer;
-use saving::write_file;
+use pool_state::Answer;
+use setfile_entries::reading::file_bytes;
+use setfile_write::saving::write_file;
+use trie_list::lengths::starts;
+use trie_list::lengths::tally;
 ghost use Rattle.setfile.specs.Calls.{Saved};
 ghost use Rattle.setfile.specs.Loading.{Loaded};
 
 mod loading;
-mod saving;
-mod writing;
 
 // Writes the file of a set, and answers how many bytes it has. Bytes past it keep what they had, and a refusal writes nothing.
 pub fn save(pool: &[u32], set: u32, out: &mut [u8]) -> Answer

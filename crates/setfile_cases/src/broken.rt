@@ -1,6 +1,6 @@
 // Files that break one rule: family, count, place of the first entry, length of the file; then the entries, and that they are a list.
 use crate::expect;
-use tally::Tally;
+use test_counts::Tally;
 
 // No family, and the other one, whose entries are longer.
 pub fn family(t: Tally) -> Tally {

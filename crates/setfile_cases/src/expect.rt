@@ -2,10 +2,10 @@
 use crate::made;
 use crate::made::WORDS;
 use nets::Refusal;
-use pool::Answer;
-use tally::Tally;
-use tally::count;
-use tally::same;
+use pool_state::Answer;
+use test_counts::Tally;
+use test_counts::count;
+use test_counts::same;
 
 // The call is granted and answers this number.
 pub fn gives(t: Tally, a: Answer, n: usize) -> Tally {

@@ -1,6 +1,6 @@
 // Files byte by byte, loaded: those that save writes come back, and none that is cut off.
 use crate::expect;
-use tally::Tally;
+use test_counts::Tally;
 
 // Files that save writes come back.
 pub fn whole_v4(t: Tally) -> Tally {

@@ -1,6 +1,6 @@
 // What the cases are made of.
 use nets::Net;
-use pool::Answer;
+use pool_state::Answer;
 
 // The words of the pools here: two sets, 140 nodes.
 pub const WORDS: usize = 1200;

@@ -1,5 +1,5 @@
 // Runs set files made by hand from the scope document through save and load, and counts those that come out otherwise.
-use tally::Tally;
+use test_counts::Tally;
 
 mod broken;
 mod expect;
@@ -40,8 +40,8 @@ fn breaking(t: Tally) -> Tally {
 }
 
 fn main() {
-    let mut t = saving(tally::none());
+    let mut t = saving(test_counts::none());
     t = loading(t);
     t = breaking(t);
-    tally::say(t);
+    test_counts::say(t);
 }

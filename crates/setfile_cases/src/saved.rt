@@ -2,7 +2,7 @@
 use crate::expect;
 use crate::made;
 use crate::made::WORDS;
-use tally::Tally;
+use test_counts::Tally;
 
 fn v4_few(t: Tally) -> Tally {
     let mut pool = [0u32; WORDS];

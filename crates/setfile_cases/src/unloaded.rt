@@ -2,8 +2,8 @@
 use crate::expect;
 use crate::made;
 use crate::made::WORDS;
-use pool::Answer;
-use tally::Tally;
+use pool_state::Answer;
+use test_counts::Tally;
 
 // 64 nodes and three sets: the second has the limit 31, the third the share 30 and holds 0.0.0.0/1.
 fn three(t: Tally, pool: &mut [u32]) -> Tally {

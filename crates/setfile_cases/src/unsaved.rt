@@ -2,7 +2,7 @@
 use crate::expect;
 use crate::made;
 use crate::made::WORDS;
-use tally::Tally;
+use test_counts::Tally;
 
 // 0.0.0.0/1 in the first of two sets.
 fn half(t: Tally, pool: &mut [u32]) -> Tally {

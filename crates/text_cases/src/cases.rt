@@ -1,7 +1,7 @@
 // The cases, by kind.
 use crate::expect;
 use nets::Net;
-use tally::Tally;
+use test_counts::Tally;
 
 fn net(family: u8, hi: u64, lo: u64, len: u8) -> Net {
     Net {

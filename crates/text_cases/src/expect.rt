@@ -2,8 +2,8 @@
 use nets::Net;
 use nets::Refusal;
 use nets::Taken;
-use tally::Tally;
-use tally::count;
+use test_counts::Tally;
+use test_counts::count;
 use text::Written;
 
 // The number of a refusal in the scope document's table; 0 for those that no line gets.

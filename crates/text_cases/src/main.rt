@@ -3,7 +3,7 @@ mod cases;
 mod expect;
 
 fn main() {
-    let mut t = cases::read(tally::none());
+    let mut t = cases::read(test_counts::none());
     t = cases::refused(t);
     t = cases::misplaced(t);
     t = cases::numbers(t);
@@ -11,5 +11,5 @@ fn main() {
     t = cases::written(t);
     t = cases::denied(t);
     t = cases::rooms(t);
-    tally::say(t);
+    test_counts::say(t);
 }

@@ -22,9 +22,9 @@ use denote.Struct.Laws as LL
 use denote.Triple.Statement.{Contract, Triple}
 use denote.Triple.Spec.{tripleOf}
 use denote.Triple.Clauses.{ensured, lasts}
-use Rattle.going.specs.declared.spots.Spot.{Spot}
-use Rattle.going.proofs.spots.Spot as O
-use Rattle.going.proofs.spots.Spot.Laws as O′
+use Rattle.trie_next.specs.declared.spots.Spot.{Spot}
+use Rattle.trie_next.proofs.spots.Spot as O
+use Rattle.trie_next.proofs.spots.Spot.Laws as O′
 use Rattle.walk.specs.Places.{firstTurn, turnAfter}
 use Rattle.walk.specs.declared.turns.Turn.{Turn}
 use Rattle.walk.proofs.turns.Turn as Y

@@ -12,9 +12,9 @@ use Rattle.nets.specs.Bits.{Bits}
 use Rattle.nets.specs.Lists.{Found, found, missing}
 use Rattle.nets.specs.Networks.{netFrom}
 use Rattle.nets.specs.declared.Refusal.the-variants.{Damaged, NoSet}
-use Rattle.pool.specs.States.{State}
-use Rattle.pool.specs.Decode.{damaged, sound, decode}
-use Rattle.pool.specs.Changes.{listAt}
+use Rattle.pool_state.specs.States.{State}
+use Rattle.pool_state.specs.Decode.{damaged, sound, decode}
+use Rattle.pool_state.specs.Changes.{listAt}
 use Rattle.listing.specs.Calls.{foundAs, followerAs}
 use Rattle.listing.specs.declared.Follower.{Follower}
 use Rattle.listing.specs.declared.Follower.the-variants.{Network, End, Refused}

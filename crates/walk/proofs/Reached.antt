@@ -15,14 +15,14 @@ use Rattle.nets.specs.Networks.{netFrom}
 use Rattle.nets.specs.Refusals.{answered}
 use Rattle.nets.specs.declared.Net.{Net}
 use Rattle.nets.specs.declared.Refusal.the-variants.{Damaged, NoSet}
-use Rattle.pool.specs.Decode.{Decoded, damaged, sound, decode}
+use Rattle.pool_state.specs.Decode.{Decoded, damaged, sound, decode}
 use Rattle.listing.specs.Calls.{nothing, foundAs, followerAs}
 use Rattle.listing.specs.declared.Follower.{Follower}
 use Rattle.listing.specs.declared.Follower.the-variants.{Network, End, Refused}
-use Rattle.listing.specs.declared.seats.Seat.{Seat}
-use Rattle.going.specs.Spots.{beforeAll, placeIn, landed, goneOn}
-use Rattle.going.specs.declared.spots.Spot.{Spot}
-use Rattle.going.proofs.Onward.{ahead, ahead-all}
+use Rattle.nodes.specs.declared.seats.Seat.{Seat}
+use Rattle.trie_next.specs.Spots.{beforeAll, placeIn, landed, goneOn}
+use Rattle.trie_next.specs.declared.spots.Spot.{Spot}
+use Rattle.trie_next.proofs.Onward.{ahead, ahead-all}
 use Rattle.walk.specs.Walks.{walkNo, listIn, seatIn, walkFrom, walkOn, Walking}
 use Rattle.walk.specs.Places.{nthL, lastL, placeRule, spotAfter, stageIn, firstTurn, idle, turnAfter, IsNo, toldOf}
 use Rattle.walk.specs.declared.beginning.Stage.{Stage}

@@ -14,20 +14,20 @@ use Rattle.nets.specs.Refusals.{number}
 use Rattle.nets.specs.Tries.{Trie, none, levels, listOf}
 use Rattle.nets.specs.declared.Net.{Net}
 use Rattle.nets.specs.declared.Refusal.{Refusal}
-use Rattle.pool.specs.States.{State, isFamily}
-use Rattle.pool.specs.Decode.{Decoded, damaged, sound, decode}
-use Rattle.pool.proofs.Claims.{isState-family}
-use Rattle.pool.proofs.Decoded.{decode-state}
-use Rattle.pool.proofs.Seen.{trieAt}
+use Rattle.pool_state.specs.States.{State, isFamily}
+use Rattle.pool_state.specs.Decode.{Decoded, damaged, sound, decode}
+use Rattle.pool_state.proofs.Claims.{isState-family}
+use Rattle.pool_state.proofs.Decoded.{decode-state}
+use Rattle.pool_state.proofs.Seen.{trieAt}
 use Rattle.listing.specs.Seats.{Sits, Refuses, Seats}
-use Rattle.listing.specs.declared.seats.Seat.{Seat}
+use Rattle.nodes.specs.declared.seats.Seat.{Seat}
 use Rattle.listing.specs.declared.seats.Seated.the-variants.{Refused}
-use Rattle.listing.proofs.Reading.{spans-small}
-use Rattle.listing.proofs.Counting.{listOf-size}
+use Rattle.trie_paths.proofs.Reading.{spans-small}
+use Rattle.trie_paths.proofs.Counting.{listOf-size}
 use Rattle.listing.proofs.Calls.{sits-at}
-use Rattle.going.specs.Spots.{nowhere, beforeAll, goneOn, Right, StandsIn, Goes}
-use Rattle.going.specs.declared.spots.Spot.{Spot}
-use Rattle.going.proofs.Onward.{stands-nowhere, seat-gone, Lists, lists-trie, ahead, ahead-all, gone-more, gone-last, right-gone}
+use Rattle.trie_next.specs.Spots.{nowhere, beforeAll, goneOn, Right, StandsIn, Goes}
+use Rattle.trie_next.specs.declared.spots.Spot.{Spot}
+use Rattle.trie_next.proofs.Onward.{stands-nowhere, seat-gone, Lists, lists-trie, ahead, ahead-all, gone-more, gone-last, right-gone}
 use Rattle.walk.specs.Walks.{walkNo, listIn, seatIn, beginIn, walkFrom, walkOn, Walking, pass, through}
 use Rattle.walk.specs.declared.walking.Walk.{Walk}
 

@@ -18,11 +18,11 @@ use Rattle.nets.specs.Bits.{Bits}
 use Rattle.nets.specs.Lists.{Found, found, missing}
 use Rattle.nets.specs.Refusals.{answered}
 use Rattle.nets.specs.declared.Net.{Net}
-use Rattle.pool.specs.Decode.{Decoded, damaged, sound}
-use Rattle.pool.specs.Changes.{listAt}
+use Rattle.pool_state.specs.Decode.{Decoded, damaged, sound}
+use Rattle.pool_state.specs.Changes.{listAt}
 use Rattle.listing.specs.Calls.{nothing, foundAs}
-use Rattle.going.specs.Spots.{beforeAll, goneOn}
-use Rattle.going.specs.declared.spots.Spot.{Spot}
+use Rattle.trie_next.specs.Spots.{beforeAll, goneOn}
+use Rattle.trie_next.specs.declared.spots.Spot.{Spot}
 use Rattle.walk.specs.Walks.{walkNo, listIn, seatIn}
 use Rattle.walk.specs.declared.beginning.Stage.{Stage}
 use Rattle.walk.specs.declared.turns.Turn.{Turn}

@@ -16,11 +16,11 @@ use lib.Dec.{ltb}
 use lib.ListN.{length}
 use Rattle.nets.specs.Bits.{Bits}
 use Rattle.nets.specs.declared.Net.{Net}
-use Rattle.pool.specs.Decode.{Decoded, damaged, sound, decode}
-use Rattle.pool.specs.Changes.{listAt}
+use Rattle.pool_state.specs.Decode.{Decoded, damaged, sound, decode}
+use Rattle.pool_state.specs.Changes.{listAt}
 use Rattle.listing.specs.Seats.{seatAt}
-use Rattle.listing.specs.declared.seats.Seat.{Seat}
-use Rattle.going.specs.Spots.{nowhere, beforeAll, goneOn, Right}
+use Rattle.nodes.specs.declared.seats.Seat.{Seat}
+use Rattle.trie_next.specs.Spots.{nowhere, beforeAll, goneOn, Right}
 use Rattle.walk.specs.declared.beginning.Stage.{Stage}
 use Rattle.walk.specs.declared.walking.Walk.{Walk}
 

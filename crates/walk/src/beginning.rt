@@ -1,12 +1,12 @@
 // Where a walk begins.
 ghost use mathlib.Core.Path.{_≡_};
-ghost use Rattle.pool.specs.Decode.{decode};
+ghost use Rattle.pool_state.specs.Decode.{decode};
 ghost use Rattle.walk.specs.Walks.{beginIn};
-use going::spots::Spot;
-use going::spots::before_all;
-use going::spots::nowhere;
 use listing::seats::Seated;
 use listing::seats::seat_of;
+use trie_next::spots::Spot;
+use trie_next::spots::before_all;
+use trie_next::spots::nowhere;
 
 // How far a walk has come, and its number of the table.
 pub struct Stage {

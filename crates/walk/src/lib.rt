@@ -1,7 +1,7 @@
 // A walk through a set, network after network, that holds on to the pool it reads. Making one checks the pool; while it lives the words stay as they are, so its steps do not
 // check them again, and each goes on behind the last network.
 ghost use mathlib.Core.Path.{_≡_};
-ghost use Rattle.pool.specs.Decode.{decode};
+ghost use Rattle.pool_state.specs.Decode.{decode};
 ghost use Rattle.listing.specs.Calls.{followerAs};
 ghost use Rattle.walk.specs.Walks.{walkFrom};
 ghost use Rattle.walk.specs.Places.{nthRule, lastRule};

@@ -1,6 +1,6 @@
 // A walk in a local: the one function here that makes a walk and goes on with it. Its parameters are plain, so those that stand on it need no walk.
 ghost use mathlib.Core.Path.{_≡_};
-ghost use Rattle.pool.specs.Decode.{decode};
+ghost use Rattle.pool_state.specs.Decode.{decode};
 ghost use Rattle.walk.specs.Places.{stageIn};
 use crate::beginning::Stage;
 use crate::start;

@@ -2,10 +2,10 @@
 ghost use mathlib.Core.Path.{_≡_};
 ghost use Rattle.listing.specs.Calls.{followerAs};
 ghost use Rattle.walk.specs.Places.{firstTurn, turnAfter, IsNo, toldOf};
-use going::spots::Spot;
 use listing::Follower;
 use nets::Net;
 use nets::Refusal;
+use trie_next::spots::Spot;
 
 // Whether to go on, and how many networks are still to be passed.
 pub struct Turn {

@@ -1,7 +1,7 @@
 // The sets, and their lists: shorter length first, then smaller address.
 use crate::expect;
 use nets::Net;
-use tally::Tally;
+use test_counts::Tally;
 use walk::last;
 use walk::nth;
 

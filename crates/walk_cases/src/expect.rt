@@ -2,9 +2,9 @@
 use listing::Follower;
 use netrows::Page;
 use nets::Net;
-use pool::Answer;
-use tally::Tally;
-use tally::count;
+use pool_state::Answer;
+use test_counts::Tally;
+use test_counts::count;
 
 // The call is granted and answers this number.
 pub fn gives(t: Tally, a: Answer, n: u32) -> Tally {

@@ -4,7 +4,7 @@ mod expect;
 mod pages;
 
 fn main() {
-    let mut t = cases::empty(tally::none());
+    let mut t = cases::empty(test_counts::none());
     t = cases::order(t);
     t = cases::split(t);
     t = cases::wide(t);
@@ -16,5 +16,5 @@ fn main() {
     t = pages::full(t);
     t = pages::over(t);
     t = pages::refused(t);
-    tally::say(t);
+    test_counts::say(t);
 }

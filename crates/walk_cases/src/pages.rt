@@ -6,7 +6,7 @@ use crate::cases::v4;
 use crate::cases::v6;
 use crate::expect;
 use netrows::page_of;
-use tally::Tally;
+use test_counts::Tally;
 
 // Nothing, and one network that holds all addresses.
 pub fn small(t: Tally) -> Tally {

@@ -1,10 +1,10 @@
 // How each kind of answer is held to what it must be.
-use pool::Answer;
-use pool::Report;
-use pool::Told;
-use tally::Tally;
-use tally::count;
-use tally::same;
+use pool_state::Answer;
+use pool_state::Report;
+use pool_state::Told;
+use test_counts::Tally;
+use test_counts::count;
+use test_counts::same;
 
 // The call is granted and answers this number.
 pub fn gives(t: Tally, a: Answer, n: u32) -> Tally {

@@ -3,7 +3,7 @@ use crate::expect;
 use crate::made::WORDS;
 use crate::made::v4;
 use nets::Net;
-use tally::Tally;
+use test_counts::Tally;
 
 // Half of the only member goes, and comes back with the whole.
 pub fn halved(t: Tally) -> Tally {

@@ -2,7 +2,7 @@
 use crate::expect;
 use crate::made::WORDS;
 use crate::made::last;
-use tally::Tally;
+use test_counts::Tally;
 
 fn alone(t: Tally, len: u8, nodes: u32) -> Tally {
     let mut pool = [0u32; WORDS];

@@ -1,6 +1,6 @@
 // Runs the scope document's worked networks that are not proved as a table through the public calls, with cases at full pools, at the ends of the address words and at
 // refusals, and counts the answers that come out otherwise.
-use tally::Tally;
+use test_counts::Tally;
 
 mod expect;
 mod full;
@@ -39,12 +39,12 @@ fn at_refusals(t: Tally) -> Tally {
 }
 
 fn main() {
-    let mut t = tables::removed(tally::none());
+    let mut t = tables::removed(test_counts::none());
     t = tables::refused(t);
     t = tables::beside(t);
     t = at_full_pools(t);
     t = lengths::ends(t);
     t = at_refusals(t);
     t = of_sets(t);
-    tally::say(t);
+    test_counts::say(t);
 }

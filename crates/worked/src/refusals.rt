@@ -4,7 +4,7 @@ use crate::made::WORDS;
 use crate::made::v4;
 use crate::made::v6;
 use nets::Net;
-use tally::Tally;
+use test_counts::Tally;
 
 // One set with 0.0.0.0/1, its limit 30, in a pool of 25 nodes.
 fn half(t: Tally, pool: &mut [u32]) -> Tally {

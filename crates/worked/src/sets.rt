@@ -2,7 +2,7 @@
 use crate::expect;
 use crate::made::WORDS;
 use crate::made::v4;
-use tally::Tally;
+use test_counts::Tally;
 
 // Three sets without a share.
 fn three(t: Tally, pool: &mut [u32], nodes: u32, last: u32) -> Tally {
@@ -32,7 +32,7 @@ pub fn intersected(t: Tally) -> Tally {
     t = expect::gives(t, change::add(&mut pool, 1, v4(0x0a00_0000, 8)), 9);
     t = expect::gives(t, combine::intersect(&mut pool, 2, 0, 1), 9);
     t = expect::gives(t, pool::free(&pool), 0);
-    expect::tells(t, combine::equal(&pool, 2, 1), true)
+    expect::tells(t, compare::equal(&pool, 2, 1), true)
 }
 
 // All addresses, and the last one.
@@ -71,9 +71,9 @@ pub fn copied(t: Tally) -> Tally {
     let mut t = halves(t, &mut pool, 52);
     t = expect::gives(t, combine::exclude(&mut pool, 2, 0, 1), 26);
     t = expect::holds(t, pool::held(&pool, 2), 26, 2);
-    t = expect::tells(t, combine::equal(&pool, 2, 0), true);
+    t = expect::tells(t, compare::equal(&pool, 2, 0), true);
     t = expect::gives(t, change::simplify(&mut pool, 2), 24);
-    expect::tells(t, combine::equal(&pool, 2, 0), false)
+    expect::tells(t, compare::equal(&pool, 2, 0), false)
 }
 
 // A source that is the destination reads as empty; both sources may be one set.
@@ -82,7 +82,7 @@ pub fn selves(t: Tally) -> Tally {
     let mut t = halves(t, &mut pool, 74);
     t = expect::gives(t, combine::merge(&mut pool, 2, 2, 0), 24);
     t = expect::gives(t, combine::intersect(&mut pool, 1, 0, 0), 24);
-    expect::tells(t, combine::equal(&pool, 1, 2), true)
+    expect::tells(t, compare::equal(&pool, 1, 2), true)
 }
 
 pub fn refused(t: Tally) -> Tally {

@@ -2,8 +2,8 @@
 use crate::expect;
 use crate::made::WORDS;
 use crate::made::v6;
-use pool::Answer;
-use tally::Tally;
+use pool_state::Answer;
+use test_counts::Tally;
 
 // ::/0 less one address: 128 networks, 256 nodes, in a pool of just so many.
 pub fn removed(t: Tally) -> Tally {

@@ -3,7 +3,7 @@ use native.Mathlib.Omega.{arith}
 use borrow.Author.Needs.{needs}
 use Rattle.nets.specs.Lists.{addL}
 use Rattle.nets.specs.Tries.{insertT}
-use Rattle.pool.proofs.Returns.{result-many, result-refused, result-fits, result-relinks, result-granted}
+use Rattle.pool_state.proofs.Returns.{result-many, result-refused, result-fits, result-relinks, result-granted}
 use Rattle.change.specs.Steps.{Ready}
 use Rattle.change.proofs.Calls.{Counted, works-insert, seat-long, seat-stands, result, result-stands, result-few, result-room, result-wrote}
 use Rattle.change.proofs.add.Statement.{statement}

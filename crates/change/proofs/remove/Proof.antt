@@ -3,9 +3,9 @@ use native.Mathlib.Omega.{arith}
 use borrow.Author.Needs.{needs}
 use Rattle.nets.specs.Lists.{removeL}
 use Rattle.nets.specs.TrieOps.{removeT}
-use Rattle.pool.proofs.Returns.{result-many, result-refused, result-fits, result-relinks, result-granted}
+use Rattle.pool_state.proofs.Returns.{result-many, result-refused, result-fits, result-relinks, result-granted}
 use Rattle.change.specs.Steps.{Ready}
-use Rattle.change.proofs.Splices.{left-root}
+use Rattle.trie_remove.proofs.Splices.{left-root}
 use Rattle.change.proofs.Calls.{Counted, works-remove, seat-long, seat-stands, result, result-stands, result-few, result-room, result-wrote}
 use Rattle.change.proofs.remove.Statement.{statement}
 use Rattle.change.proofs.remove.Tie as tie

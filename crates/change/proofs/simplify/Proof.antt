@@ -5,8 +5,8 @@ use native.Mathlib.Omega.{arith}
 use borrow.Author.Needs.{needs}
 use borrow.Author.Tests.{not-true, not-false}
 use denote.Ref.{now}
-use Rattle.pool.specs.States.{State}
-use Rattle.pool.proofs.Seen.{Seen, survey-long, seen, seen-figures}
+use Rattle.pool_state.specs.States.{State}
+use Rattle.pool_state.proofs.Seen.{Seen, survey-long, seen, seen-figures}
 use Rattle.change.proofs.Simplified.{return-damaged, return-noset, seen-source, gap-closes, roots-move, return-granted}
 use Rattle.change.proofs.simplify.Statement.{statement}
 use Rattle.change.proofs.simplify.Tie as tie

@@ -1,7 +1,7 @@
 -- `take` meets its contract: the line is refused, or the answer of `add` says what becomes of its network. Assumes nothing.
 use mathlib.Core.Path.{ap, sym, _∙_}
 use borrow.Author.Needs.{needs}
-use Rattle.pool.specs.Rules.{answerAs}
+use Rattle.pool_state.specs.Rules.{answerAs}
 use Rattle.lines.proofs.Taking.{took-refused, took-added}
 use Rattle.lines.proofs.take.Statement.{statement}
 use Rattle.lines.proofs.take.Tie as tie

@@ -5,10 +5,10 @@ use native.Mathlib.Omega.{arith}
 use borrow.Author.Needs.{needs}
 use lib.ListN.{length}
 use Rattle.nets.specs.Tries.{listOf}
-use Rattle.pool.specs.States.{State}
-use Rattle.pool.proofs.Seen.{trieAt}
+use Rattle.pool_state.specs.States.{State}
+use Rattle.pool_state.proofs.Seen.{trieAt}
 use Rattle.listing.specs.Seats.{Sits}
-use Rattle.listing.proofs.Placing.{total-is, counts-fit}
+use Rattle.trie_paths.proofs.Placing.{total-is, counts-fit}
 use Rattle.listing.proofs.Calls.{list-refused, list-few, list-layable, list-short, list-granted}
 use Rattle.listing.proofs.list.Statement.{statement}
 use Rattle.listing.proofs.list.Tie as tie

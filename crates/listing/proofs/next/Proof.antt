@@ -1,7 +1,7 @@
 -- `next` meets its contract, each return by the tests on the way to it. Assumes nothing.
 use denote.Ref.{now}
 use borrow.Author.Needs.{needs}
-use Rattle.pool.specs.States.{State}
+use Rattle.pool_state.specs.States.{State}
 use Rattle.listing.specs.Seats.{Sits}
 use Rattle.listing.specs.Places.{Right}
 use Rattle.listing.proofs.Calls.{next-refused, next-misplaced, next-network, next-end}

@@ -1,7 +1,7 @@
 -- `is_empty` meets its contract, by its test. Assumes nothing.
 use native.Mathlib.Omega.{arith}
 use borrow.Author.Needs.{needs}
-use Rattle.pool.proofs.Header.{isHeader-header}
+use Rattle.pool_state.proofs.Header.{isHeader-header}
 use Rattle.lookup.proofs.Asked.{root-header, empty-over, empty-told, empty-refused}
 use Rattle.lookup.proofs.is_empty.Statement.{statement}
 use Rattle.lookup.proofs.is_empty.Tie as tie

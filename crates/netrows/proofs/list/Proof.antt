@@ -52,12 +52,12 @@ use Rattle.nets.specs.Tries.{Trie, listOf}
 use Rattle.nets.specs.declared.Net.{Net}
 use Rattle.nets.proofs.Net as T
 use Rattle.nets.proofs.Net.Laws as T′
-use Rattle.pool.specs.declared.Answer.{Answer}
-use Rattle.pool.proofs.Answer as P
-use Rattle.pool.proofs.Answer.Laws as P′
-use Rattle.going.specs.Spots.{StandsIn}
-use Rattle.going.proofs.spots.Spot as O
-use Rattle.going.proofs.spots.Spot.Laws as O′
+use Rattle.pool_state.specs.declared.Answer.{Answer}
+use Rattle.pool_state.proofs.Answer as P
+use Rattle.pool_state.proofs.Answer.Laws as P′
+use Rattle.trie_next.specs.Spots.{StandsIn}
+use Rattle.trie_next.proofs.spots.Spot as O
+use Rattle.trie_next.proofs.spots.Spot.Laws as O′
 use Rattle.netrows.specs.Rows.{Listed}
 use Rattle.netrows.specs.Turns.{turnAfter, Stores, Begins}
 use Rattle.netrows.specs.declared.turns.Turn.{Turn}

@@ -55,9 +55,9 @@ use Rattle.nets.specs.Networks.{noNet}
 use Rattle.nets.specs.declared.Net.{Net}
 use Rattle.nets.proofs.Net as T
 use Rattle.nets.proofs.Net.Laws as T′
-use Rattle.pool.specs.declared.Answer.{Answer}
-use Rattle.pool.proofs.Answer as P
-use Rattle.pool.proofs.Answer.Laws as P′
+use Rattle.pool_state.specs.declared.Answer.{Answer}
+use Rattle.pool_state.proofs.Answer as P
+use Rattle.pool_state.proofs.Answer.Laws as P′
 use Rattle.netrows.specs.Rows.{blank, Listed}
 use Rattle.netrows.specs.declared.Page.{Page}
 use Rattle.netrows.proofs.Page as Q

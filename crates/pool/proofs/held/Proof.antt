@@ -3,8 +3,8 @@ use denote.Ref.{now}
 use native.Mathlib.Omega.{arith}
 use borrow.Author.Needs.{needs}
 use borrow.Author.Tests.{not-true, not-false}
-use Rattle.pool.specs.Steps.{Surveyed}
-use Rattle.pool.proofs.Seen.{seen, figures, survey-long}
+use Rattle.pool_state.specs.Steps.{Surveyed}
+use Rattle.pool_state.proofs.Seen.{seen, figures, survey-long}
 use Rattle.pool.proofs.Reports.{held-damaged, held-none, held-numbers}
 use Rattle.pool.proofs.held.Statement.{statement}
 use Rattle.pool.proofs.held.Tie as tie

@@ -5,8 +5,8 @@ use mathlib.Core.Path.{_≡_, _∙_, sym}
 use native.Mathlib.Omega.{arith}
 use lib.ListN.{length}
 use borrow.Author.Needs.{needs}
-use Rattle.pool.specs.Rules.{isSetup}
-use Rattle.pool.proofs.Setups.{isSetup-kept, layout-granted, layout-refused}
+use Rattle.pool_state.specs.Rules.{isSetup}
+use Rattle.pool_state.proofs.Setups.{isSetup-kept, layout-granted, layout-refused}
 use Rattle.pool.proofs.layout.Statement.{statement}
 use Rattle.pool.proofs.layout.Tie as tie
 

@@ -3,8 +3,8 @@ use denote.Ref.{now}
 use native.Mathlib.Omega.{arith}
 use borrow.Author.Needs.{needs}
 use borrow.Author.Tests.{not-true, not-false}
-use Rattle.pool.specs.Steps.{Surveyed}
-use Rattle.pool.proofs.Seen.{seen, figures, survey-long}
+use Rattle.pool_state.specs.Steps.{Surveyed}
+use Rattle.pool_state.proofs.Seen.{seen, figures, survey-long}
 use Rattle.pool.proofs.Reports.{plan-damaged, plan-none, plan-numbers}
 use Rattle.pool.proofs.plan.Statement.{statement}
 use Rattle.pool.proofs.plan.Tie as tie

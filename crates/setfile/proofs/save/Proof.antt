@@ -5,10 +5,10 @@ use native.Mathlib.Omega.{arith}
 use borrow.Author.Needs.{needs}
 use lib.ListN.{length}
 use Rattle.nets.specs.Tries.{listOf, trieOf}
-use Rattle.pool.specs.States.{State}
-use Rattle.pool.specs.Changes.{listAt}
+use Rattle.pool_state.specs.States.{State}
+use Rattle.pool_state.specs.Changes.{listAt}
 use Rattle.listing.specs.Seats.{Sits}
-use Rattle.listing.proofs.Placing.{total-is, counts-fit}
+use Rattle.trie_paths.proofs.Placing.{total-is, counts-fit}
 use Rattle.setfile.proofs.Returns.{save-refused, save-few, save-fits, save-writable, save-short, save-granted}
 use Rattle.setfile.proofs.save.Statement.{statement}
 use Rattle.setfile.proofs.save.Tie as tie

@@ -2,8 +2,8 @@
 use mathlib.Core.Path.{_≡_, refl, ap}
 use Prim.Native.Nat.{_+_, _-_, _≤_}
 use lib.ListN.{length}
-use Rattle.codes.specs.Records.{callAt}
-use Rattle.codes.specs.declared.Call.{Call}
+use Rattle.calls_bytes.specs.Records.{callAt}
+use Rattle.calls_bytes.specs.declared.Call.{Call}
 use Rattle.calls.specs.Runs.{tailLength}
 use Rattle.calls.proofs.Judged.{Goes}
 use Rattle.calls.proofs.Turns.{Going, going-start, turn, turn-fits, turn-on, ran}

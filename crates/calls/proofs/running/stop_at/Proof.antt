@@ -1,6 +1,6 @@
 -- `running::stop_at` meets its contract, test by test. Assumes nothing.
 use mathlib.Core.Path.{sym, ap, _∙_}
-use Rattle.codes.specs.declared.Call.{Call}
+use Rattle.calls_bytes.specs.declared.Call.{Call}
 use Rattle.calls.specs.Runs.{stopOf}
 use Rattle.calls.proofs.Judged.{stopAt-whole, stopAt-cut, stopAt-tail, stopAt-call}
 use borrow.Author.Needs.{needs}

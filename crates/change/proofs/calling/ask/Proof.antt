@@ -4,7 +4,7 @@ use mathlib.Core.Path.{_≡_}
 use native.Mathlib.Omega.{arith}
 use borrow.Author.Needs.{needs}
 use borrow.Author.Tests.{not-true, not-false}
-use Rattle.pool.proofs.Seen.{survey-long}
+use Rattle.pool_state.proofs.Seen.{survey-long}
 use Rattle.change.proofs.Calls.{ask-damaged, ask-noset, ask-family, ask-network, ask-go}
 use Rattle.change.proofs.calling.ask.Statement.{statement}
 use Rattle.change.proofs.calling.ask.Tie as tie

@@ -4,7 +4,7 @@ use mathlib.Core.Path.{_≡_}
 use native.Mathlib.Omega.{arith}
 use borrow.Author.Needs.{needs}
 use borrow.Author.Tests.{not-true, not-false}
-use Rattle.pool.proofs.Seen.{survey-long}
+use Rattle.pool_state.proofs.Seen.{survey-long}
 use Rattle.combine.proofs.Calls.{ask-damaged, ask-noset, ask-first, ask-second, ask-occupied, ask-go}
 use Rattle.combine.proofs.asking.ask.Statement.{statement}
 use Rattle.combine.proofs.asking.ask.Tie as tie

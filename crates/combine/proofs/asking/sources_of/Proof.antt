@@ -1,7 +1,7 @@
 -- `asking::sources_of` meets its contract: a word is small. Assumes nothing.
 use native.Mathlib.Omega.{arith}
 use borrow.Author.Needs.{needs}
-use Rattle.pool.specs.Decode.{recordAt}
+use Rattle.pool_state.specs.Decode.{recordAt}
 use Rattle.combine.proofs.asking.sources_of.Statement.{statement}
 use Rattle.combine.proofs.asking.sources_of.Tie as tie
 

@@ -3,8 +3,8 @@ use mathlib.Core.Bool.{true}
 use mathlib.Core.Path.{_≡_, sym, _∙_}
 use borrow.Author.Needs.{needs}
 use Rattle.nets.specs.Tries.{Trie}
-use Rattle.emit.specs.Answers.{Emits}
-use Rattle.emit.specs.Combine.{opOn}
+use Rattle.trie_emit.specs.Answers.{Emits}
+use Rattle.trie_emit.specs.Combine.{opOn}
 use Rattle.combine.specs.Steps.{isCopy, Writable}
 use Rattle.combine.proofs.Gaps.{write-inputs, write-free, write-settles, write-wrote}
 use Rattle.combine.proofs.Copied.{copy-asks, copy-wrote}

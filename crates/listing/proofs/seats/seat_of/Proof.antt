@@ -3,8 +3,8 @@ use denote.Ref.{now}
 use native.Mathlib.Omega.{arith}
 use borrow.Author.Needs.{needs}
 use borrow.Author.Tests.{not-true, not-false}
-use Rattle.pool.specs.States.{State}
-use Rattle.pool.proofs.Seen.{Seen, survey-long, seen, seen-figures}
+use Rattle.pool_state.specs.States.{State}
+use Rattle.pool_state.proofs.Seen.{Seen, survey-long, seen, seen-figures}
 use Rattle.listing.proofs.Calls.{seat-damaged, seat-noset, seat-family, seat-sits}
 use Rattle.listing.proofs.seats.seat_of.Statement.{statement}
 use Rattle.listing.proofs.seats.seat_of.Tie as tie

@@ -2,7 +2,7 @@
 use denote.Ref.{now}
 use native.Mathlib.Omega.{arith}
 use borrow.Author.Needs.{needs}
-use Rattle.pool.proofs.Header.{IsHeader, isHeader-header, header-room}
+use Rattle.pool_state.proofs.Header.{IsHeader, isHeader-header, header-room}
 use Rattle.lookup.proofs.Asked.{prefix-few, query-family, query-refused, query-walk}
 use Rattle.lookup.proofs.walking.query.Statement.{statement}
 use Rattle.lookup.proofs.walking.query.Tie as tie

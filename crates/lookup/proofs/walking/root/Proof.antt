@@ -5,8 +5,8 @@ use mathlib.Core.Path.{_≡_, sym, _∙_}
 use native.Mathlib.Omega.{arith}
 use borrow.Author.Needs.{needs}
 use borrow.Author.Tests.{not-true, not-false}
-use Rattle.pool.specs.Decode.{isHeader}
-use Rattle.pool.proofs.Header.{isHeader-header}
+use Rattle.pool_state.specs.Decode.{isHeader}
+use Rattle.pool_state.proofs.Header.{isHeader-header}
 use Rattle.lookup.proofs.Asked.{onRoot-damaged, onRoot-none, onRoot-at}
 use Rattle.lookup.proofs.walking.root.Statement.{statement}
 use Rattle.lookup.proofs.walking.root.Tie as tie

@@ -3,7 +3,7 @@ use denote.Ref.{now}
 use native.Mathlib.Omega.{arith}
 use mathlib.Core.Bool.{false≢true}
 use borrow.Author.Needs.{needs}
-use Rattle.pool.specs.States.{State}
+use Rattle.pool_state.specs.States.{State}
 use Rattle.listing.specs.Seats.{Sits}
 use Rattle.listing.proofs.Calls.{list-few}
 use Rattle.netrows.proofs.Begun.{begins-refused, begins-short, begins-granted}

@@ -1,7 +1,7 @@
 -- `laying::clear` meets its contract. The loop's invariant: the zeros to come complete it. Assumes nothing.
 use Prim.Native.Nat.{_-_}
 use borrow.Author.Needs.{needs}
-use Rattle.pool.proofs.Setups.{Clearing, clear-start, clear-turn, clear-end}
+use Rattle.pool_state.proofs.Setups.{Clearing, clear-start, clear-turn, clear-end}
 use Rattle.pool.proofs.laying.clear.Statement.{statement}
 use Rattle.pool.proofs.laying.clear.Tie as tie
 

@@ -2,7 +2,7 @@
 use native.Mathlib.Omega.{arith}
 use lib.ListN.{length-set}
 use borrow.Author.Needs.{needs}
-use Rattle.pool.proofs.Setups.{set-header}
+use Rattle.pool_state.proofs.Setups.{set-header}
 use Rattle.pool.proofs.laying.header.Statement.{statement}
 use Rattle.pool.proofs.laying.header.Tie as tie
 

@@ -4,9 +4,9 @@ use mathlib.Core.Logic.{⊎-elim}
 use mathlib.Core.Path.{_≡_, _∙_}
 use lib.Dec.{leb}
 use borrow.Author.Needs.{needs}
-use Rattle.pool.specs.States.{isFamily, isSize}
-use Rattle.pool.specs.Decode.{leastWords}
-use Rattle.pool.specs.Rules.{isSetup}
+use Rattle.pool_state.specs.States.{isFamily, isSize}
+use Rattle.pool_state.specs.Decode.{leastWords}
+use Rattle.pool_state.specs.Rules.{isSetup}
 use Rattle.pool.proofs.laying.is_setup.Statement.{statement}
 use Rattle.pool.proofs.laying.is_setup.Tie as tie
 

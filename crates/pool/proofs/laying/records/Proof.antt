@@ -3,7 +3,7 @@ use Prim.Native.Nat.{_-_}
 use lib.ListN.{length, length-set}
 use native.Mathlib.Omega.{arith}
 use borrow.Author.Needs.{needs}
-use Rattle.pool.proofs.Setups.{Recording, records-start, records-turn, records-end}
+use Rattle.pool_state.proofs.Setups.{Recording, records-start, records-turn, records-end}
 use Rattle.pool.proofs.laying.records.Statement.{statement}
 use Rattle.pool.proofs.laying.records.Tie as tie
 

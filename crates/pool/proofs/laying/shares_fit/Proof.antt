@@ -1,7 +1,7 @@
 -- `laying::shares_fit` meets its contract. The loop's invariant: the answer is that for the shares to come and the nodes that are left. Assumes nothing.
 use Prim.Native.Nat.{_-_}
 use borrow.Author.Needs.{needs}
-use Rattle.pool.proofs.Setups.{Sharing, sharesFit-no-share, sharesFit-no-limit, sharesFit-start, sharesFit-over, sharesFit-past, sharesFit-turn, sharesFit-end}
+use Rattle.pool_state.proofs.Setups.{Sharing, sharesFit-no-share, sharesFit-no-limit, sharesFit-start, sharesFit-over, sharesFit-past, sharesFit-turn, sharesFit-end}
 use Rattle.pool.proofs.laying.shares_fit.Statement.{statement}
 use Rattle.pool.proofs.laying.shares_fit.Tie as tie
 

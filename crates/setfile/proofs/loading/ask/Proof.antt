@@ -4,7 +4,7 @@ use mathlib.Core.Path.{_≡_}
 use native.Mathlib.Omega.{arith}
 use borrow.Author.Needs.{needs}
 use borrow.Author.Tests.{not-true, not-false}
-use Rattle.pool.proofs.Seen.{survey-long}
+use Rattle.pool_state.proofs.Seen.{survey-long}
 use Rattle.setfile.proofs.Loads.{ask-damaged, ask-noset, ask-broken, ask-family, ask-occupied, ask-go}
 use Rattle.setfile.proofs.loading.ask.Statement.{statement}
 use Rattle.setfile.proofs.loading.ask.Tie as tie

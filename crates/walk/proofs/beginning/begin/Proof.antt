@@ -1,7 +1,7 @@
 -- `beginning::begin` meets its contract, each return by the tests on the way to it. Assumes nothing.
 use denote.Ref.{now}
 use borrow.Author.Needs.{needs}
-use Rattle.pool.specs.States.{State}
+use Rattle.pool_state.specs.States.{State}
 use Rattle.listing.specs.Seats.{Sits}
 use Rattle.walk.proofs.Steps.{begins-refused, begins-at}
 use Rattle.walk.proofs.beginning.begin.Statement.{statement}

@@ -47,10 +47,10 @@ use denote.Triple.Table.{entered, cited}
 use denote.Triple.Clauses.{ensured, lasts}
 use denote.Triple.Walked.{says, Stays, stay-none, stay-none-slice, walkOf, goes-none, goes-none-slice, Walks, ends-at, walked, walk-meets}
 use denote.Exit.{yes}
-use Rattle.pool.specs.Decode.{decode}
-use Rattle.going.specs.declared.spots.Spot.{Spot}
-use Rattle.going.proofs.spots.Spot as O
-use Rattle.going.proofs.spots.Spot.Laws as O′
+use Rattle.pool_state.specs.Decode.{decode}
+use Rattle.trie_next.specs.declared.spots.Spot.{Spot}
+use Rattle.trie_next.proofs.spots.Spot as O
+use Rattle.trie_next.proofs.spots.Spot.Laws as O′
 use Rattle.walk.specs.Walks.{walkNo, walkFrom, walkOn, Walking}
 use Rattle.walk.specs.Places.{stageIn, firstTurn, turnAfter}
 use Rattle.walk.specs.declared.beginning.Stage.{Stage}

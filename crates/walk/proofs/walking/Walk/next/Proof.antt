@@ -44,14 +44,14 @@ use denote.Triple.Spec.{Meets, tripleOf}
 use denote.Triple.Table.{entered, cited}
 use denote.Triple.Walked.{says, needs, Stays, stay-ref, walkOf, goes-ref, Walks, ends-at, walked, walk-meets}
 use denote.Triple.Clauses.{ensured, lasts}
-use Rattle.going.specs.Spots.{Goes}
-use Rattle.going.specs.declared.spots.Spot.{Spot}
-use Rattle.going.proofs.spots.Spot as O
-use Rattle.going.proofs.spots.Spot.Laws as O′
-use Rattle.going.proofs.spots.go_on as go-on
-use Rattle.going.proofs.spots.go_on.Symbol as go-on-def
-use Rattle.going.proofs.spots.go_on.Symbol.{name as #go-on}
-use Rattle.going.proofs.spots.go_on.Met as go-on-thm
+use Rattle.trie_next.specs.Spots.{Goes}
+use Rattle.trie_next.specs.declared.spots.Spot.{Spot}
+use Rattle.trie_next.proofs.spots.Spot as O
+use Rattle.trie_next.proofs.spots.Spot.Laws as O′
+use Rattle.trie_next.proofs.spots.go_on as go-on
+use Rattle.trie_next.proofs.spots.go_on.Symbol as go-on-def
+use Rattle.trie_next.proofs.spots.go_on.Symbol.{name as #go-on}
+use Rattle.trie_next.proofs.spots.go_on.Met as go-on-thm
 use Rattle.walk.specs.Walks.{walkOn, Walking}
 use Rattle.walk.specs.declared.walking.Walk.{Walk}
 use Rattle.walk.proofs.Steps.{words, Told, goes, stepped}

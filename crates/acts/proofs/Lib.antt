@@ -1,2 +1,0 @@
--- The law of layout.
-pub mod Laying

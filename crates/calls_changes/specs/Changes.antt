@@ -1,0 +1,50 @@
+-- What the calls that change the pool answer and leave. w are the pool's words, s the bytes of the call, c its fixed part.
+--
+--   changeOf w c        the calls that change a set: 8 to 13
+--   layoutOf w c s, writeOf w c s     layout, 1, and words written over the pool's, 48
+use mathlib.Core.Bool.{cond}
+use mathlib.Core.List.{List}
+use Prim.Native.Nat.{ℕ, _+_, _*_, _/_, _%_}
+use lib.Dec.{eqb}
+use Rattle.nets.specs.Bits.{Bits}
+use Rattle.nets.specs.Lists.{mergeL, intersectL, excludeL}
+use Rattle.nodes.specs.Words.{put}
+use Rattle.pool_state.specs.Rules.{layoutNo, laid}
+use Rattle.pool_state.specs.Changes.{listAt, netNo}
+use Rattle.change.specs.Calls.{listWith, listWithout}
+use Rattle.change.specs.Simplified.{listSimple, noArgs}
+use Rattle.combine.specs.Rules.{combineNo}
+use Rattle.calls_bytes.specs.Tails.{numbersFrom}
+use Rattle.calls_bytes.specs.declared.Call.{Call}
+use Rattle.calls_bytes.specs.declared.Reply.{Reply}
+use Rattle.calls_replies.specs.Replies.{noReply, changed}
+
+-- the list that a call makes of sets b and c goes to set a
+abbrev pub combined : (List Bits → List Bits → List Bits) → List ℕ → Call → Reply × List ℕ
+combined L w c = changed w (c .a) (combineNo (c .a) (c .b) (c .c)) (λ S. L (listAt S (c .b)) (listAt S (c .c)))
+
+unfoldable pub changeOf : List ℕ → Call → Reply × List ℕ
+changeOf w c =
+    cond (eqb (c .code) 8) (changed w (c .a) (netNo (c .net)) (listWith (c .a) (c .net)))
+    (cond (eqb (c .code) 9) (changed w (c .a) (netNo (c .net)) (listWithout (c .a) (c .net)))
+    (cond (eqb (c .code) 10) (changed w (c .a) noArgs (listSimple (c .a)))
+    (cond (eqb (c .code) 11) (combined mergeL w c)
+    (cond (eqb (c .code) 12) (combined intersectL w c)
+    (combined excludeL w c)))))
+
+-- the shares and the limits that stand in the tail
+abbrev pub sharesOf : Call → List ℕ → List ℕ
+sharesOf c s = numbersFrom s 35 (c .net .len)
+
+abbrev pub limitsOf : Call → List ℕ → List ℕ
+limitsOf c s = numbersFrom s (35 + 4 * c .net .len) (c .c % 256)
+
+-- the answer of layout, and the words that it leaves
+abbrev pub laidBy : List ℕ → ℕ → ℕ → ℕ → List ℕ → List ℕ → Reply × List ℕ
+laidBy w f n m xs ys = (noReply (layoutNo w f n m xs ys), cond (eqb (layoutNo w f n m xs ys) 0) (laid w f n m xs ys) w)
+
+unfoldable pub layoutOf : List ℕ → Call → List ℕ → Reply × List ℕ
+layoutOf w c s = laidBy w (c .net .family) (c .a) (c .b) (sharesOf c s) (limitsOf c s)
+
+unfoldable pub writeOf : List ℕ → Call → List ℕ → Reply × List ℕ
+writeOf w c s = (noReply 0, put w (c .a) (numbersFrom s 35 (c .tail / 4)))

@@ -1,0 +1,62 @@
+-- The answers of the calls as records of bytes: the number first, and zeros where nothing is answered.
+--
+--   noReply k, oneReply, twoReply, flagReply, netReply, foundReply, bitsReply     a number of the table with no value, one number, two, a flag, a network, one that
+--                                                                                 may be missing, what a bit iterator has left
+--   bitReply            the step of the bit iterator
+--   toldReply           the answers by a flag;  entryReply: one number, and an entry of a page
+--   changed w k a f     a changing call on set k: its answer, and the words that it leaves
+use mathlib.Core.Bool.{Bool, true, false, cond}
+use mathlib.Core.List.{List}
+use Prim.Native.Nat.{ℕ}
+use Rattle.nets.specs.Bits.{Bits}
+use Rattle.nets.specs.Networks.{netWords, noNet}
+use Rattle.nets.specs.declared.Net.{Net}
+use Rattle.nets.specs.declared.PrefixBits.{PrefixBits}
+use Rattle.nets.specs.declared.NextBit.{NextBit}
+use Rattle.nets.specs.declared.NextBit.the-variants.{Bit, End}
+use Rattle.pool_state.specs.States.{State}
+use Rattle.pool_state.specs.Decode.{decode}
+use Rattle.pool_state.specs.Rules.{toldAs}
+use Rattle.pool_state.specs.Changes.{changeRule, wordsAfter}
+use Rattle.pool_state.specs.declared.Told.{Told}
+use Rattle.calls_bytes.specs.declared.Reply.{Reply}
+
+abbrev pub reply : ℕ → Bool → ℕ → ℕ → Net → Reply
+reply k flag x y net = record { no = k; flag = flag; x = x; y = y; net = net }
+
+abbrev pub noReply : ℕ → Reply
+noReply k = reply k false 0 0 noNet
+
+abbrev pub oneReply : ℕ × ℕ → Reply
+oneReply a = reply (a .0) false (a .1) 0 noNet
+
+abbrev pub twoReply : ℕ × (ℕ × ℕ) → Reply
+twoReply a = reply (a .0) false (a .1 .0) (a .1 .1) noNet
+
+abbrev pub flagReply : ℕ × Bool → Reply
+flagReply a = reply (a .0) (a .1) 0 0 noNet
+
+abbrev pub netReply : ℕ × Net → Reply
+netReply a = reply (a .0) false 0 0 (a .1)
+
+abbrev pub foundReply : ℕ × (Bool × Net) → Reply
+foundReply a = reply (a .0) (a .1 .0) 0 0 (a .1 .1)
+
+abbrev pub entryReply : ℕ × ℕ → Net → Reply
+entryReply a n = reply (a .0) false (a .1) 0 n
+
+abbrev pub leftNet : PrefixBits → Net
+leftNet s = netWords 0 (s .hi) (s .lo) (s .len)
+
+abbrev pub bitsReply : ℕ × PrefixBits → Reply
+bitsReply a = reply (a .0) false 0 0 (leftNet (a .1))
+
+abbrev pub bitReply : NextBit → Reply
+bitReply End = noReply 0
+bitReply (Bit b s) = reply 0 true (cond b 1 0) 0 (leftNet s)
+
+abbrev pub toldReply : Told → Reply
+toldReply t = flagReply (toldAs t)
+
+unfoldable pub changed : List ℕ → ℕ → (State → ℕ) → (State → List Bits) → Reply × List ℕ
+changed w k a f = (oneReply (changeRule (decode w) k a f), wordsAfter w (decode w) k a f)

@@ -1,0 +1,226 @@
+// The answers of the calls as the records of docs/CALLS.md: a refusal has its number, and zeros elsewhere.
+ghost use mathlib.Core.Bool.{true, cond};
+ghost use mathlib.Core.Path.{_≡_};
+ghost use Rattle.nets.specs.Networks.{takenAs, prefixAs};
+ghost use Rattle.nets.specs.Refusals.{number};
+ghost use Rattle.pool_state.specs.Rules.{answerAs, reportAs};
+ghost use Rattle.lookup.specs.Rules.{supernetAs};
+ghost use Rattle.listing.specs.Calls.{followerAs};
+ghost use Rattle.text.specs.Answers.{writtenAs};
+ghost use Rattle.calls_replies.specs.Replies.{noReply, oneReply, twoReply, flagReply, netReply, foundReply, leftNet, bitsReply, bitReply, toldReply, entryReply};
+use calls_bytes::Reply;
+use listing::Follower;
+use lookup::Covering;
+use nets::Net;
+use nets::NextBit;
+use nets::Prefix;
+use nets::PrefixBits;
+use nets::Refusal;
+use nets::Taken;
+use pool_state::Answer;
+use pool_state::Report;
+use pool_state::Told;
+use text::Written;
+
+const NO_NET: Net = Net {
+    family: 0,
+    hi: 0,
+    lo: 0,
+    len: 0,
+};
+
+// Nothing but a number.
+pub fn only(no: u8) -> Reply
+    ensures { λ r. ⌜ r ≡ noReply no ⌝ }
+{
+    Reply {
+        no,
+        flag: false,
+        x: 0,
+        y: 0,
+        net: NO_NET,
+    }
+}
+
+fn refused(no: Refusal) -> Reply
+    ensures { λ r. ⌜ r ≡ noReply (number no) ⌝ }
+{
+    only(no.number())
+}
+
+fn of_flag(flag: bool) -> Reply
+    ensures { λ r. ⌜ r ≡ flagReply (0, flag) ⌝ }
+{
+    Reply {
+        no: 0,
+        flag,
+        x: 0,
+        y: 0,
+        net: NO_NET,
+    }
+}
+
+// Two numbers.
+pub fn of_numbers(no: u8, x: u32, y: u32) -> Reply
+    ensures { λ r. ⌜ r ≡ twoReply (no, (x, y)) ⌝ }
+{
+    Reply {
+        no,
+        flag: false,
+        x,
+        y,
+        net: NO_NET,
+    }
+}
+
+// A network that cannot be refused.
+pub fn of_net(net: Net) -> Reply
+    ensures { λ r. ⌜ r ≡ netReply (0, net) ⌝ }
+{
+    Reply {
+        no: 0,
+        flag: false,
+        x: 0,
+        y: 0,
+        net,
+    }
+}
+
+fn of_member(net: Net) -> Reply
+    ensures { λ r. ⌜ r ≡ foundReply (0, (true, net)) ⌝ }
+{
+    Reply {
+        no: 0,
+        flag: true,
+        x: 0,
+        y: 0,
+        net,
+    }
+}
+
+// The network that holds what the bit iterator has left.
+fn of_left(left: PrefixBits) -> Net
+    ensures { λ r. ⌜ r ≡ leftNet left ⌝ }
+{
+    Net {
+        family: 0,
+        hi: left.hi,
+        lo: left.lo,
+        len: left.len,
+    }
+}
+
+pub fn of_answer(a: Answer) -> Reply
+    ensures { λ r. ⌜ r ≡ oneReply (answerAs a) ⌝ }
+{
+    match a {
+        Answer::Granted(x) => of_numbers(0, x, 0),
+        Answer::Refused(no) => refused(no),
+    }
+}
+
+// An entry of a page beside the answer.
+pub fn of_entry(a: Answer, net: Net) -> Reply
+    ensures { λ r. ⌜ r ≡ entryReply (answerAs a) net ⌝ }
+{
+    let r = of_answer(a);
+    Reply {
+        no: r.no,
+        flag: false,
+        x: r.x,
+        y: 0,
+        net,
+    }
+}
+
+pub fn of_report(a: Report) -> Reply
+    ensures { λ r. ⌜ r ≡ twoReply (reportAs a) ⌝ }
+{
+    match a {
+        Report::Numbers(x, y) => of_numbers(0, x, y),
+        Report::Refused(no) => refused(no),
+    }
+}
+
+pub fn of_told(a: Told) -> Reply
+    ensures { λ r. ⌜ r ≡ toldReply a ⌝ }
+{
+    match a {
+        Told::Is(flag) => of_flag(flag),
+        Told::Refused(no) => refused(no),
+    }
+}
+
+pub fn of_covering(a: Covering) -> Reply
+    ensures { λ r. ⌜ r ≡ foundReply (supernetAs a) ⌝ }
+{
+    match a {
+        Covering::Member(net) => of_member(net),
+        Covering::Nothing => only(0),
+        Covering::Refused(no) => refused(no),
+    }
+}
+
+pub fn of_follower(a: Follower) -> Reply
+    ensures { λ r. ⌜ r ≡ foundReply (followerAs a) ⌝ }
+{
+    match a {
+        Follower::Network(net) => of_member(net),
+        Follower::End => only(0),
+        Follower::Refused(no) => refused(no),
+    }
+}
+
+pub fn of_written(a: Written) -> Reply
+    ensures { λ r. ⌜ r ≡ oneReply (writtenAs a) ⌝ }
+{
+    match a {
+        Written::Bytes(x) => of_numbers(0, x, 0),
+        Written::Refused(no) => refused(no),
+    }
+}
+
+pub fn of_taken(a: Taken) -> Reply
+    ensures { λ r. ⌜ r ≡ netReply (takenAs a) ⌝ }
+{
+    match a {
+        Taken::Network(net) => of_net(net),
+        Taken::Refused(no) => refused(no),
+    }
+}
+
+pub fn of_prefix(a: Prefix) -> Reply
+    ensures { λ r. ⌜ r ≡ bitsReply (prefixAs a) ⌝ }
+{
+    match a {
+        Prefix::Bits(left) => of_net(of_left(left)),
+        Prefix::Refused(no) => refused(no),
+    }
+}
+
+fn one_if(bit: bool) -> u32
+    ensures { λ r. ⌜ r ≡ cond bit 1 0 ⌝ }
+{
+    if bit { 1 } else { 0 }
+}
+
+fn of_step(bit: bool, left: PrefixBits) -> Reply
+    ensures { λ r. ⌜ r ≡ bitReply (NextBit.Bit bit left) ⌝ }
+{
+    Reply {
+        no: 0,
+        flag: true,
+        x: one_if(bit),
+        y: 0,
+        net: of_left(left),
+    }
+}
+
+pub fn of_bit(a: NextBit) -> Reply
+    ensures { λ r. ⌜ r ≡ bitReply a ⌝ }
+{
+    match a {
+        NextBit::Bit(bit, left) => of_step(bit, left),
+        NextBit::End => only(0),
+    }
+}

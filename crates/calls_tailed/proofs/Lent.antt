@@ -1,0 +1,154 @@
+-- What is lent to a call whose answer has a tail: rows or bytes that are all the same, which come back as the call leaves them. What is written over a place and then over the
+-- same place again is as if it were written once.
+use mathlib.Core.Bool.{Bool, true, false, cond}
+use mathlib.Core.List.{List, [], _∷_, _++_}
+use mathlib.Core.Path.{_≡_, refl, sym, ap, _∙_}
+use Prim.Native.Nat.{ℕ, zero, suc, _+_, _%_, _≤_}
+use native.Mathlib.Numerals.{add-one}
+use native.Mathlib.Omega.{arith}
+use lib.Dec.{eqb, leb}
+use lib.ListN.{length, getD, take, drop, replicate, length-replicate, length-append, length-drop}
+use lib.Seq.{drop-cons}
+use borrow.Author.Tests.{eqb-true, leb-true}
+use Rattle.nets.specs.Networks.{inRange}
+use Rattle.nets.specs.declared.Net.{Net}
+use Rattle.nodes.specs.Words.{put}
+use Rattle.nodes.proofs.Put.{length-put}
+use Rattle.pool_state.specs.Decode.{Decoded, damaged, sound, decode}
+use Rattle.pool_state.specs.Rules.{answerAs}
+use Rattle.pool_state.specs.declared.Answer.{Answer}
+use Rattle.pool_state.specs.Changes.{listAt}
+use Rattle.trie_paths.specs.Rows as listing
+use Rattle.listing.specs.Calls.{listNo, rowsAfter, Listed}
+use Rattle.setfile.specs.Calls.{fileAt, saveNo, bytesAfter, Saved}
+use Rattle.text.specs.Ipv4.{lineOf}
+use Rattle.text.specs.Answers.{writtenAs, lineRefusal, over, Wrote}
+use Rattle.text.specs.declared.Written.{Written}
+use Rattle.calls_bytes.specs.Bytes.{u64Bytes}
+use Rattle.calls_bytes.specs.Tails.{wordsFrom, rowBytes}
+use Rattle.calls_bytes.specs.declared.Call.{Call}
+use Rattle.calls_bytes.specs.declared.Reply.{Reply}
+use Rattle.calls_bytes.proofs.Rows.{take-put}
+use Rattle.calls_replies.specs.Replies.{oneReply}
+use Rattle.calls_tailed.specs.Tailed.{rowsOf, listReply, lentBytes, lineBytes, lineReply, saveBytes, saveReply, Listing, Lining, Saving}
+
+pub put-over : (w : List ℕ) (p : ℕ) (xs ys : List ℕ) → length xs ≡ length ys → put (put w p xs) p ys ≡ put w p ys
+unfolding put
+put-over [] p xs ys e = refl
+put-over (z ∷ w) (suc p) xs ys e = rw (put-over w p xs ys e)
+put-over (z ∷ w) zero [] [] e = refl
+put-over (z ∷ w) zero [] (y ∷ ys) e = absurd (omega arith)
+put-over (z ∷ w) zero (x ∷ xs) [] e = absurd (omega arith)
+put-over (z ∷ w) zero (x ∷ xs) (y ∷ ys) e = rw (put-over w zero xs ys (omega arith))
+
+-- a part that was lent and comes back is a write over its place
+pub splice : (w : List ℕ) (p k : ℕ) (ys : List ℕ) → length ys ≡ k → p + k ≤ length w → take p w ++ (ys ++ drop k (drop p w)) ≡ put w p ys
+unfolding put
+splice [] zero zero [] e h = refl
+splice [] zero zero (y ∷ ys) e h = absurd (omega arith)
+splice [] zero (suc k) ys e h = absurd (omega arith)
+splice [] (suc p) k ys e h = absurd (omega arith)
+splice (z ∷ w) (suc p) k ys e h = rw (splice w p k ys e (omega arith))
+splice (z ∷ w) zero zero [] e h = refl
+splice (z ∷ w) zero zero (y ∷ ys) e h = absurd (omega arith)
+splice (z ∷ w) zero (suc k) [] e h = absurd (omega arith)
+splice (z ∷ w) zero (suc k) (y ∷ ys) e h = rw (splice w zero k ys (omega arith) (omega arith))
+
+-- what stands at a place that was written
+pub part-put : (w : List ℕ) (p k : ℕ) (xs : List ℕ) → length xs ≡ k → p + k ≤ length w → take k (drop p (put w p xs)) ≡ xs
+unfolding put
+part-put w zero k xs e h = take-put w xs k e (omega arith)
+part-put [] (suc p) k xs e h = absurd (omega arith)
+part-put (z ∷ w) (suc p) k xs e h = part-put w p k xs e (omega arith)
+
+pub wordsFrom-take : (w : List ℕ) (p n : ℕ) → p + n ≤ length w → wordsFrom w p n ≡ take n (drop p w)
+unfolding wordsFrom
+wordsFrom-take w p zero h = refl
+wordsFrom-take w p (suc n) h =
+    rw (drop-cons w p 0 (omega arith)) (ap (λ (l : List ℕ). getD w p 0 ∷ l) (wordsFrom-take w (p + 1) n (omega arith) ∙ rw add-one))
+
+length-either : (t : Bool) (v xs : List ℕ) → length (cond t (put v 0 xs) v) ≡ length v
+length-either true v xs = length-put v 0 xs
+length-either false v xs = refl
+
+length-rowsAfter : (v : List ℕ) (d : Decoded) (k : ℕ) → length (rowsAfter v d k) ≡ length v
+unfolding rowsAfter
+length-rowsAfter v damaged k = refl
+length-rowsAfter v (sound S) k = length-either (eqb (listNo S k (length v)) 0) v (listing.rowsOf (S .family) (listAt S k))
+
+-- the rows of a list
+module _ (w v : List ℕ) (c : Call) (o : List ℕ) (at : ℕ) (fits : c .b ≤ length v) where
+  pub listing-is : {v₁ u o′ : List ℕ} {a : Answer} {r : Reply} → v₁ ≡ put v 0 (replicate (c .b) (c .c)) → Listed w (c .a) (take (c .b) v₁) a u
+      → o′ ≡ put o at (rowBytes u64Bytes (wordsFrom (u ++ drop (c .b) v₁) 0 (c .b))) → r ≡ oneReply (answerAs a) → Listing w v c o at r (u ++ drop (c .b) v₁) o′
+  unfolding rowsOf listReply
+  listing-is {v₁} {u} e l f g =
+      let n : length (replicate (c .b) (c .c)) ≡ c .b = length-replicate (c .b) (c .c) in
+      let t : take (c .b) v₁ ≡ replicate (c .b) (c .c) = rw e (take-put v (replicate (c .b) (c .c)) (c .b) n fits) in
+      let x : u ≡ rowsAfter (replicate (c .b) (c .c)) (decode w) (c .a) = rw t at (l .rows) in
+      let m : length u ≡ c .b = rw x (length-rowsAfter (replicate (c .b) (c .c)) (decode w) (c .a) ∙ n) in
+      let k : length v₁ ≡ length v = rw e (length-put v 0 (replicate (c .b) (c .c))) in
+      let s : u ++ drop (c .b) v₁ ≡ put v₁ 0 u = splice v₁ 0 (c .b) u m (omega arith) in
+      let z : put v₁ 0 u ≡ put v 0 u = rw e (put-over v 0 (replicate (c .b) (c .c)) u (n ∙ sym m)) in
+      let y : wordsFrom (u ++ drop (c .b) v₁) 0 (c .b) ≡ u =
+      rw s (wordsFrom-take (put v₁ 0 u) 0 (c .b) (rw (length-put v₁ 0 u) (omega arith)) ∙ take-put v₁ u (c .b) m (omega arith)) in
+      record { reply = g ∙ ap oneReply (l .answer ∙ rw (t, n)); rows = s ∙ (z ∙ ap (put v 0) x); tail = f ∙ ap (λ q. put o at (rowBytes u64Bytes q)) (y ∙ x) }
+
+-- bytes that are filled, k of them lent, and come back as new
+module _ (c : Call) (o o₁ : List ℕ) (at k : ℕ) (fits : at + c .b ≤ length o) (all : k ≡ c .b) (filled : o₁ ≡ put o at (lentBytes c)) where
+  length-lent : length (lentBytes c) ≡ c .b
+  length-lent = length-replicate (c .b) (c .c % 256)
+
+  lent-is : take k (drop at o₁) ≡ lentBytes c
+  lent-is = rw (filled, all) (part-put o at (c .b) (lentBytes c) length-lent fits)
+
+  back-is : (new : List ℕ) → length new ≡ length (take k (drop at o₁)) → take at o₁ ++ (new ++ drop k (drop at o₁)) ≡ put o at new
+  back-is new m =
+      let l : length new ≡ k = m ∙ (ap length lent-is ∙ (length-lent ∙ sym all)) in
+      let j : length o₁ ≡ length o = rw filled (length-put o at (lentBytes c)) in
+      splice o₁ at k new l (omega arith) ∙ rw filled (put-over o at (lentBytes c) new (length-lent ∙ (sym all ∙ sym l)))
+
+  pub lining-is : {new : List ℕ} {a : Written} {r : Reply} → length new ≡ length (take k (drop at o₁)) → Wrote (c .net) (take k (drop at o₁)) new a → r ≡ oneReply (writtenAs a)
+      → Lining c o at r (take at o₁ ++ (new ++ drop k (drop at o₁)))
+  unfolding lineBytes lineReply
+  lining-is {new} m w g =
+      record { reply = g ∙ ap oneReply (w .answer ∙ rw (lent-is, length-lent)); tail = back-is new m ∙ ap (put o at) (w .bytes ∙ rw (lent-is, length-lent)) }
+
+  pub saving-is : {w new : List ℕ} {a : Answer} {r : Reply} → length new ≡ length (take k (drop at o₁)) → Saved w (c .a) (take k (drop at o₁)) a new → r ≡ oneReply (answerAs a)
+      → Saving w c o at r (take at o₁ ++ (new ++ drop k (drop at o₁)))
+  unfolding saveBytes saveReply
+  saving-is {new = new} m s g =
+      record { reply = g ∙ ap oneReply (s .answer ∙ rw (lent-is, length-lent)); tail = back-is new m ∙ ap (put o at) (s .bytes ∙ rw lent-is) }
+
+-- a tail has as many numbers or bytes as the call asks for
+pub length-rowsOf : (w : List ℕ) (c : Call) → length (rowsOf w c) ≡ c .b
+unfolding rowsOf
+length-rowsOf w c = length-rowsAfter (replicate (c .b) (c .c)) (decode w) (c .a) ∙ length-replicate (c .b) (c .c)
+
+fits-of : (p q r : Bool) → _≡_ {A = ℕ} (cond p (cond q (cond r 0 11) 7) 6) 0 → r ≡ true
+fits-of false q r e = absurd (omega arith)
+fits-of true false r e = absurd (omega arith)
+fits-of true true false e = absurd (omega arith)
+fits-of true true true e = refl
+
+line-fits : (n : Net) (room : ℕ) → lineRefusal n room ≡ 0 → length (lineOf n) ≤ room
+unfolding lineRefusal
+line-fits n room e = leb-true _ _ (fits-of (eqb (n .family) 4) (inRange n) (leb (length (lineOf n)) room) e)
+
+length-line : (t : Bool) (s old : List ℕ) → (t ≡ true → length s ≤ length old) → length (cond t (over s old) old) ≡ length old
+length-line false s old h = refl
+length-line true s old h = let i = h refl in simp (length-append, length-drop) (omega arith)
+
+length-bytesAfter : (v : List ℕ) (d : Decoded) (k : ℕ) → length (bytesAfter v d k) ≡ length v
+unfolding bytesAfter
+length-bytesAfter v damaged k = refl
+length-bytesAfter v (sound S) k = length-either (eqb (saveNo S k (length v)) 0) v (fileAt S k)
+
+pub length-saveBytes : (w : List ℕ) (c : Call) → length (saveBytes w c) ≡ c .b
+unfolding saveBytes
+length-saveBytes w c = length-bytesAfter (lentBytes c) (decode w) (c .a) ∙ length-replicate (c .b) (c .c % 256)
+
+pub length-lineBytes : (c : Call) → length (lineBytes c) ≡ c .b
+unfolding lineBytes
+length-lineBytes c =
+    let n : length (replicate (c .b) (c .c % 256)) ≡ c .b = length-replicate (c .b) (c .c % 256) in
+    length-line (eqb (lineRefusal (c .net) (c .b)) 0) (lineOf (c .net)) (replicate (c .b) (c .c % 256)) (λ e. rw n (line-fits (c .net) (c .b) (eqb-true _ _ e))) ∙ n

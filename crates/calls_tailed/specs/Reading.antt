@@ -1,0 +1,39 @@
+-- The calls that read a set from their tail: load, 20, and lines, 21. Each gives the answer, and the words afterwards.
+--
+--   loadOf w c s       the file is the tail
+--   piecesOf c s       the lines come in two pieces: the first b bytes of the tail, and the rest
+--   readerReply r      where the reading is when it has ended: the refusal, the number of the line, how many bytes of it are kept
+--   linesOf w c s      start, feed with each piece, finish
+--   Cut s b p          p cuts the tail of s into these pieces
+use mathlib.Core.List.{List, [], _∷_}
+use mathlib.Core.Path.{_≡_}
+use Prim.Native.Nat.{ℕ, _-_, _%_, _≤_}
+use lib.ListN.{length, take, drop}
+use Rattle.setfile_format.specs.Files.{readFile}
+use Rattle.setfile.specs.Loading.{loadNo, fileList}
+use Rattle.lines.specs.Reading.{allRead}
+use Rattle.lines.specs.declared.Reader.{Reader}
+use Rattle.calls_bytes.specs.declared.Call.{Call}
+use Rattle.calls_bytes.specs.declared.Reply.{Reply}
+use Rattle.calls_replies.specs.Replies.{twoReply, changed}
+
+abbrev pub tailOf : List ℕ → List ℕ
+tailOf s = drop 35 s
+
+unfoldable pub loadOf : List ℕ → Call → List ℕ → Reply × List ℕ
+loadOf w c s = let x = readFile (tailOf s) in changed w (c .a) (loadNo x (c .a)) (λ S. fileList x)
+
+abbrev pub piecesOf : Call → List ℕ → List (List ℕ)
+piecesOf c s = take (c .b) (tailOf s) ∷ drop (c .b) (tailOf s) ∷ []
+
+abbrev pub readerReply : Reader → Reply
+readerReply r = twoReply (r .no, (r .number % 4294967296, r .len))
+
+unfoldable pub linesOf : List ℕ → Call → List ℕ → Reply × List ℕ
+linesOf w c s = let x = allRead w (piecesOf c s) in (readerReply (x .0), x .1)
+
+pub record Cut (s : List ℕ) (b p : ℕ) : Type 0 where
+  pub low : 35 ≤ p
+  pub high : p ≤ length s
+  pub first : take (p - 35) (drop 35 s) ≡ take b (tailOf s)
+  pub rest : drop p s ≡ drop b (tailOf s)

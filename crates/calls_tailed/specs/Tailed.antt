@@ -1,0 +1,57 @@
+-- The calls whose answers have a tail: list, 15, write_line, 18, and save, 19. Words read, 49, need no definition of their own.
+--
+--   rowsOf w c, lineBytes c, saveBytes w c     the lent rows, or bytes, as the call leaves them; listReply, lineReply, saveReply: its answer
+--   Listing, Lining, Saving                    what the functions leave: the answer, and the tail at its place
+use mathlib.Core.Bool.{cond}
+use mathlib.Core.List.{List}
+use mathlib.Core.Path.{_≡_}
+use Prim.Native.Nat.{ℕ, _%_}
+use lib.Dec.{eqb}
+use lib.ListN.{length, replicate}
+use Rattle.nets.specs.Refusals.{answered}
+use Rattle.nodes.specs.Words.{put}
+use Rattle.pool_state.specs.Decode.{decode}
+use Rattle.listing.specs.Calls.{listRule, rowsAfter}
+use Rattle.setfile.specs.Calls.{saveRule, bytesAfter}
+use Rattle.text.specs.Ipv4.{lineOf}
+use Rattle.text.specs.Answers.{lineRefusal, over}
+use Rattle.calls_bytes.specs.Bytes.{u64Bytes}
+use Rattle.calls_bytes.specs.Tails.{rowBytes}
+use Rattle.calls_bytes.specs.declared.Call.{Call}
+use Rattle.calls_bytes.specs.declared.Reply.{Reply}
+use Rattle.calls_replies.specs.Replies.{oneReply}
+
+unfoldable pub rowsOf : List ℕ → Call → List ℕ
+rowsOf w c = rowsAfter (replicate (c .b) (c .c)) (decode w) (c .a)
+
+unfoldable pub listReply : List ℕ → Call → Reply
+listReply w c = oneReply (listRule (decode w) (c .a) (c .b))
+
+-- the bytes that are lent
+abbrev pub lentBytes : Call → List ℕ
+lentBytes c = replicate (c .b) (c .c % 256)
+
+unfoldable pub lineBytes : Call → List ℕ
+lineBytes c = cond (eqb (lineRefusal (c .net) (c .b)) 0) (over (lineOf (c .net)) (lentBytes c)) (lentBytes c)
+
+unfoldable pub lineReply : Call → Reply
+lineReply c = oneReply (answered (lineRefusal (c .net) (c .b)) 0 (length (lineOf (c .net))))
+
+unfoldable pub saveBytes : List ℕ → Call → List ℕ
+saveBytes w c = bytesAfter (lentBytes c) (decode w) (c .a)
+
+unfoldable pub saveReply : List ℕ → Call → Reply
+saveReply w c = oneReply (saveRule (decode w) (c .a) (c .b))
+
+pub record Listing (w v : List ℕ) (c : Call) (o : List ℕ) (at : ℕ) (r : Reply) (v′ o′ : List ℕ) : Type 0 where
+  pub reply : r ≡ listReply w c
+  pub rows : v′ ≡ put v 0 (rowsOf w c)
+  pub tail : o′ ≡ put o at (rowBytes u64Bytes (rowsOf w c))
+
+pub record Lining (c : Call) (o : List ℕ) (at : ℕ) (r : Reply) (o′ : List ℕ) : Type 0 where
+  pub reply : r ≡ lineReply c
+  pub tail : o′ ≡ put o at (lineBytes c)
+
+pub record Saving (w : List ℕ) (c : Call) (o : List ℕ) (at : ℕ) (r : Reply) (o′ : List ℕ) : Type 0 where
+  pub reply : r ≡ saveReply w c
+  pub tail : o′ ≡ put o at (saveBytes w c)

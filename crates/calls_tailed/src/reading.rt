@@ -1,0 +1,50 @@
+// The calls that read a set from their tail: a set file, or lines.
+ghost use mathlib.Core.Path.{_≡_};
+ghost use Prim.Native.Nat.{_≤_};
+ghost use lib.ListN.{length};
+ghost use Rattle.calls_tailed.specs.Reading.{loadOf, linesOf, readerReply, Cut};
+use calls_bytes::Call;
+use calls_bytes::Reply;
+use calls_bytes::records::CALL;
+use calls_replies::of_answer;
+use calls_replies::of_numbers;
+use lines::Reader;
+
+// Loads the file of the tail.
+pub fn load(pool: &mut [u32], c: Call, s: &[u8]) -> Reply
+    requires { ⌜ 35 ≤ length (now s) ⌝ }
+    ensures { λ r. ⌜ (r, now (pool .exit)) ≡ loadOf (now (pool .entry)) c (now (s .entry)) ⌝ }
+{
+    of_answer(setfile::load(pool, c.a, &s[CALL..]))
+}
+
+// Where the second piece of the tail begins: so many bytes in, or at its end.
+fn cut_of(s: &[u8], b: u32) -> usize
+    requires { ⌜ 35 ≤ length (now s) ⌝ }
+    ensures { λ r. ⌜ Cut (now (s .entry)) b r ⌝ }
+{
+    let first = b as usize;
+    if s.len() - CALL < first {
+        return s.len();
+    }
+    CALL + first
+}
+
+// Where a reading has come to. A reader keeps at most 19 bytes, so their number fits.
+fn of_reader(r: Reader) -> Reply
+    requires { ⌜ r .len ≤ 19 ⌝ }
+    ensures { λ a. ⌜ a ≡ readerReply r ⌝ }
+{
+    of_numbers(r.no, (r.number % 4294967296) as u32, r.len as u32)
+}
+
+// Adds the networks of the tail's lines, which come in two pieces.
+pub fn lines(pool: &mut [u32], c: Call, s: &[u8]) -> Reply
+    requires { ⌜ 35 ≤ length (now s) ⌝ }
+    ensures { λ r. ⌜ (r, now (pool .exit)) ≡ linesOf (now (pool .entry)) c (now (s .entry)) ⌝ }
+{
+    let cut = cut_of(s, c.b);
+    let first = lines::feed(pool, lines::start(), &s[CALL..cut]);
+    let second = lines::feed(pool, first, &s[cut..]);
+    of_reader(lines::finish(pool, second))
+}

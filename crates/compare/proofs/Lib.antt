@@ -1,0 +1,3 @@
+-- The comparison of two sets by their words, and what the call comes to.
+pub mod Compared
+pub mod Outcomes

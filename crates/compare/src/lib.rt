@@ -1,0 +1,40 @@
+// Comparing two sets of a pool.
+use comparing::same_words;
+use nets::Refusal;
+use pool_check::HEAD;
+use pool_check::RECORD;
+use pool_check::survey;
+use pool_state::Told;
+ghost use mathlib.Core.Path.{_≡_};
+ghost use Rattle.compare.specs.Rules.{equalRule};
+ghost use Rattle.pool_state.specs.Decode.{decode};
+ghost use Rattle.pool_state.specs.Rules.{toldAs};
+
+mod comparing;
+
+// Whether two sets have the same list. No trie's words begin another's, so the second set has the first's exactly if so many words are the same.
+pub fn equal(pool: &[u32], first: u32, second: u32) -> Told
+    ensures { λ r. ⌜ toldAs r ≡ equalRule (decode (now (pool .entry))) first second ⌝ }
+{
+    let found = survey(pool, first);
+    if !found.sound {
+        return Told::Refused(Refusal::Damaged);
+    }
+    let sets = pool[2];
+    if sets <= first {
+        return Told::Refused(Refusal::NoSet);
+    }
+    if sets <= second {
+        return Told::Refused(Refusal::NoSet);
+    }
+    let root = pool[HEAD + RECORD * (second as usize)] as usize;
+    let n = found.held as usize;
+    if n == 0 {
+        return Told::Is(root == 0);
+    }
+    if root == 0 {
+        return Told::Is(false);
+    }
+    let b = HEAD + RECORD * (sets as usize);
+    Told::Is(same_words(pool, b + (found.at as usize - 1), b + (root - 1), n))
+}

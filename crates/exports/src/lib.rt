@@ -1,0 +1,101 @@
+// The calls that are exported each for itself, for programs in other languages: the lookup on the request path, and those whose rows or bytes would otherwise be copied. Each answers
+// 2^32 times the number of its refusal, plus its value.
+ghost use mathlib.Core.Bool.{cond};
+ghost use mathlib.Core.Path.{_≡_};
+ghost use lib.ListN.{length};
+ghost use Rattle.nets.specs.Networks.{netWords};
+ghost use Rattle.nets.specs.Refusals.{number};
+ghost use Rattle.pool_state.specs.Decode.{decode};
+ghost use Rattle.pool_state.specs.Rules.{answerAs, toldAs};
+ghost use Rattle.lookup.specs.Rules.{containsRule};
+ghost use Rattle.listing.specs.Calls.{listRule, rowsAfter};
+ghost use Rattle.setfile.specs.Calls.{saveRule, bytesAfter};
+ghost use Rattle.exports.specs.Packed.{packed, packedFlag, loadRule, loadWords};
+use nets::Net;
+use nets::Refusal;
+use pool_state::Answer;
+use pool_state::Told;
+
+fn refused(no: Refusal) -> u64
+    ensures { λ r. ⌜ r ≡ packed (number no, 0) ⌝ }
+{
+    4294967296 * (no.number() as u64)
+}
+
+fn granted(x: u32) -> u64
+    ensures { λ r. ⌜ r ≡ packed (0, x) ⌝ }
+{
+    x as u64
+}
+
+fn one_if(flag: bool) -> u32
+    ensures { λ r. ⌜ r ≡ cond flag 1 0 ⌝ }
+{
+    if flag { 1 } else { 0 }
+}
+
+fn of_answer(a: Answer) -> u64
+    ensures { λ r. ⌜ r ≡ packed (answerAs a) ⌝ }
+{
+    match a {
+        Answer::Granted(x) => granted(x),
+        Answer::Refused(no) => refused(no),
+    }
+}
+
+fn of_told(a: Told) -> u64
+    ensures { λ r. ⌜ r ≡ packedFlag (toldAs a) ⌝ }
+{
+    match a {
+        Told::Is(flag) => granted(one_if(flag)),
+        Told::Refused(no) => refused(no),
+    }
+}
+
+// Whether a member of a set contains the whole network: 1 or 0.
+#[no_mangle]
+pub extern "C" fn marlbrace_contains(
+    pool: &[u32],
+    set: u32,
+    family: u8,
+    hi: u64,
+    lo: u64,
+    len: u8,
+) -> u64
+    ensures { λ r. ⌜ r ≡ packedFlag (containsRule (now (pool .entry)) set (netWords family hi lo len)) ⌝ }
+{
+    let net = Net {
+        family,
+        hi,
+        lo,
+        len,
+    };
+    of_told(lookup::contains(pool, set, net))
+}
+
+// Writes the networks of a set in list order, three numbers for each, and answers how many there are.
+#[no_mangle]
+pub extern "C" fn marlbrace_list(pool: &[u32], set: u32, rows: &mut [u64]) -> u64
+    ensures { λ r. ⌜ r ≡ packed (listRule (decode (now (pool .entry))) set (length (now (rows .entry)))) ⌝ }
+    ensures { λ _. ⌜ now (rows .exit) ≡ rowsAfter (now (rows .entry)) (decode (now (pool .entry))) set ⌝ }
+{
+    of_answer(listing::list(pool, set, rows))
+}
+
+// Writes the file of a set, and answers how many bytes it has.
+#[no_mangle]
+pub extern "C" fn marlbrace_save(pool: &[u32], set: u32, out: &mut [u8]) -> u64
+    ensures { λ r. ⌜ r ≡ packed (saveRule (decode (now (pool .entry))) set (length (now (out .entry)))) ⌝ }
+    ensures { λ _. ⌜ now (out .exit) ≡ bytesAfter (now (out .entry)) (decode (now (pool .entry))) set ⌝ }
+{
+    of_answer(setfile::save(pool, set, out))
+}
+
+// Gives an empty set the list of a file, and answers its nodes.
+#[no_mangle]
+pub extern "C" fn marlbrace_load(pool: &mut [u32], set: u32, file: &[u8]) -> u64
+    ensures { λ r. ⌜ r ≡ packed (loadRule (now (pool .entry)) set (now (file .entry))) ⌝ }
+    ensures { λ _. ⌜ now (pool .exit) ≡ loadWords (now (pool .entry)) set (now (file .entry)) ⌝ }
+{
+    of_answer(setfile::load(pool, set, file))
+}

@@ -1,2 +1,0 @@
--- How far one has come who goes through a set.
-pub mod Spots

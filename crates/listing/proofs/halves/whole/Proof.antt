@@ -1,7 +1,0 @@
--- `halves::whole` meets its contract. Assumes nothing.
-use Rattle.listing.proofs.Paths.{path-root}
-use Rattle.listing.proofs.halves.whole.Statement.{statement}
-use Rattle.listing.proofs.halves.whole.Tie as tie
-
-pub whole-spec : {M : Type 1} → statement M
-whole-spec = tie.close (tie.spec (λ c. path-root _))

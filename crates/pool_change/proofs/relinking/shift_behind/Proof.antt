@@ -1,0 +1,25 @@
+-- `relinking::shift_behind` meets its contract: one move of the words behind the set. Assumes nothing.
+use borrow.Author.Needs.{needs}
+use Rattle.pool_state.specs.Steps.{behindAt}
+use Rattle.pool_change.proofs.relinking.shift_behind.Statement.{statement}
+use Rattle.pool_change.proofs.relinking.shift_behind.Tie as tie
+
+pub shift-behind-spec : {M : Type 1} → statement M
+unfolding behindAt
+shift-behind-spec =
+    tie.close
+    (tie.spec
+    (λ c. search needs)
+    (λ c. search needs)
+    (λ c. search needs)
+    (λ c. search needs)
+    (λ c. search needs)
+    (λ c. search needs)
+    (λ c. search needs)
+    (λ c. search needs)
+    (λ c. search needs)
+    (λ c. search needs)
+    (λ c. search needs)
+    (λ c κs. search needs)
+    (λ c. search needs)
+    (λ c. c .before .before .shift .ensures))

@@ -1,0 +1,64 @@
+// After the nodes of one set changed: moving the words of the sets behind it, putting the roots right, and the answer.
+use nodes::writing::shift;
+use pool_state::Answer;
+use pool_state::Survey;
+ghost use mathlib.Core.Path.{_≡_};
+ghost use Prim.Native.Nat.{_+_};
+ghost use Rattle.nodes.specs.Words.{put, place};
+ghost use Rattle.pool_state.specs.Rules.{answerAs};
+ghost use Rattle.pool_state.specs.Steps.{behindAt, Gap, ownRoot, movedRoot, relinked, Movable, Relink};
+
+// Moves the words of the sets behind a set to where they stand once the set has n nodes.
+pub fn shift_behind(w: &mut [u32], b: usize, v: Survey, n: u32)
+    requires { ⌜ Gap (now w) b v n ⌝ }
+    ensures { λ _. ⌜ now (w .exit) ≡ put (now (w .entry)) (place b (v .at + n)) (behindAt (now (w .entry)) b v) ⌝ }
+{
+    let at = v.at as usize;
+    let end = at + v.held as usize;
+    let to = at + n as usize;
+    shift(w, b + (end - 1), b + (to - 1), v.used as usize + 1 - end);
+}
+
+// After a set, which begins at a node, went from old nodes to new ones: its root, and a root behind it.
+fn own_root(at: u32, new: u32) -> u32
+    ensures { λ r. ⌜ r ≡ ownRoot at new ⌝ }
+{
+    if new == 0 {
+        return 0;
+    }
+    at
+}
+
+fn moved_root(old: u32, new: u32, r: u32) -> u32
+    requires { ⌜ Movable old new r ⌝ }
+    ensures { λ q. ⌜ q ≡ movedRoot old new r ⌝ }
+{
+    if r == 0 {
+        return 0;
+    }
+    r + new - old
+}
+
+// Puts the roots right after a set, which begins at node `at`, went from old nodes to new ones.
+fn relink(w: &mut [u32], set: u32, at: u32, old: u32, new: u32)
+    requires { ⌜ Relink (now w) set old new ⌝ }
+    ensures { λ _. ⌜ now (w .exit) ≡ relinked (now (w .entry)) set at old new ⌝ }
+{
+    let sets = w[2] as usize;
+    let k = set as usize;
+    w[64 + 8 * k] = own_root(at, new);
+    let mut s = k + 1;
+    while s < sets {
+        w[64 + 8 * s] = moved_root(old, new, w[64 + 8 * s]);
+        s += 1;
+    }
+}
+
+// Puts the roots right once the nodes of the result, n of them, are written; answers n.
+pub fn granted(w: &mut [u32], set: u32, v: Survey, n: u32) -> Answer
+    requires { ⌜ Relink (now w) set (v .held) n ⌝ }
+    ensures { λ r. ⌜ (answerAs r ≡ (0, n)) × (now (w .exit) ≡ relinked (now (w .entry)) set (v .at) (v .held) n) ⌝ }
+{
+    relink(w, set, v.at, v.held, n);
+    Answer::Granted(n)
+}

@@ -1,0 +1,3 @@
+-- The pass over a pool: its verdict is decode, turn by turn of the loop.
+pub mod Scan
+pub mod Pass

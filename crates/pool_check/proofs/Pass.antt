@@ -1,0 +1,120 @@
+-- The pass by the tests of the code: one set, and the loop over the sets, at whose head what is left to scan completes the answer. Assumes nothing.
+use mathlib.Core.Path.{_≡_, refl, sym, _∙_}
+use mathlib.Core.Bool.{Bool, true, false, not, cond, _&&_}
+use mathlib.Core.List.{List}
+use Prim.Native.Nat.{ℕ, suc, _+_, _-_, _≤_, _<_, max}
+use native.Mathlib.Nat.{add-zero}
+use native.Mathlib.Omega.{arith}
+use lib.Dec.{eqb, leb}
+use lib.ListN.{length, getD}
+use borrow.Author.Tests.{le-leb, lt-leb, eq-eqb, ne-eqb, not-true, not-false}
+use Rattle.nets.specs.Networks.{width}
+use Rattle.nets.specs.Tries.{size}
+use Rattle.nets.proofs.Strings.{cond-both}
+use Rattle.nodes.specs.Parse.{Room, Read, bad, ok, parse, after}
+use Rattle.pool_state.specs.Decode.{recordAt, base, isHeader, readSet, decode}
+use Rattle.pool_state.specs.Rules.{shareIn, limitIn, noSurvey, surveyOf}
+use Rattle.nodes.proofs.Unique.{got}
+use Rattle.pool_state.proofs.Header.{isHeader-header, header-room}
+use Rattle.pool_check.proofs.Scan.{found, turn, scan, scan-survey}
+
+-- One set.
+module _ (w : List ℕ) (b n f s i : ℕ) where
+  pub readSet-none : getD w (recordAt s) 0 ≡ 0 → i ≡ after i (readSet w b n f s i)
+  unfolding readSet after size
+  readSet-none z = rw (eq-eqb (getD w (recordAt s) 0) 0 z, add-zero)
+
+  pub readSet-off : (getD w (recordAt s) 0 ≡ 0 → ⊥) → (getD w (recordAt s) 0 ≡ i → ⊥) → 0 ≡ after i (readSet w b n f s i)
+  unfolding readSet after
+  readSet-off nz off = rw (ne-eqb (getD w (recordAt s) 0) 0 nz, ne-eqb (getD w (recordAt s) 0) i off)
+
+  pub readSet-at : (getD w (recordAt s) 0 ≡ 0 → ⊥) → getD w (recordAt s) 0 ≡ i → after i (parse w b n f i) ≡ after i (readSet w b n f s i)
+  unfolding readSet
+  readSet-at nz on = rw (ne-eqb (getD w (recordAt s) 0) 0 nz, eq-eqb (getD w (recordAt s) 0) i on)
+
+-- The loop: set s is next, and what is left to scan completes the answer.
+pub record Pass (w : List ℕ) (k sets n b f s i c a h : ℕ) : Type 0 where
+  pub room : Room w b n
+  pub few : sets ≤ 64
+  pub long : base sets ≤ length w
+  pub deep : f ≤ 129
+  pub past : s ≤ sets
+  pub pos : 1 ≤ i
+  pub within : c ≤ n
+  pub is : scan w b n f k (sets - s) s i c (a, h) ≡ surveyOf (decode w) k
+
+width-few : (f : ℕ) → width f ≤ 128
+unfolding width
+width-few f = cond-both (λ x. x ≤ 128) (eqb f 4) 32 128 (omega arith) (omega arith)
+
+pub pass-start : (w : List ℕ) (k f : ℕ) → isHeader w ≡ true → f ≡ suc (width (getD w 1 0)) → Pass w k (getD w 2 0) (getD w 3 0) (base (getD w 2 0)) f 0 1 0 0 0
+pass-start w k f h e =
+    let r = isHeader-header w h in
+    let z : getD w 2 0 - 0 ≡ getD w 2 0 = omega arith in
+    record {
+      room = header-room r;
+      few = omega arith;
+      long = omega arith;
+      deep = omega (arith, width-few (getD w 1 0));
+      past = omega arith;
+      pos = omega arith;
+      within = omega arith;
+      is = rw (e, z) (scan-survey w k h);
+    }
+
+lost : (i : ℕ) (x : Read) → 1 ≤ i → 0 ≡ after i x → x ≡ bad
+unfolding after
+lost i bad pos e = refl
+lost i (ok t) pos e = absurd (omega arith)
+
+-- two numbers that are picked by one test
+picked : (t : Bool) (x y a h : ℕ) → _≡_ {A = ℕ × ℕ} (cond t (x, y) (a, h)) (cond t x a, cond t y h)
+picked true x y a h = refl
+picked false x y a h = refl
+
+module _ {w : List ℕ} {k sets n b f s i c a h : ℕ} (o : Pass w k sets n b f s i c a h) where
+  pub pass-done : sets ≤ s → found i c (a, h) ≡ surveyOf (decode w) k
+  unfolding scan
+  pass-done le = let e : sets - s ≡ 0 = omega arith in rw e at (o .is)
+
+  module _ (more : s < sets) {e : ℕ} (end : e ≡ after i (readSet w b n f s i)) where
+    left : sets - s ≡ suc (sets - (s + 1))
+    left = omega arith
+
+    pub pass-bad : e ≡ 0 → noSurvey ≡ surveyOf (decode w) k
+    unfolding scan
+    pass-bad z = rw (left, scan, lost i (readSet w b n f s i) (o .pos) (sym z ∙ end)) at (o .is)
+
+    module _ (some : e ≡ 0 → ⊥) where
+      pub pass-up : i ≤ e
+      pass-up = omega (arith, got i e (readSet w b n f s i) end some .2)
+
+      opened : turn w b n f k (scan w b n f k (sets - (s + 1)) (s + 1)) s i c (a, h) (e - i) ≡ surveyOf (decode w) k
+      unfolding scan
+      opened =
+          let g = got i e (readSet w b n f s i) end some in
+          let z : e - i ≡ size (g .0) = omega (arith, g .2) in
+          rw z (rw (left, scan, g .1) at (o .is))
+
+      module _ {r : Bool} (limit : r ≡ (leb (shareIn w s) (limitIn w s) && leb (e - i) (limitIn w s))) where
+        pub pass-off : not r ≡ true → noSurvey ≡ surveyOf (decode w) k
+        pass-off out = rw (sym limit ∙ not-true r out) at opened
+
+        module _ (fit : not r ≡ false) {q : ℕ} (claim : q ≡ max (shareIn w s) (e - i)) where
+          allowed : cond (leb (c + q) n) (scan w b n f k (sets - (s + 1)) (s + 1) e (c + q) (cond (eqb s k) i a, cond (eqb s k) (e - i) h)) noSurvey ≡ surveyOf (decode w) k
+          allowed = let z : i + (e - i) ≡ e = omega (arith, pass-up) in rw (sym limit ∙ not-false r fit, ← claim, picked (eqb s k) i (e - i) a h, z) at opened
+
+          pub pass-over : n - c < q → noSurvey ≡ surveyOf (decode w) k
+          pass-over lt = rw (lt-leb (c + q) n (omega arith)) at allowed
+
+          pub pass-on : q ≤ n - c → Pass w k sets n b f (s + 1) e (c + q) (cond (eqb s k) i a) (cond (eqb s k) (e - i) h)
+          pass-on le = record {
+            room = o .room;
+            few = o .few;
+            long = o .long;
+            deep = o .deep;
+            past = omega arith;
+            pos = omega (arith, pass-up);
+            within = omega arith;
+            is = rw (le-leb (c + q) n (omega arith)) at allowed;
+          }

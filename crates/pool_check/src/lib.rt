@@ -1,0 +1,200 @@
+// The check of a whole pool, in one pass over its sets.
+use nodes::reading::trie_end;
+use pool_state::Survey;
+ghost use mathlib.Core.Path.{_≡_};
+ghost use mathlib.Core.Bool.{true, cond, _&&_};
+ghost use Prim.Native.Nat.{suc, _+_, _≤_, _<_, max};
+ghost use lib.Dec.{eqb, leb};
+ghost use lib.ListN.{length};
+ghost use Rattle.nets.specs.Networks.{width};
+ghost use Rattle.nodes.specs.Parse.{Room, after};
+ghost use Rattle.pool_state.specs.States.{isFamily, isSize};
+ghost use Rattle.pool_state.specs.Decode.{base, isHeader, readSet, decode};
+ghost use Rattle.pool_state.specs.Rules.{shareIn, limitIn, noSurvey, surveyOf};
+
+// The first word of every pool.
+pub const MARK: u32 = 1296126540;
+
+// The words before the records, those of a record, and those that a pool has for each node.
+pub const HEAD: usize = 64;
+
+pub const RECORD: usize = 8;
+
+pub const NODE: usize = 8;
+
+const MOST_SETS: u32 = 64;
+
+const MOST_NODES: u32 = 4194304;
+
+// The families are 4 and 6.
+pub fn is_family(family: u32) -> bool
+    ensures { λ r. ⌜ r ≡ isFamily family ⌝ }
+{
+    if family == 4 {
+        return true;
+    }
+    family == 6
+}
+
+// How many sets and nodes a pool may have.
+pub fn is_size(sets: u32, nodes: u32) -> bool
+    ensures { λ r. ⌜ r ≡ isSize sets nodes ⌝ }
+{
+    if sets < 1 {
+        return false;
+    }
+    if MOST_SETS < sets {
+        return false;
+    }
+    if nodes < 1 {
+        return false;
+    }
+    nodes <= MOST_NODES
+}
+
+// The first four words are those of a pool, and the slice is long enough for it.
+pub fn is_header(w: &[u32]) -> bool
+    ensures { λ r. ⌜ r ≡ isHeader (now (w .entry)) ⌝ }
+{
+    if w.len() < HEAD {
+        return false;
+    }
+    if w[0] != MARK {
+        return false;
+    }
+    if !is_family(w[1]) {
+        return false;
+    }
+    let sets = w[2];
+    let nodes = w[3];
+    if !is_size(sets, nodes) {
+        return false;
+    }
+    HEAD + RECORD * (sets as usize) + NODE * (nodes as usize) <= w.len()
+}
+
+// The levels that a trie of the family may have: one more than the bits of an address.
+pub fn most_levels(family: u32) -> u32
+    ensures { λ r. ⌜ r ≡ suc (width family) ⌝ }
+{
+    if family == 4 {
+        return 33;
+    }
+    129
+}
+
+// The number after the trie of set s, where i is the next number that is not placed, or 0 where the set is damaged.
+pub fn set_end(w: &[u32], b: usize, n: u32, fuel: u32, s: usize, i: u32) -> u32
+    requires { ⌜ Room (now w) b n ⌝ }
+    requires { ⌜ (1 ≤ i) × (fuel ≤ 129) ⌝ }
+    requires { ⌜ (s < 64) × (base (s + 1) ≤ length (now w)) ⌝ }
+    ensures { λ r. ⌜ r ≡ after i (readSet (now (w .entry)) b n fuel s i) ⌝ }
+{
+    let root = w[HEAD + RECORD * s];
+    if root == 0 {
+        return i;
+    }
+    if root != i {
+        return 0;
+    }
+    trie_end(w, b, n, fuel, i)
+}
+
+// The share and the nodes of set s are at most its limit.
+pub fn in_limit(w: &[u32], s: usize, nodes: u32) -> bool
+    requires { ⌜ (s < 64) × (base (s + 1) ≤ length (now w)) ⌝ }
+    ensures { λ r. ⌜ r ≡ (leb (shareIn (now (w .entry)) s) (limitIn (now (w .entry)) s) && leb nodes (limitIn (now (w .entry)) s)) ⌝ }
+{
+    let share = w[HEAD + RECORD * s + 1];
+    let limit = w[HEAD + RECORD * s + 2];
+    if limit < share {
+        return false;
+    }
+    nodes <= limit
+}
+
+// What set s claims of the pool: the larger of its share and its nodes.
+pub fn claim_at(w: &[u32], s: usize, nodes: u32) -> u32
+    requires { ⌜ (s < 64) × (base (s + 1) ≤ length (now w)) ⌝ }
+    ensures { λ r. ⌜ r ≡ max (shareIn (now (w .entry)) s) nodes ⌝ }
+{
+    let share = w[HEAD + RECORD * s + 1];
+    if share < nodes {
+        return nodes;
+    }
+    share
+}
+
+// The value x where this set is the one asked for, or what there was.
+fn picked(s: usize, set: usize, x: u32, y: u32) -> u32
+    ensures { λ r. ⌜ r ≡ cond (eqb s set) x y ⌝ }
+{
+    if s == set {
+        return x;
+    }
+    y
+}
+
+fn no_survey() -> Survey
+    ensures { λ r. ⌜ r ≡ noSurvey ⌝ }
+{
+    Survey {
+        sound: false,
+        used: 0,
+        claimed: 0,
+        at: 0,
+        held: 0,
+    }
+}
+
+// What one pass over the sets of a pool with a header finds out.
+fn survey_sets(w: &[u32], set: usize) -> Survey
+    requires { ⌜ isHeader (now w) ≡ true ⌝ }
+    ensures { λ r. ⌜ r ≡ surveyOf (decode (now (w .entry))) set ⌝ }
+{
+    let sets = w[2] as usize;
+    let n = w[3];
+    let b = HEAD + RECORD * sets;
+    let fuel = most_levels(w[1]);
+    let mut s: usize = 0;
+    let mut i: u32 = 1;
+    let mut claimed: u32 = 0;
+    let mut at: u32 = 0;
+    let mut held: u32 = 0;
+    while s < sets {
+        let end = set_end(w, b, n, fuel, s, i);
+        if end == 0 {
+            return no_survey();
+        }
+        let nodes = end - i;
+        if !in_limit(w, s, nodes) {
+            return no_survey();
+        }
+        let claim = claim_at(w, s, nodes);
+        if n - claimed < claim {
+            return no_survey();
+        }
+        claimed += claim;
+        at = picked(s, set, i, at);
+        held = picked(s, set, nodes, held);
+        i = end;
+        s += 1;
+    }
+    Survey {
+        sound: true,
+        used: i - 1,
+        claimed,
+        at,
+        held,
+    }
+}
+
+// What one pass over the pool finds out for the calls on one set.
+pub fn survey(w: &[u32], set: u32) -> Survey
+    ensures { λ r. ⌜ r ≡ surveyOf (decode (now (w .entry))) set ⌝ }
+{
+    if is_header(w) {
+        return survey_sets(w, set as usize);
+    }
+    no_survey()
+}

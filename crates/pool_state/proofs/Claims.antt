@@ -1,0 +1,131 @@
+-- States: the rules of a state and of its sets, taken apart, and what the claims of the sets leave of the pool's nodes: free nodes, and the room for a set.
+-- Assumes nothing.
+use mathlib.Core.Path.{_≡_, refl}
+use mathlib.Core.Bool.{Bool, true, false, _&&_}
+use mathlib.Core.List.{List, [], _∷_}
+use Prim.Native.Nat.{ℕ, zero, suc, _+_, _-_, _≤_, _<_}
+use native.Mathlib.Omega.{arith}
+use lib.Dec.{leb}
+use lib.ListN.{length, getD, replicate}
+use borrow.Author.Tests.{leb-true}
+use Rattle.nets.specs.Bits.{Bits, before}
+use Rattle.nets.specs.Lists.{isList, nodesL}
+use Rattle.nets.specs.Networks.{width}
+use Rattle.nets.proofs.Strings.{and-left, and-right}
+use Rattle.pool_state.specs.States.{SetState, State, held, claim, used, claimed, claimedBut, freeOf, roomOf, isFamily, isSize, isSet, areSets, isState}
+use Rattle.pool_state.specs.Rules.{noSet}
+
+-- The rules of a state.
+abbrev pub Sized : ℕ → ℕ → Type 0
+Sized s n = (1 ≤ s) × (s ≤ 64) × (1 ≤ n) × (n ≤ 4194304)
+
+pub isSize-is : (s n : ℕ) → isSize s n ≡ true → Sized s n
+isSize-is s n e =
+    let f = and-left (leb 1 s && leb s 64) (leb 1 n && leb n 4194304) e in
+    let g = and-right (leb 1 s && leb s 64) (leb 1 n && leb n 4194304) e in (
+      leb-true 1 s (and-left (leb 1 s) (leb s 64) f),
+      leb-true s 64 (and-right (leb 1 s) (leb s 64) f),
+      leb-true 1 n (and-left (leb 1 n) (leb n 4194304) g),
+      leb-true n 4194304 (and-right (leb 1 n) (leb n 4194304) g),
+    )
+
+abbrev numbers : State → Bool
+numbers S = isFamily (S .family) && isSize (length (S .sets)) (S .nodes)
+
+abbrev lists : State → Bool
+lists S = areSets (width (S .family)) (S .sets) && leb (claimed (S .sets)) (S .nodes)
+
+module _ (S : State) (e : isState S ≡ true) where
+  pub isState-family : isFamily (S .family) ≡ true
+  unfolding isState
+  isState-family = and-left (isFamily (S .family)) (isSize (length (S .sets)) (S .nodes)) (and-left (numbers S) (lists S) e)
+
+  pub isState-size : isSize (length (S .sets)) (S .nodes) ≡ true
+  unfolding isState
+  isState-size = and-right (isFamily (S .family)) (isSize (length (S .sets)) (S .nodes)) (and-left (numbers S) (lists S) e)
+
+  pub isState-sets : areSets (width (S .family)) (S .sets) ≡ true
+  unfolding isState
+  isState-sets = and-left (areSets (width (S .family)) (S .sets)) (leb (claimed (S .sets)) (S .nodes)) (and-right (numbers S) (lists S) e)
+
+  pub isState-claimed : claimed (S .sets) ≤ S .nodes
+  unfolding isState
+  isState-claimed =
+      leb-true (claimed (S .sets)) (S .nodes)
+      (and-right (areSets (width (S .family)) (S .sets)) (leb (claimed (S .sets)) (S .nodes)) (and-right (numbers S) (lists S) e))
+
+-- The rules of a set: share and nodes are within the limit.
+abbrev pub limited : SetState → Bool
+limited x = leb (x .share) (x .limit) && leb (held x) (x .limit)
+
+module _ (v : ℕ) (x : SetState) (e : isSet v x ≡ true) where
+  pub isSet-list : isList v (x .list) ≡ true
+  isSet-list = and-left (isList v (x .list)) (limited x) e
+
+  pub isSet-limited : limited x ≡ true
+  isSet-limited = and-right (isList v (x .list)) (limited x) e
+
+module _ (v : ℕ) (x : SetState) (xs : List SetState) (e : areSets v (x ∷ xs) ≡ true) where
+  pub areSets-head : isSet v x ≡ true
+  areSets-head = and-left (isSet v x) (areSets v xs) e
+
+  pub areSets-tail : areSets v xs ≡ true
+  areSets-tail = and-right (isSet v x) (areSets v xs) e
+
+-- So every set of a state keeps them; a number that is no set's has an empty one, which does too.
+areSets-at : (v k : ℕ) (xs : List SetState) → areSets v xs ≡ true → isSet v (getD xs k noSet) ≡ true
+unfolding isList nodesL
+areSets-at v k [] e = refl
+areSets-at v zero (x ∷ xs) e = areSets-head v x xs e
+areSets-at v (suc k) (x ∷ xs) e = areSets-at v k xs (areSets-tail v x xs e)
+
+module _ (S : State) (k : ℕ) (e : isState S ≡ true) where
+  abbrev set : SetState
+  set = getD (S .sets) k noSet
+
+  rules : isSet (width (S .family)) set ≡ true
+  rules = areSets-at (width (S .family)) k (S .sets) (isState-sets S e)
+
+  pub isList-listAt : isList (width (S .family)) (set .list) ≡ true
+  isList-listAt = isSet-list (width (S .family)) set rules
+
+  pub share-limit : set .share ≤ set .limit
+  share-limit = leb-true (set .share) (set .limit) (and-left (leb (set .share) (set .limit)) (leb (held set) (set .limit)) (isSet-limited (width (S .family)) set rules))
+
+  pub held-limit : held set ≤ set .limit
+  held-limit = leb-true (held set) (set .limit) (and-right (leb (set .share) (set .limit)) (leb (held set) (set .limit)) (isSet-limited (width (S .family)) set rules))
+
+-- The claims.
+pub used-claimed : (ss : List SetState) → used ss ≤ claimed ss
+unfolding used claimed
+used-claimed [] = omega arith
+used-claimed (s ∷ ss) = omega (arith, used-claimed ss)
+
+pub claimedBut-is : (k : ℕ) (ss : List SetState) → k < length ss → claimedBut k ss + claim (getD ss k noSet) ≡ claimed ss
+unfolding claimed claimedBut
+claimedBut-is k [] lt = absurd (omega arith)
+claimedBut-is zero (s ∷ ss) lt = omega arith
+claimedBut-is (suc k) (s ∷ ss) lt = omega (arith, claimedBut-is k ss (omega arith))
+
+-- what is not placed is free
+pub freeOf-is : (S : State) → isState S ≡ true → freeOf S + used (S .sets) ≡ S .nodes
+freeOf-is S e = omega (arith, isState-claimed S e, used-claimed (S .sets))
+
+-- the room for a set is all that the others do not claim
+pub roomOf-is : (S : State) (k : ℕ) → k < length (S .sets) → roomOf S k ≡ S .nodes - (claimed (S .sets) - claim (getD (S .sets) k noSet))
+roomOf-is S k lt = omega (arith, claimedBut-is k (S .sets) lt)
+
+-- The scope document's pool: IPv6, 100 nodes, shares 40 and 30, limits 60 and 80, set 0 empty; set 1 is empty, or has one /59.
+abbrev poolWith : List Bits → State
+poolWith l = record { family = 6; nodes = 100; sets = record { share = 40; limit = 60; list = [] } ∷ record { share = 30; limit = 80; list = l } ∷ [] }
+
+pub room-empty : (isState (poolWith []) ≡ true) × (roomOf (poolWith []) 1 ≡ 60) × (roomOf (poolWith []) 0 ≡ 70)
+unfolding isState claimed claimedBut isList nodesL
+room-empty = (refl, refl, refl)
+
+abbrev one59 : List Bits
+one59 = replicate 59 false ∷ []
+
+pub room-one59 : (isState (poolWith one59) ≡ true) × (nodesL one59 ≡ 60) × (roomOf (poolWith one59) 0 ≡ 40)
+unfolding isState claimed claimedBut isList nodesL before width
+room-one59 = (refl, refl, refl)

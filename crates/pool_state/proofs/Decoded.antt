@@ -1,0 +1,111 @@
+-- What sound words say, in the scope document's sentences, as what is decoded stands in the words. So encoding and decoding are inverse, and a granted layout is decoded.
+-- Assumes nothing.
+use mathlib.Core.Path.{_≡_, refl, _∙_}
+use mathlib.Core.Bool.{Bool, true, false, cond, false≢true}
+use mathlib.Core.List.{List, [], _∷_, _++_}
+use Prim.Native.Nat.{ℕ, suc, _+_, _≤_, _<_}
+use native.Mathlib.Nat.{zero-add}
+use native.Mathlib.Omega.{arith}
+use lib.Dec.{leb}
+use lib.ListN.{length, getD, take, drop, replicate}
+use borrow.Author.Tests.{le-leb}
+use Rattle.nets.specs.Lists.{isList, nodesL}
+use Rattle.nets.specs.Networks.{width}
+use Rattle.nets.specs.Tries.{trieOf}
+use Rattle.nets.proofs.Strings.{and-left, and-right}
+use Rattle.nets.proofs.Nodes.{nodesL-empty}
+use Rattle.nodes.specs.Words.{put, Has, enc}
+use Rattle.nodes.specs.Parse.{Stands}
+use Rattle.pool_state.specs.States.{State, used, claimed, isSet, areSets, isState}
+use Rattle.pool_state.specs.Decode.{recordAt, base, leastWords, rootAt, nodeWords, over, sound, decode}
+use Rattle.pool_state.specs.Rules.{noSet, startOf, total, layoutNo, emptySets, laid, withinLimits, isSetup}
+use Rattle.nodes.proofs.Put.{length-put}
+use Rattle.nodes.proofs.Has.{has-head, has-at}
+use Rattle.pool_state.proofs.Claims.{isState-sets, isState-claimed, used-claimed}
+use Rattle.pool_state.proofs.Setups.{Kept, isSetup-kept, length-emptySets}
+use Rattle.pool_state.proofs.Holds.{HoldsSet, length-nodeWords, nodeWords-at, startOf-is, holds-at}
+use Rattle.pool_state.proofs.Encoded.{HeaderOf, sound-header, sound-decode, decode-sound, over-sound, sound-over}
+
+module _ (w : List ℕ) (S : State) (e : decode w ≡ sound S) where
+  pub decode-header : HeaderOf w S
+  decode-header = sound-header (decode-sound w S e)
+
+  -- Each set has one list of the family's width, within its limit; each share is at most its limit; the claims add up to at most the nodes.
+  pub decode-state : isState S ≡ true
+  decode-state = decode-sound w S e .state
+
+  -- Each node has at most one place: the tries of the sets stand one behind the other.
+  pub decode-has : Has w (base (length (S .sets))) (nodeWords (S .sets))
+  decode-has = has-at (omega arith) (decode-sound w S e .holds .nodes)
+
+  -- Every node that is not placed is free: as many are placed as the lists have, no more than are claimed, and no more are claimed than there are.
+  pub decode-used : (length (nodeWords (S .sets)) ≡ used (S .sets)) × (used (S .sets) ≤ claimed (S .sets)) × (claimed (S .sets) ≤ S .nodes)
+  decode-used = (length-nodeWords (width (S .family)) (S .sets) (isState-sets S decode-state), used-claimed (S .sets), isState-claimed S decode-state)
+
+  -- Set k: its record, its trie, and the tries before and behind it.
+  module _ (k : ℕ) (lt : k < length (S .sets)) where
+    pub decode-set : HoldsSet w (base (length (S .sets))) (S .nodes) (width (S .family)) k (startOf k 1 (S .sets)) (getD (S .sets) k noSet)
+    decode-set = rw zero-add at (holds-at 0 k (S .sets) (omega arith) lt (decode-sound w S e .holds))
+
+    pub decode-root : getD w (recordAt k) 0 ≡ rootAt (startOf k 1 (S .sets)) (getD (S .sets) k noSet .list)
+    decode-root = has-head (decode-set .here)
+
+    pub decode-share : getD w (recordAt k + 1) 0 ≡ getD (S .sets) k noSet .share
+    decode-share = decode-set .here .at 1 (omega arith)
+
+    pub decode-limit : getD w (recordAt k + 2) 0 ≡ getD (S .sets) k noSet .limit
+    decode-limit = decode-set .here .at 2 (omega arith)
+
+    pub decode-at : Stands w (base (length (S .sets))) (S .nodes) (suc (width (S .family))) (startOf k 1 (S .sets)) (trieOf (getD (S .sets) k noSet .list))
+    decode-at = decode-set .trie
+
+    pub decode-parts : (nodeWords (S .sets) ≡ nodeWords (take k (S .sets)) ++ (enc (trieOf (getD (S .sets) k noSet .list)) ++ nodeWords (drop (suc k) (S .sets))))
+        × (startOf k 1 (S .sets) ≡ 1 + length (nodeWords (take k (S .sets))))
+    decode-parts = (nodeWords-at k (S .sets) lt, startOf-is (width (S .family)) k 1 (S .sets) (isState-sets S decode-state) lt)
+
+-- Encoding and decoding are inverse.
+pub over-decode : (w : List ℕ) (S : State) → decode w ≡ sound S → over w S ≡ w
+over-decode w S e = sound-over (decode-sound w S e)
+
+pub decode-over : (w : List ℕ) (S : State) → isState S ≡ true → leastWords (length (S .sets)) (S .nodes) ≤ length w → decode (over w S) ≡ sound S
+decode-over w S e le = sound-decode (over-sound w S e le)
+
+pub decode-one : (w : List ℕ) (S T : State) → decode w ≡ sound S → decode w ≡ sound T → S ≡ T
+decode-one w S T e f = cc
+
+pub over-one : (w : List ℕ) (S T : State) → isState S ≡ true → isState T ≡ true → leastWords (length (S .sets)) (S .nodes) ≤ length w → leastWords (length (T .sets)) (T .nodes) ≤ length w
+    → over w S ≡ over w T → S ≡ T
+over-one w S T e f le lf q = decode-one (over w T) S T (rw q at (decode-over w S e le)) (decode-over w T f lf)
+
+-- A granted layout: every set is empty.
+isSet-empty : (v x y : ℕ) → leb x y ≡ true → isSet v (record { share = x; limit = y; list = [] }) ≡ true
+unfolding isList nodesL
+isSet-empty v x y e = rw e (le-leb 0 y (omega arith))
+
+emptySets-is : (v : ℕ) (shares limits : List ℕ) → withinLimits shares limits ≡ true → (areSets v (emptySets shares limits) ≡ true) × (claimed (emptySets shares limits) ≡ total shares)
+unfolding claimed total
+emptySets-is v [] limits e = (refl, refl)
+emptySets-is v (x ∷ shares) [] e = absurd (false≢true e)
+emptySets-is v (x ∷ shares) (y ∷ limits) e =
+    let h = emptySets-is v shares limits (and-right (leb x y) (withinLimits shares limits) e) in
+    (rw (isSet-empty v x y (and-left (leb x y) (withinLimits shares limits) e)) (h .0), omega (arith, h .1, nodesL-empty))
+
+layoutNo-kept : (w : List ℕ) (family sets nodes : ℕ) (shares limits : List ℕ) → layoutNo w family sets nodes shares limits ≡ 0 → Kept (length w) family sets nodes shares limits
+unfolding layoutNo
+layoutNo-kept w family sets nodes shares limits e = isSetup-kept (length w) family sets nodes shares limits (go (isSetup (length w) family sets nodes shares limits) e)
+  where
+    go : (b : Bool) → _≡_ {A = ℕ} (cond b 0 1) 0 → b ≡ true
+    go true e = refl
+    go false e = absurd (omega arith)
+
+pub decode-laid : (w : List ℕ) (family sets nodes : ℕ) (shares limits : List ℕ) → layoutNo w family sets nodes shares limits ≡ 0
+    → decode (laid w family sets nodes shares limits) ≡ sound (record { family = family; nodes = nodes; sets = emptySets shares limits })
+unfolding laid isState
+decode-laid w family sets nodes shares limits e =
+    let k = layoutNo-kept w family sets nodes shares limits e in
+    let x = emptySets-is (width family) shares limits (k .within) in
+    let n : length (emptySets shares limits) ≡ sets = length-emptySets shares limits (omega arith) ∙ k .share in
+    let z : List ℕ = replicate (leastWords sets nodes) 0 in
+    decode-over (put w 0 z) (record { family = family; nodes = nodes; sets = emptySets shares limits })
+    (rw (k .family, n, k .size, x .0, x .1) (le-leb (total shares) nodes (k .total)))
+    (rw (n, length-put w 0 z) (k .room))

@@ -1,0 +1,54 @@
+-- Each call has one outcome: two answers that its contract allows for the same words and arguments are equal, and so are the words that they leave. An answer is
+-- known by its number and its values. Assumes nothing.
+use mathlib.Core.Path.{_≡_, sym, ap, _∙_}
+use mathlib.Core.List.{List}
+use Prim.Native.Nat.{ℕ}
+use Rattle.nets.specs.Bits.{Bits}
+use Rattle.nets.proofs.Answers.{number-one, number-some}
+use Rattle.pool_state.specs.Decode.{decode}
+use Rattle.pool_state.specs.Rules.{answerAs, reportAs, toldAs, Laid, freeRule, heldRule, planRule}
+use Rattle.pool_state.specs.States.{State}
+use Rattle.pool_state.specs.Changes.{Changed}
+use Rattle.pool_state.specs.declared.Answer.{Answer}
+use Rattle.pool_state.specs.declared.Answer.the-variants as answer
+use Rattle.pool_state.specs.declared.Report.{Report}
+use Rattle.pool_state.specs.declared.Report.the-variants as report
+use Rattle.pool_state.specs.declared.Told.{Told}
+use Rattle.pool_state.specs.declared.Told.the-variants as told
+
+pub answerAs-one : (r s : Answer) → answerAs r ≡ answerAs s → r ≡ s
+answerAs-one (answer.Granted m) (answer.Granted n) e = ap answer.Granted (ap (λ p. p .1) e)
+answerAs-one (answer.Granted m) (answer.Refused y) e = absurd (number-some y (sym (ap (λ p. p .0) e)))
+answerAs-one (answer.Refused x) (answer.Granted n) e = absurd (number-some x (ap (λ p. p .0) e))
+answerAs-one (answer.Refused x) (answer.Refused y) e = ap answer.Refused (number-one x y (ap (λ p. p .0) e))
+
+pub reportAs-one : (r s : Report) → reportAs r ≡ reportAs s → r ≡ s
+reportAs-one (report.Numbers a b) (report.Numbers c d) e = let p : a ≡ c = ap (λ x. x .1 .0) e in let q : b ≡ d = ap (λ x. x .1 .1) e in cc
+reportAs-one (report.Numbers a b) (report.Refused y) e = absurd (number-some y (sym (ap (λ p. p .0) e)))
+reportAs-one (report.Refused x) (report.Numbers a b) e = absurd (number-some x (ap (λ p. p .0) e))
+reportAs-one (report.Refused x) (report.Refused y) e = ap report.Refused (number-one x y (ap (λ p. p .0) e))
+
+pub toldAs-one : (r s : Told) → toldAs r ≡ toldAs s → r ≡ s
+toldAs-one (told.Is a) (told.Is b) e = ap told.Is (ap (λ p. p .1) e)
+toldAs-one (told.Is a) (told.Refused y) e = absurd (number-some y (sym (ap (λ p. p .0) e)))
+toldAs-one (told.Refused x) (told.Is b) e = absurd (number-some x (ap (λ p. p .0) e))
+toldAs-one (told.Refused x) (told.Refused y) e = ap told.Refused (number-one x y (ap (λ p. p .0) e))
+
+pub layout-determined : {w : List ℕ} {family sets nodes : ℕ} {shares limits : List ℕ} {r s : Answer} {u v : List ℕ}
+    → Laid w family sets nodes shares limits r u → Laid w family sets nodes shares limits s v → (r ≡ s) × (u ≡ v)
+layout-determined {r = r} {s = s} h k = (answerAs-one r s (h .answer ∙ sym (k .answer)), h .words ∙ sym (k .words))
+
+module _ (w : List ℕ) where
+  pub free-determined : (r s : Answer) → answerAs r ≡ freeRule (decode w) → answerAs s ≡ freeRule (decode w) → r ≡ s
+  free-determined r s e f = answerAs-one r s (e ∙ sym f)
+
+  module _ (k : ℕ) (r s : Report) where
+    pub held-determined : reportAs r ≡ heldRule (decode w) k → reportAs s ≡ heldRule (decode w) k → r ≡ s
+    held-determined e f = reportAs-one r s (e ∙ sym f)
+
+    pub plan-determined : reportAs r ≡ planRule (decode w) k → reportAs s ≡ planRule (decode w) k → r ≡ s
+    plan-determined e f = reportAs-one r s (e ∙ sym f)
+
+-- every changing call
+pub changed-one : {w v u : List ℕ} {k : ℕ} {a : State → ℕ} {f : State → List Bits} {r s : Answer} → Changed w k a f r v → Changed w k a f s u → (r ≡ s) × (v ≡ u)
+changed-one {r = r} {s = s} h g = (answerAs-one r s (h .answer ∙ sym (g .answer)), h .words ∙ sym (g .words))

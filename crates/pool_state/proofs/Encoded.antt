@@ -1,0 +1,144 @@
+-- Words that hold a state (`Sound`): `decode` gives the state exactly there. Written over words that are long enough, a state is held by them; and where it is held,
+-- to write it changes nothing. Assumes nothing.
+use mathlib.Core.Path.{_≡_, refl, _∙_, subst}
+use mathlib.Core.Bool.{Bool, true, false, cond}
+use mathlib.Core.List.{List, [], _∷_}
+use Prim.Native.Nat.{ℕ, suc, _+_, _≤_}
+use native.Mathlib.Omega.{arith}
+use lib.Dec.{leb}
+use lib.ListN.{length, getD}
+use borrow.Author.Tests.{le-leb}
+use Rattle.nets.specs.Networks.{width}
+use Rattle.nodes.specs.Words.{put, Has}
+use Rattle.pool_state.specs.States.{SetState, State, held, claimed, isState}
+use Rattle.pool_state.specs.Decode.{mark, recordAt, base, leastWords, overRecords, nodeWords, over, damaged, sound, ReadSets, badSets, okSets, isHeader, readSets, judged, decode}
+use Rattle.nodes.proofs.Put.{length-put}
+use Rattle.nodes.proofs.Has.{has-put, put-has, has-head, has-at, has-cons, has-same}
+use Rattle.pool_state.proofs.Claims.{isState-family, isState-size, isState-sets, isState-claimed, used-claimed}
+use Rattle.pool_state.proofs.Header.{IsHeader, isHeader-header, header-room}
+use Rattle.pool_state.proofs.Holds.{has-three, length-nodeWords, recordOf, Records, records-put, Holds, readSets-of, readSets-holds}
+
+abbrev pub headerOf : State → List ℕ
+headerOf S = mark ∷ S .family ∷ length (S .sets) ∷ S .nodes ∷ []
+
+pub record Sound (w : List ℕ) (S : State) : Type 0 where
+  pub state : isState S ≡ true
+  pub long : leastWords (length (S .sets)) (S .nodes) ≤ length w
+  pub header : Has w 0 (headerOf S)
+  pub holds : Holds w (base (length (S .sets))) (S .nodes) (width (S .family)) 0 1 (S .sets)
+
+-- The state that words hold is decoded: their header is that of the state,
+pub record HeaderOf (w : List ℕ) (S : State) : Type 0 where
+  pub known : isHeader w ≡ true
+  pub family : getD w 1 0 ≡ S .family
+  pub sets : getD w 2 0 ≡ length (S .sets)
+  pub nodes : getD w 3 0 ≡ S .nodes
+  pub long : leastWords (length (S .sets)) (S .nodes) ≤ length w
+
+module _ {w : List ℕ} {S : State} (h : Sound w S) where
+  pub sound-header : HeaderOf w S
+  unfolding isHeader
+  sound-header =
+      let f : getD w 1 0 ≡ S .family = h .header .at 1 (omega arith) in
+      let s : getD w 2 0 ≡ length (S .sets) = h .header .at 2 (omega arith) in
+      let n : getD w 3 0 ≡ S .nodes = h .header .at 3 (omega arith) in
+      let l = le-leb (leastWords (length (S .sets)) (S .nodes)) (length w) (h .long) in
+      record { known = rw (has-head (h .header), f, s, n, isState-family S (h .state), isState-size S (h .state)) l; family = f; sets = s; nodes = n; long = h .long }
+
+  pub sound-decode : decode w ≡ sound S
+  unfolding decode
+  sound-decode =
+      let g = sound-header in
+      let r = readSets-of w (base (length (S .sets))) (S .nodes) (width (S .family)) 0 1 (S .sets) (omega arith) (h .holds) in
+      rw (g .known, g .family, g .sets, g .nodes, r, g .family, g .nodes, le-leb (claimed (S .sets)) (S .nodes) (isState-claimed S (h .state)))
+
+-- and what is decoded they hold.
+abbrev setsOf : List ℕ → ReadSets
+setsOf w = readSets w (base (getD w 2 0)) (getD w 3 0) (suc (width (getD w 1 0))) (getD w 2 0) 0 1
+
+abbrev stateOf : List ℕ → List SetState → State
+stateOf w xs = record { family = getD w 1 0; nodes = getD w 3 0; sets = xs }
+
+header-sound : {w : List ℕ} → IsHeader w → (xs : List SetState) → setsOf w ≡ okSets xs → leb (claimed xs) (getD w 3 0) ≡ true → Sound w (stateOf w xs)
+unfolding isState
+header-sound {w} p xs r c =
+    let h = readSets-holds w (base (getD w 2 0)) (getD w 3 0) (header-room p) (width (getD w 1 0)) (getD w 2 0) 0 1 xs (omega arith) (omega arith) (omega arith) r in
+    record {
+      state = rw (p .family, h .1, p .size, h .0 .rules, c);
+      long = rw (h .1) (p .long);
+      header = rw (h .1) (has-cons (p .marked) (has-three w 1 (omega arith)));
+      holds = rw (h .1) (h .0);
+    }
+
+never : (S : State) → damaged ≡ sound S → ⊥
+never S e = let z : _≡_ {A = ℕ} 0 1 = cc in omega arith
+
+pub decode-sound : (w : List ℕ) (S : State) → decode w ≡ sound S → Sound w S
+unfolding decode
+decode-sound w S e = go (isHeader w) (setsOf w) refl refl e
+  where
+    fit : (xs : List SetState) (c : Bool) → (c ≡ true → Sound w (stateOf w xs)) → cond c (sound (stateOf w xs)) damaged ≡ sound S → Sound w S
+    fit xs false k d = absurd (never S d)
+    fit xs true k d = let z : stateOf w xs ≡ S = cc in subst (λ (T : State). Sound w T) z (k refl)
+
+    go : (c : Bool) (r : ReadSets) → isHeader w ≡ c → setsOf w ≡ r → cond c (judged w r) damaged ≡ sound S → Sound w S
+    go false r h q d = absurd (never S d)
+    go true badSets h q d = absurd (never S d)
+    go true (okSets xs) h q d = fit xs (leb (claimed xs) (getD w 3 0)) (header-sound (isHeader-header w h) xs q) d
+
+-- Records written: what stands before them stays, they stand, and to write those that stand there changes nothing.
+length-overRecords : (w : List ℕ) (s i : ℕ) (xs : List SetState) → length (overRecords w s i xs) ≡ length w
+unfolding overRecords
+length-overRecords w s i [] = refl
+length-overRecords w s i (x ∷ xs) = length-overRecords (put w (recordAt s) (recordOf i x)) (s + 1) (i + held x) xs ∙ length-put w (recordAt s) (recordOf i x)
+
+has-overRecords : {w : List ℕ} {p : ℕ} {ys : List ℕ} (s i : ℕ) (xs : List SetState) → Has w p ys → p + length ys ≤ recordAt s → Has (overRecords w s i xs) p ys
+unfolding overRecords
+has-overRecords s i [] h le = h
+has-overRecords s i (x ∷ xs) h le = has-overRecords (s + 1) (i + held x) xs (has-put (recordAt s) (recordOf i x) h (λ k a b c d. omega arith)) (omega arith)
+
+overRecords-has : (w : List ℕ) (s i : ℕ) (xs : List SetState) → recordAt (s + length xs) ≤ length w → Records (overRecords w s i xs) s i xs
+unfolding overRecords
+overRecords-has w s i [] le = tt
+overRecords-has w s i (x ∷ xs) le =
+    let u = put w (recordAt s) (recordOf i x) in
+    let here : Has u (recordAt s) (recordOf i x) = put-has w (recordAt s) (recordOf i x) (omega arith) in
+    (has-overRecords (s + 1) (i + held x) xs here (omega arith), overRecords-has u (s + 1) (i + held x) xs (rw (length-put w (recordAt s) (recordOf i x)) (omega arith)))
+
+records-same : (w : List ℕ) (s i : ℕ) (xs : List SetState) → Records w s i xs → overRecords w s i xs ≡ w
+unfolding overRecords
+records-same w s i [] h = refl
+records-same w s i (x ∷ xs) h = rw (has-same (h .0)) (records-same w (s + 1) (i + held x) xs (h .1))
+
+-- A state written over words that are long enough is held,
+pub length-over : (w : List ℕ) (S : State) → length (over w S) ≡ length w
+unfolding over
+length-over w S =
+    length-put _ (base (length (S .sets))) (nodeWords (S .sets)) ∙ length-overRecords (put w 0 (headerOf S)) 0 1 (S .sets) ∙ length-put w 0 (headerOf S)
+
+pub over-sound : (w : List ℕ) (S : State) → isState S ≡ true → leastWords (length (S .sets)) (S .nodes) ≤ length w → Sound (over w S) S
+unfolding over
+over-sound w S e le =
+    let u = put w 0 (headerOf S) in
+    let r = overRecords u 0 1 (S .sets) in
+    let b = base (length (S .sets)) in
+    let lu : length u ≡ length w = length-put w 0 (headerOf S) in
+    let lr : length r ≡ length u = length-overRecords u 0 1 (S .sets) in
+    let few : 1 + length (nodeWords (S .sets)) ≤ suc (S .nodes) =
+    omega (arith, length-nodeWords (width (S .family)) (S .sets) (isState-sets S e), used-claimed (S .sets), isState-claimed S e) in
+    record {
+      state = e;
+      long = rw (length-over w S) le;
+      header = has-put b (nodeWords (S .sets)) (has-overRecords 0 1 (S .sets) (put-has w 0 (headerOf S) (omega arith)) (omega arith)) (λ k p q s t. omega arith);
+      holds = record {
+        rules = isState-sets S e;
+        records = records-put r 0 1 (S .sets) b (nodeWords (S .sets)) (λ k p q s t. omega arith) (overRecords-has u 0 1 (S .sets) (omega arith));
+        nodes = has-at (omega arith) (put-has r b (nodeWords (S .sets)) (omega arith));
+        within = rw (length-nodeWords (width (S .family)) (S .sets) (isState-sets S e)) at few;
+      };
+    }
+
+-- and to write over words the state that they hold changes nothing.
+pub sound-over : {w : List ℕ} {S : State} → Sound w S → over w S ≡ w
+unfolding over
+sound-over {w} {S} h = rw (has-same (h .header), records-same w 0 1 (S .sets) (h .holds .records)) (has-same (has-at (omega arith) (h .holds .nodes)))

@@ -1,0 +1,65 @@
+-- The header of a pool: what each test of `is_header` settles of `isHeader`, and what a header says, taken apart. Assumes nothing.
+use mathlib.Core.Path.{_≡_}
+use mathlib.Core.Bool.{true, false, _&&_, and-false}
+use mathlib.Core.List.{List}
+use Prim.Native.Nat.{ℕ, _≤_, _<_}
+use native.Mathlib.Omega.{arith}
+use lib.Dec.{eqb, leb}
+use lib.ListN.{length, getD}
+use borrow.Author.Tests.{lt-leb, eq-eqb, ne-eqb, leb-true, eqb-true}
+use Rattle.nets.proofs.Strings.{and-left, and-right}
+use Rattle.nodes.specs.Parse.{Room}
+use Rattle.pool_state.specs.States.{isFamily, isSize}
+use Rattle.pool_state.specs.Decode.{mark, base, leastWords, isHeader}
+use Rattle.pool_state.proofs.Claims.{Sized, isSize-is}
+
+-- The tests.
+module _ (w : List ℕ) where
+  pub isHeader-short : length w < 64 → false ≡ isHeader w
+  unfolding isHeader
+  isHeader-short lt = simp (lt-leb (leastWords (getD w 2 0) (getD w 3 0)) (length w) (omega arith), and-false)
+
+  pub isHeader-mark : (getD w 0 0 ≡ mark → ⊥) → false ≡ isHeader w
+  unfolding isHeader
+  isHeader-mark ne = rw (ne-eqb (getD w 0 0) mark ne)
+
+  pub isHeader-family : isFamily (getD w 1 0) ≡ false → false ≡ isHeader w
+  unfolding isHeader
+  isHeader-family e = simp (e, and-false)
+
+  pub isHeader-size : isSize (getD w 2 0) (getD w 3 0) ≡ false → false ≡ isHeader w
+  unfolding isHeader
+  isHeader-size e = simp (e, and-false)
+
+  pub isHeader-long : getD w 0 0 ≡ mark → isFamily (getD w 1 0) ≡ true → isSize (getD w 2 0) (getD w 3 0) ≡ true
+      → leb (leastWords (getD w 2 0) (getD w 3 0)) (length w) ≡ isHeader w
+  unfolding isHeader
+  isHeader-long m f s = rw (eq-eqb (getD w 0 0) mark m, f, s)
+
+-- What it says: the mark, a family, few sets and nodes, and words for them all.
+pub record IsHeader (w : List ℕ) : Type 0 where
+  pub marked : getD w 0 0 ≡ mark
+  pub family : isFamily (getD w 1 0) ≡ true
+  pub size : isSize (getD w 2 0) (getD w 3 0) ≡ true
+  pub sized : Sized (getD w 2 0) (getD w 3 0)
+  pub long : leastWords (getD w 2 0) (getD w 3 0) ≤ length w
+
+pub isHeader-header : (w : List ℕ) → isHeader w ≡ true → IsHeader w
+unfolding isHeader
+isHeader-header w e =
+    let a = eqb (getD w 0 0) mark in
+    let b = isFamily (getD w 1 0) in
+    let c = isSize (getD w 2 0) (getD w 3 0) in
+    let d = leb (leastWords (getD w 2 0) (getD w 3 0)) (length w) in
+    let f = and-left (a && b) (c && d) e in
+    let g = and-right (a && b) (c && d) e in
+    record {
+      marked = eqb-true (getD w 0 0) mark (and-left a b f);
+      family = and-right a b f;
+      size = and-left c d g;
+      sized = isSize-is (getD w 2 0) (getD w 3 0) (and-left c d g);
+      long = leb-true (leastWords (getD w 2 0) (getD w 3 0)) (length w) (and-right c d g);
+    }
+
+pub header-room : {w : List ℕ} → IsHeader w → Room w (base (getD w 2 0)) (getD w 3 0)
+header-room h = record { low = omega arith; few = omega arith; long = omega arith }

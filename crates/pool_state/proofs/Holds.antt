@@ -1,0 +1,239 @@
+-- Sets in words: `readSets` gives sets exactly where the words hold them (`Holds`), the records each at its place and the tries one behind the other.
+-- Assumes nothing.
+use mathlib.Core.Path.{_≡_, refl, sym, ap, _∙_, subst}
+use mathlib.Core.Bool.{Bool, true, false, cond}
+use mathlib.Core.List.{List, [], _∷_, _++_, append-assoc}
+use Prim.Native.Nat.{ℕ, zero, suc, _+_, _*_, _≤_, _<_}
+use native.Mathlib.Omega.{arith}
+use lib.Dec.{eqb}
+use lib.ListN.{length, getD, take, drop, length-append}
+use borrow.Author.Tests.{eq-eqb, ne-eqb, eqb-true}
+use Rattle.nets.specs.Bits.{Bits}
+use Rattle.nets.specs.Lists.{nodesL}
+use Rattle.nets.specs.Tries.{Trie, none, size, levels, listOf, trieOf}
+use Rattle.nets.proofs.Nodes.{nodesL-listOf}
+use Rattle.nets.proofs.TrieOf.{isList-within, levels-trieOf, listOf-trieOf, trieOf-listOf, isList-listOf}
+use Rattle.nodes.specs.Words.{put, Has, Apart, place, enc}
+use Rattle.nodes.specs.Parse.{Room, Read, bad, ok, parse, Stands}
+use Rattle.pool_state.specs.States.{SetState, held, used, isSet, areSets}
+use Rattle.pool_state.specs.Decode.{recordAt, rootAt, nodeWords, ReadSets, badSets, okSets, readSet, setOf, setBefore, readSets}
+use Rattle.pool_state.specs.Rules.{noSet, startOf}
+use Rattle.nodes.proofs.Has.{has-put, has-front, has-back, has-head, has-at, has-join}
+use Rattle.nodes.proofs.Tries.{length-enc}
+use Rattle.nodes.proofs.Parsed.{parse-of, none-stands, stands}
+use Rattle.pool_state.proofs.Claims.{limited, isSet-list, isSet-limited, areSets-head, areSets-tail}
+
+-- The trie of a set.
+module _ (v : ℕ) (x : SetState) (e : isSet v x ≡ true) where
+  pub set-listOf : listOf (trieOf (x .list)) ≡ x .list
+  set-listOf = listOf-trieOf v (x .list) (isSet-list v x e)
+
+  pub set-size : size (trieOf (x .list)) ≡ held x
+  set-size = sym (nodesL-listOf (trieOf (x .list))) ∙ ap nodesL set-listOf
+
+  set-levels : levels (trieOf (x .list)) ≤ suc v
+  set-levels = levels-trieOf v (x .list) (isList-within v (x .list) (isSet-list v x e))
+
+pub length-nodeWords : (v : ℕ) (xs : List SetState) → areSets v xs ≡ true → length (nodeWords xs) ≡ used xs
+unfolding nodeWords used
+length-nodeWords v [] e = refl
+length-nodeWords v (x ∷ xs) e =
+    omega (arith, length-append (enc (trieOf (x .list))) (nodeWords xs), length-enc (trieOf (x .list)), set-size v x (areSets-head v x xs e), length-nodeWords v xs (areSets-tail v x xs e))
+
+-- What stands in the words w, with the nodes 1..n from b on and lists of width v: the record of a set, records, a set, and sets; the first is set s and begins at node i.
+abbrev pub recordOf : ℕ → SetState → List ℕ
+recordOf i x = rootAt i (x .list) ∷ x .share ∷ x .limit ∷ []
+
+abbrev pub Records : List ℕ → ℕ → ℕ → List SetState → Type 0
+Records w s i [] = Unit
+Records w s i (x ∷ xs) = Has w (recordAt s) (recordOf i x) × Records w (s + 1) (i + held x) xs
+
+-- a write apart from them leaves the records
+pub records-put : (w : List ℕ) (s i : ℕ) (xs : List SetState) (q : ℕ) (ys : List ℕ) → Apart (recordAt s) (8 * length xs) q (length ys) → Records w s i xs → Records (put w q ys) s i xs
+records-put w s i [] q ys far h = tt
+records-put w s i (x ∷ xs) q ys far h = (
+  has-put q ys (h .0) (λ k a b c d. far k a (omega arith) c d),
+  records-put w (s + 1) (i + held x) xs q ys (λ k a b c d. far k (omega arith) (omega arith) c d) (h .1),
+)
+
+pub record HoldsSet (w : List ℕ) (b n v s i : ℕ) (x : SetState) : Type 0 where
+  pub rules : isSet v x ≡ true
+  pub here : Has w (recordAt s) (recordOf i x)
+  pub trie : Stands w b n (suc v) i (trieOf (x .list))
+
+pub record Holds (w : List ℕ) (b n v s i : ℕ) (xs : List SetState) : Type 0 where
+  pub rules : areSets v xs ≡ true
+  pub records : Records w s i xs
+  pub nodes : Has w (place b i) (nodeWords xs)
+  pub within : i + used xs ≤ suc n
+
+module _ {w : List ℕ} {b n v s i : ℕ} {x : SetState} {xs : List SetState} (pos : 1 ≤ i) where
+  holds-cons : HoldsSet w b n v s i x → Holds w b n v (s + 1) (i + held x) xs → Holds w b n v s i (x ∷ xs)
+  unfolding nodeWords used
+  holds-cons h g = record {
+    rules = rw (h .rules) (g .rules);
+    records = (h .here, g .records);
+    nodes = has-join (enc (trieOf (x .list))) (nodeWords xs) (h .trie .has) (has-at (omega (arith, length-enc (trieOf (x .list)), set-size v x (h .rules))) (g .nodes));
+    within = omega (arith, g .within);
+  }
+
+  holds-head : Holds w b n v s i (x ∷ xs) → HoldsSet w b n v s i x
+  unfolding nodeWords used
+  holds-head h =
+      let e = areSets-head v x xs (h .rules) in
+      record {
+        rules = e;
+        here = h .records .0;
+        trie = record {
+          deep = set-levels v x e;
+          within = omega (arith, set-size v x e, h .within);
+          has = has-front (enc (trieOf (x .list))) (nodeWords xs) (h .nodes);
+        };
+      }
+
+  holds-tail : Holds w b n v s i (x ∷ xs) → Holds w b n v (s + 1) (i + held x) xs
+  unfolding nodeWords used
+  holds-tail h =
+      let e = set-size v x (areSets-head v x xs (h .rules)) in
+      record {
+        rules = areSets-tail v x xs (h .rules);
+        records = h .records .1;
+        nodes = has-at (omega (arith, length-enc (trieOf (x .list)))) (has-back (enc (trieOf (x .list))) (nodeWords xs) (h .nodes));
+        within = omega (arith, h .within);
+      }
+
+-- The root's number tells the empty list from the others.
+pub rootAt-trie : (i : ℕ) (l : List Bits) → (trieOf l ≡ none → ⊥) → rootAt i l ≡ i
+unfolding trieOf
+rootAt-trie i [] ne = absurd (ne refl)
+rootAt-trie i (p ∷ l) ne = refl
+
+trieOf-some : (p : Bits) (l : List Bits) → listOf (trieOf (p ∷ l)) ≡ p ∷ l → trieOf (p ∷ l) ≡ none → ⊥
+unfolding listOf levels
+trieOf-some p l e z = let q : listOf none ≡ p ∷ l = rw z at e in let y : _≡_ {A = ℕ} 0 1 = cc in omega arith
+
+-- A set is read where the words hold it,
+readSet-root : (w : List ℕ) (b n f s i : ℕ) (l : List Bits) → 1 ≤ i → getD w (recordAt s) 0 ≡ rootAt i l → listOf (trieOf l) ≡ l → Stands w b n f i (trieOf l) → readSet w b n f s i ≡ ok (trieOf l)
+unfolding readSet trieOf
+readSet-root w b n f s i [] pos r e h = rw (eq-eqb (getD w (recordAt s) 0) 0 r)
+readSet-root w b n f s i (p ∷ l) pos r e h =
+    rw (r, ne-eqb i 0 (omega arith), eq-eqb i i refl) (parse-of w b n f (trieOf (p ∷ l)) i pos (trieOf-some p l e) h)
+
+module _ {w : List ℕ} {b n v s i : ℕ} {x : SetState} (pos : 1 ≤ i) (h : HoldsSet w b n v s i x) where
+  readSet-of : readSet w b n (suc v) s i ≡ ok (trieOf (x .list))
+  readSet-of = readSet-root w b n (suc v) s i (x .list) pos (has-head (h .here)) (set-listOf v x (h .rules)) (h .trie)
+
+  setOf-of : setOf w s (trieOf (x .list)) ≡ x
+  setOf-of = rw (h .here .at 1 (omega arith), h .here .at 2 (omega arith), set-listOf v x (h .rules))
+
+readSets-step : (w : List ℕ) (b n f m s i : ℕ) (t : Trie) → readSet w b n f s i ≡ ok t → readSets w b n f (suc m) s i ≡ setBefore (setOf w s t) (readSets w b n f m (s + 1) (i + size t))
+unfolding readSets
+readSets-step w b n f m s i t e = rw (e, readSets)
+
+pub readSets-of : (w : List ℕ) (b n v s i : ℕ) (xs : List SetState) → 1 ≤ i → Holds w b n v s i xs → readSets w b n (suc v) (length xs) s i ≡ okSets xs
+unfolding readSets
+readSets-of w b n v s i [] pos h = refl
+readSets-of w b n v s i (x ∷ xs) pos h =
+    let g = holds-head pos h in
+    let e = readSets-of w b n v (s + 1) (i + held x) xs (omega arith) (holds-tail pos h) in
+    readSets-step w b n (suc v) (length xs) s i (trieOf (x .list)) (readSet-of pos g)
+    ∙ rw (setOf-of pos g, set-size v x (g .rules), e, isSet-limited v x (g .rules))
+
+-- and what is read stands there.
+never-read : (t : Trie) → bad ≡ ok t → ⊥
+never-read t e = let z : _≡_ {A = ℕ} 0 1 = cc in omega arith
+
+never-sets : (xs : List SetState) → badSets ≡ okSets xs → ⊥
+never-sets xs e = let z : _≡_ {A = ℕ} 0 1 = cc in omega arith
+
+setBefore-ok : (x : SetState) (r : ReadSets) (xs : List SetState) → setBefore x r ≡ okSets xs → (ys : List SetState) × (r ≡ okSets ys) × (limited x ≡ true) × (x ∷ ys ≡ xs)
+setBefore-ok x badSets xs e = absurd (never-sets xs e)
+setBefore-ok x (okSets ys) xs e = go (limited x) refl e
+  where
+    go : (c : Bool) → limited x ≡ c → cond c (okSets (x ∷ ys)) badSets ≡ okSets xs → (zs : List SetState) × (okSets ys ≡ okSets zs) × (limited x ≡ true) × (x ∷ zs ≡ xs)
+    go true q h = (ys, refl, q, cc)
+    go false q h = absurd (never-sets xs h)
+
+-- three words, as they are read
+pub has-three : (w : List ℕ) (p : ℕ) → p + 3 ≤ length w → Has w p (getD w p 0 ∷ getD w (p + 1) 0 ∷ getD w (p + 2) 0 ∷ [])
+has-three w p le = record { fits = le; at = go }
+  where
+    go : (k : ℕ) → k < 3 → getD w (p + k) 0 ≡ getD (getD w p 0 ∷ getD w (p + 1) 0 ∷ getD w (p + 2) 0 ∷ []) k 0
+    go zero l = let e : p + 0 ≡ p = omega arith in rw e
+    go (suc zero) l = refl
+    go (suc (suc zero)) l = refl
+    go (suc (suc (suc k))) l = absurd (omega arith)
+
+module _ (w : List ℕ) (b n : ℕ) (room : Room w b n) where
+  readSet-stands : (f s i : ℕ) (t : Trie) → 1 ≤ i → i ≤ suc n → readSet w b n f s i ≡ ok t → (getD w (recordAt s) 0 ≡ rootAt i (listOf t)) × Stands w b n f i t
+  unfolding readSet levels listOf
+  readSet-stands f s i t pos le e = go (eqb (getD w (recordAt s) 0) 0) (eqb (getD w (recordAt s) 0) i) refl refl e
+    where
+      go : (c d : Bool) → eqb (getD w (recordAt s) 0) 0 ≡ c → eqb (getD w (recordAt s) 0) i ≡ d → cond c (ok none) (cond d (parse w b n f i) bad) ≡ ok t
+          → (getD w (recordAt s) 0 ≡ rootAt i (listOf t)) × Stands w b n f i t
+      go true d z q h =
+          let a : none ≡ t = cc in
+          subst (λ (u : Trie). (getD w (recordAt s) 0 ≡ rootAt i (listOf u)) × Stands w b n f i u) a (eqb-true (getD w (recordAt s) 0) 0 z, none-stands w b n f i le (omega (arith, room .long)))
+      go false true z q h =
+          let a = stands w b n room f i t pos h in
+          (eqb-true (getD w (recordAt s) 0) i q ∙ sym (rootAt-trie i (listOf t) (λ r. a .1 (sym (trieOf-listOf t) ∙ r))), a .0)
+      go false false z q h = absurd (never-read t h)
+
+  module _ (v m s i : ℕ) (pos : 1 ≤ i) (le : i ≤ suc n) (fits : recordAt (s + suc m) ≤ length w) where
+    readSet-holds : (t : Trie) → readSet w b n (suc v) s i ≡ ok t → limited (setOf w s t) ≡ true → HoldsSet w b n v s i (setOf w s t)
+    readSet-holds t e r =
+        let h = readSet-stands (suc v) s i t pos le e in
+        record {
+          rules = rw (isList-listOf v t (h .1 .deep)) r;
+          here = rw (h .0) at (has-three w (recordAt s) (omega arith));
+          trie = rw (trieOf-listOf t) (h .1);
+        }
+
+    readSets-first : (xs : List SetState) → readSets w b n (suc v) (suc m) s i ≡ okSets xs
+        → (x : SetState) × (ys : List SetState) × HoldsSet w b n v s i x × (readSets w b n (suc v) m (s + 1) (i + held x) ≡ okSets ys) × (x ∷ ys ≡ xs)
+    unfolding readSets
+    readSets-first xs e = go (readSet w b n (suc v) s i) refl
+      where
+        go : (r : Read) → readSet w b n (suc v) s i ≡ r
+            → (x : SetState) × (ys : List SetState) × HoldsSet w b n v s i x × (readSets w b n (suc v) m (s + 1) (i + held x) ≡ okSets ys) × (x ∷ ys ≡ xs)
+        go bad q = absurd (never-sets xs (rw (q, readSets) at e))
+        go (ok t) q =
+            let a = setBefore-ok (setOf w s t) (readSets w b n (suc v) m (s + 1) (i + size t)) xs (sym (readSets-step w b n (suc v) m s i t q) ∙ e) in
+            (setOf w s t, a .0, readSet-holds t q (a .2), rw (nodesL-listOf t) (a .1), a .3)
+
+  pub readSets-holds : (v m s i : ℕ) (xs : List SetState) → 1 ≤ i → i ≤ suc n → recordAt (s + m) ≤ length w → readSets w b n (suc v) m s i ≡ okSets xs → Holds w b n v s i xs × (length xs ≡ m)
+  unfolding readSets nodeWords used
+  readSets-holds v zero s i xs pos le fits e =
+      let a : [] ≡ xs = cc in
+      let empty : Has w (place b i) [] = record { fits = omega (arith, room .long); at = λ k l. absurd (omega arith) } in
+      subst (λ ys. Holds w b n v s i ys × (length ys ≡ 0)) a (record { rules = refl; records = tt; nodes = empty; within = omega arith }, refl)
+  readSets-holds v (suc m) s i xs pos le fits e =
+      let p = readSets-first v m s i pos le fits xs e in
+      let h = p .2 in
+      let g = readSets-holds v m (s + 1) (i + held (p .0)) (p .1) (omega arith) (omega (arith, h .trie .within, set-size v (p .0) (h .rules))) (omega arith) (p .3) in
+      subst (λ ys. Holds w b n v s i ys × (length ys ≡ suc m)) (p .4) (holds-cons pos h (g .0), ap suc (g .1))
+
+-- Set k of sets in words, and the words of the nodes before it and behind it.
+pub holds-at : {w : List ℕ} {b n v i : ℕ} (s k : ℕ) (xs : List SetState) → 1 ≤ i → k < length xs → Holds w b n v s i xs → HoldsSet w b n v (s + k) (startOf k i xs) (getD xs k noSet)
+holds-at s k [] pos lt h = absurd (omega arith)
+holds-at s zero (x ∷ xs) pos lt h = let e : s + 0 ≡ s = omega arith in rw e (holds-head pos h)
+holds-at s (suc k) (x ∷ xs) pos lt h = let e : s + suc k ≡ s + 1 + k = omega arith in rw e (holds-at (s + 1) k xs (omega arith) (omega arith) (holds-tail pos h))
+
+pub nodeWords-at : (k : ℕ) (xs : List SetState) → k < length xs → nodeWords xs ≡ nodeWords (take k xs) ++ (enc (trieOf (getD xs k noSet .list)) ++ nodeWords (drop (suc k) xs))
+unfolding nodeWords
+nodeWords-at k [] lt = absurd (omega arith)
+nodeWords-at zero (x ∷ xs) lt = refl
+nodeWords-at (suc k) (x ∷ xs) lt = rw (nodeWords-at k xs (omega arith)) (sym (append-assoc (enc (trieOf (x .list))) (nodeWords (take k xs)) _))
+
+pub startOf-is : (v k i : ℕ) (xs : List SetState) → areSets v xs ≡ true → k < length xs → startOf k i xs ≡ i + length (nodeWords (take k xs))
+unfolding nodeWords
+startOf-is v k i [] e lt = absurd (omega arith)
+startOf-is v zero i (x ∷ xs) e lt = omega arith
+startOf-is v (suc k) i (x ∷ xs) e lt =
+    omega (
+      arith,
+      startOf-is v k (i + held x) xs (areSets-tail v x xs e) (omega arith),
+      length-append (enc (trieOf (x .list))) (nodeWords (take k xs)),
+      length-enc (trieOf (x .list)),
+      set-size v x (areSets-head v x xs e),
+    )

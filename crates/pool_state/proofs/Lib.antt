@@ -1,0 +1,22 @@
+-- The laws of a pool, from the bottom up.
+-- States: their rules and sums, and another list in one of the sets.
+pub mod Claims
+pub mod WithList
+-- The header and layout, by the tests and the loops of the code.
+pub mod Header
+pub mod Setups
+-- Words that hold a state: it is decoded there and nowhere else.
+pub mod Holds
+pub mod Encoded
+pub mod Decoded
+-- What a pass over a pool has seen of one set, and of another beside it.
+pub mod Seen
+pub mod Beside
+-- A change of one set: judged, linked again, written, answered.
+pub mod Judged
+pub mod Relinked
+pub mod Changed
+pub mod Returns
+-- What each call comes to: one outcome, and what it leaves.
+pub mod Determined
+pub mod Leaves

@@ -1,0 +1,218 @@
+-- Layout: a turn of each of its loops, whose invariant says that what is still to come completes the whole; the rules of a setup, taken apart; the words that it leaves.
+-- Assumes nothing.
+use mathlib.Core.Bool.{true, false, _&&_, and-false}
+use mathlib.Core.List.{List, [], _∷_}
+use mathlib.Core.Path.{_≡_, refl, sym, ap, _∙_}
+use Prim.Native.Nat.{ℕ, suc, _+_, _-_, _≤_, _<_}
+use native.Mathlib.Numerals.{add-one}
+use native.Mathlib.Omega.{arith}
+use lib.Dec.{eqb, leb}
+use lib.ListN.{length, getD, set, drop, replicate, length-set, drop-of-length-le}
+use lib.Seq.{drop-cons}
+use borrow.Author.Tests.{le-leb, lt-leb, eq-eqb, ne-eqb, leb-true, eqb-true}
+use Rattle.nets.specs.Tries.{trieOf}
+use Rattle.nets.specs.Lists.{nodesL}
+use Rattle.nets.specs.declared.Refusal.the-variants.{BadSetup}
+use Rattle.nets.proofs.Strings.{and-left, and-right, bool-iff}
+use Rattle.nodes.specs.Words.{put, enc}
+use Rattle.pool_state.specs.States.{isFamily, isSize}
+use Rattle.pool_state.specs.Decode.{mark, recordAt, leastWords, overRecords, nodeWords, over}
+use Rattle.pool_state.specs.Rules.{withinLimits, total, sharesFit, isSetup, layoutNo, emptySets, laid, Laid}
+use Rattle.pool_state.specs.declared.Answer.the-variants as answer
+use Rattle.nodes.proofs.Put.{put-nil, set-put, put-behind-at}
+
+-- the total of a share x and others, against n nodes
+module _ (n x : ℕ) (xs : List ℕ) where
+  total-past : n < x → leb (total (x ∷ xs)) n ≡ false
+  unfolding total
+  total-past l = lt-leb (x + total xs) n (omega arith)
+
+  total-rest : x ≤ n → leb (total (x ∷ xs)) n ≡ leb (total xs) (n - x)
+  unfolding total
+  total-rest l =
+      bool-iff (leb (x + total xs) n) (leb (total xs) (n - x))
+      (λ h. le-leb (total xs) (n - x) (omega (arith, leb-true (x + total xs) n h)))
+      (λ h. le-leb (x + total xs) n (omega (arith, leb-true (total xs) (n - x) h)))
+
+-- shares_fit: the shares from s on, for which so many nodes are left
+pub record Sharing (sets nodes : ℕ) (shares limits : List ℕ) (left s : ℕ) : Type 0 where
+  pub share : length shares ≡ sets
+  pub limit : length limits ≡ sets
+  pub within : s ≤ sets
+  pub rest : (withinLimits (drop s shares) (drop s limits) && leb (total (drop s shares)) left) ≡ sharesFit sets nodes shares limits
+
+module _ (sets nodes : ℕ) (shares limits : List ℕ) where
+  pub sharesFit-no-share : (length shares ≡ sets → ⊥) → false ≡ sharesFit sets nodes shares limits
+  unfolding sharesFit
+  sharesFit-no-share f = rw (ne-eqb (length shares) sets f)
+
+  pub sharesFit-no-limit : length shares ≡ sets → (length limits ≡ sets → ⊥) → false ≡ sharesFit sets nodes shares limits
+  unfolding sharesFit
+  sharesFit-no-limit e f = rw (eq-eqb (length shares) sets e, ne-eqb (length limits) sets f)
+
+  pub sharesFit-start : length shares ≡ sets → length limits ≡ sets → Sharing sets nodes shares limits nodes 0
+  unfolding sharesFit
+  sharesFit-start e f = record { share = e; limit = f; within = omega arith; rest = rw (eq-eqb (length shares) sets e, eq-eqb (length limits) sets f) }
+
+module _ {sets nodes : ℕ} {shares limits : List ℕ} {left s : ℕ} (h : Sharing sets nodes shares limits left s) where
+  module _ (l : s < sets) where
+    sharesFit-here :
+        let x = getD shares s 0 in
+        (leb x (getD limits s 0) && withinLimits (drop (s + 1) shares) (drop (s + 1) limits) && leb (total (x ∷ drop (s + 1) shares)) left)
+        ≡ sharesFit sets nodes shares limits
+    sharesFit-here =
+        let k : s < length shares = omega arith in
+        let m : s < length limits = omega arith in
+        rw (add-one s) (rw (drop-cons shares s 0 k, drop-cons limits s 0 m) at (h .rest))
+
+    pub sharesFit-over : getD limits s 0 < getD shares s 0 → false ≡ sharesFit sets nodes shares limits
+    sharesFit-over g = rw (lt-leb (getD shares s 0) (getD limits s 0) g) at sharesFit-here
+
+    pub sharesFit-past : left < getD shares s 0 → false ≡ sharesFit sets nodes shares limits
+    sharesFit-past g = rw (total-past left (getD shares s 0) (drop (s + 1) shares) g, and-false) at sharesFit-here
+
+    pub sharesFit-turn : getD shares s 0 ≤ getD limits s 0 → getD shares s 0 ≤ left → Sharing sets nodes shares limits (left - getD shares s 0) (s + 1)
+    sharesFit-turn g k = record {
+      share = h .share;
+      limit = h .limit;
+      within = omega arith;
+      rest = rw (le-leb (getD shares s 0) (getD limits s 0) g, total-rest left (getD shares s 0) (drop (s + 1) shares) k) at sharesFit-here;
+    }
+
+  pub sharesFit-end : sets ≤ s → true ≡ sharesFit sets nodes shares limits
+  unfolding total
+  sharesFit-end l = let k : length shares ≤ s = omega arith in sym (le-leb 0 left (omega arith)) ∙ rw (drop-of-length-le shares k) at (h .rest)
+
+-- is_setup: the rules that a setup keeps, taken apart
+pub record Kept (words f sets nodes : ℕ) (shares limits : List ℕ) : Type 0 where
+  pub family : isFamily f ≡ true
+  pub size : isSize sets nodes ≡ true
+  pub room : leastWords sets nodes ≤ words
+  pub share : length shares ≡ sets
+  pub limit : length limits ≡ sets
+  pub within : withinLimits shares limits ≡ true
+  pub total : total shares ≤ nodes
+
+pub isSetup-kept : (words family sets nodes : ℕ) (shares limits : List ℕ) → isSetup words family sets nodes shares limits ≡ true → Kept words family sets nodes shares limits
+unfolding isSetup sharesFit
+isSetup-kept words family sets nodes shares limits e =
+    let p = isFamily family && isSize sets nodes in
+    let q = leb (leastWords sets nodes) words in
+    let a = eqb (length shares) sets in
+    let b = eqb (length limits) sets in
+    let c = withinLimits shares limits in
+    let d = leb (total shares) nodes in
+    let f = and-left (p && q) (a && b && (c && d)) e in
+    let g = and-right (p && q) (a && b && (c && d)) e in
+    let h = and-left (a && b) (c && d) g in
+    let k = and-right (a && b) (c && d) g in
+    record {
+      family = and-left (isFamily family) (isSize sets nodes) (and-left p q f);
+      size = and-right (isFamily family) (isSize sets nodes) (and-left p q f);
+      room = leb-true (leastWords sets nodes) words (and-right p q f);
+      share = eqb-true (length shares) sets (and-left a b h);
+      limit = eqb-true (length limits) sets (and-right a b h);
+      within = and-left c d k;
+      total = leb-true (total shares) nodes (and-right c d k);
+    }
+
+-- stores one behind the other are one write
+put-set : (w : List ℕ) (p q v : ℕ) (xs : List ℕ) → q ≡ p + 1 → put (set w p v) q xs ≡ put w p (v ∷ xs)
+put-set w p q v xs e = rw (set-put w p v) (put-behind-at w p q (v ∷ []) xs e)
+
+pub set-header : (w : List ℕ) (a b c d : ℕ) → set (set (set (set w 0 a) 1 b) 2 c) 3 d ≡ put w 0 (a ∷ b ∷ c ∷ d ∷ [])
+set-header w a b c d =
+    set-put (set (set (set w 0 a) 1 b) 2 c) 3 d
+    ∙ put-set (set (set w 0 a) 1 b) 2 3 c (d ∷ []) refl
+    ∙ put-set (set w 0 a) 1 2 b (c ∷ d ∷ []) refl
+    ∙ put-set w 0 1 a (b ∷ c ∷ d ∷ []) refl
+
+set-record : (w : List ℕ) (p x y : ℕ) → set (set (set w p 0) (p + 1) x) (p + 2) y ≡ put w p (0 ∷ x ∷ y ∷ [])
+set-record w p x y =
+    set-put (set (set w p 0) (p + 1) x) (p + 2) y
+    ∙ put-set (set w p 0) (p + 1) (p + 2) x (y ∷ []) (omega arith)
+    ∙ put-set w p (p + 1) 0 (x ∷ y ∷ []) refl
+
+-- clear: the words from i on, up to n
+pub record Clearing (n : ℕ) (w₀ w : List ℕ) (i : ℕ) : Type 0 where
+  pub within : i ≤ n
+  pub long : length w ≡ length w₀
+  pub rest : put w i (replicate (n - i) 0) ≡ put w₀ 0 (replicate n 0)
+
+pub clear-start : (n : ℕ) (w : List ℕ) → Clearing n w w 0
+clear-start n w = let e : n - 0 ≡ n = omega arith in record { within = omega arith; long = refl; rest = rw e }
+
+module _ {n : ℕ} {w₀ w : List ℕ} {i : ℕ} (h : Clearing n w₀ w i) where
+  pub clear-turn : i < n → Clearing n w₀ (set w i 0) (i + 1)
+  clear-turn l = record {
+    within = omega arith;
+    long = rw (length-set w i 0) (h .long);
+    rest = let e : n - i ≡ suc (n - (i + 1)) = omega arith in put-set w i (i + 1) 0 (replicate (n - (i + 1)) 0) refl ∙ rw e at (h .rest);
+  }
+
+  pub clear-end : n ≤ i → w ≡ put w₀ 0 (replicate n 0)
+  clear-end l = let e : n - i ≡ 0 = omega arith in sym (put-nil w i) ∙ rw e at (h .rest)
+
+-- records: the sets from s on
+pub record Recording (shares limits w₀ w : List ℕ) (s : ℕ) : Type 0 where
+  pub within : s ≤ length shares
+  pub long : length w ≡ length w₀
+  pub rest : overRecords w s 1 (emptySets (drop s shares) (drop s limits)) ≡ overRecords w₀ 0 1 (emptySets shares limits)
+
+pub records-start : (shares limits w : List ℕ) → Recording shares limits w w 0
+records-start shares limits w = record { within = omega arith; long = refl; rest = refl }
+
+overRecords-empty : (w : List ℕ) (s x y : ℕ) (shares limits : List ℕ) →
+    overRecords (put w (recordAt s) (0 ∷ x ∷ y ∷ [])) (s + 1) 1 (emptySets shares limits) ≡ overRecords w s 1 (emptySets (x ∷ shares) (y ∷ limits))
+unfolding overRecords nodesL
+overRecords-empty w s x y shares limits = refl
+
+module _ {shares limits w₀ w : List ℕ} {s : ℕ} (h : Recording shares limits w₀ w s) where
+  pub records-turn : length shares ≡ length limits → s < length shares →
+      Recording shares limits w₀ (set (set (set w (recordAt s) 0) (recordAt s + 1) (getD shares s 0)) (recordAt s + 2) (getD limits s 0)) (s + 1)
+  records-turn e l = record {
+    within = omega arith;
+    long = simp length-set (h .long);
+    rest =
+        let k : s < length limits = omega arith in
+        let r = rw (drop-cons shares s 0 l, drop-cons limits s 0 k, ← overRecords-empty) at (h .rest) in
+        rw (set-record w (recordAt s) (getD shares s 0) (getD limits s 0)) (rw (← add-one s) at r);
+  }
+
+  pub records-end : length shares ≤ s → w ≡ overRecords w₀ 0 1 (emptySets shares limits)
+  unfolding overRecords
+  records-end l = rw (drop-of-length-le shares l) at (h .rest)
+
+-- empty sets: as many as there are shares, and no node
+pub length-emptySets : (shares limits : List ℕ) → length shares ≡ length limits → length (emptySets shares limits) ≡ length shares
+length-emptySets [] limits e = refl
+length-emptySets (x ∷ shares) [] e = absurd (omega arith)
+length-emptySets (x ∷ shares) (y ∷ limits) e = ap suc (length-emptySets shares limits (omega arith))
+
+nodeWords-emptySets : (shares limits : List ℕ) → nodeWords (emptySets shares limits) ≡ []
+unfolding nodeWords trieOf enc
+nodeWords-emptySets [] limits = refl
+nodeWords-emptySets (x ∷ shares) [] = refl
+nodeWords-emptySets (x ∷ shares) (y ∷ limits) = nodeWords-emptySets shares limits
+
+-- layout: the two answers, by the test and what the writes leave
+module _ (w : List ℕ) (family sets nodes : ℕ) (shares limits : List ℕ) where
+  laid-is : length shares ≡ sets → length limits ≡ sets →
+      laid w family sets nodes shares limits
+      ≡ overRecords (put (put w 0 (replicate (leastWords sets nodes) 0)) 0 (mark ∷ family ∷ sets ∷ nodes ∷ [])) 0 1 (emptySets shares limits)
+  unfolding laid over
+  laid-is e f =
+      let n : length (emptySets shares limits) ≡ sets = length-emptySets shares limits (e ∙ sym f) ∙ e in
+      rw (n, nodeWords-emptySets shares limits, put-nil)
+
+  pub layout-granted : isSetup (length w) family sets nodes shares limits ≡ true → (n : ℕ) (u v z : List ℕ) → n ≡ leastWords sets nodes →
+      u ≡ put w 0 (replicate n 0) → v ≡ put u 0 (mark ∷ family ∷ sets ∷ nodes ∷ []) → z ≡ overRecords v 0 1 (emptySets shares limits) →
+      Laid w family sets nodes shares limits (answer.Granted 0) z
+  unfolding layoutNo
+  layout-granted h n u v z e a b c =
+      let k = isSetup-kept (length w) family sets nodes shares limits h in
+      record { answer = rw h; words = rw (h, laid-is (k .share) (k .limit), ← e, ← a, ← b) c }
+
+  pub layout-refused : isSetup (length w) family sets nodes shares limits ≡ false → Laid w family sets nodes shares limits (answer.Refused BadSetup) w
+  unfolding layoutNo
+  layout-refused h = record { answer = rw h; words = rw h }

@@ -1,0 +1,88 @@
+-- Words and states. Words 0 to 3 of a pool are a mark, the family, the sets and the nodes. The record of set s stands at 64 + 8 s: the number of its root (0: the
+-- list is empty), its share, its limit. The nodes stand from 64 + 8 sets on, node i in one word: the tries of the sets one behind the other, each in preorder.
+--
+--   over w S      the words w with the state S written over them
+--   decode w      the state that the words hold, or damaged
+use mathlib.Core.Bool.{Bool, cond, _&&_}
+use mathlib.Core.List.{List, [], _∷_, _++_}
+use Prim.Native.Nat.{ℕ, zero, suc, _+_, _*_}
+use lib.Dec.{eqb, leb}
+use lib.ListN.{length, getD}
+use Rattle.nets.specs.Bits.{Bits}
+use Rattle.nets.specs.Tries.{Trie, none, size, listOf, trieOf}
+use Rattle.nets.specs.Networks.{width}
+use Rattle.nodes.specs.Words.{put, enc}
+use Rattle.nodes.specs.Parse.{Read, bad, ok, parse}
+use Rattle.pool_state.specs.States.{SetState, State, held, claimed, isFamily, isSize}
+
+abbrev pub mark : ℕ
+mark = 1296126540
+
+abbrev pub recordAt : ℕ → ℕ
+recordAt s = 64 + 8 * s
+
+-- where the nodes begin, and the words that a pool needs
+abbrev pub base : ℕ → ℕ
+base sets = 64 + 8 * sets
+
+abbrev pub leastWords : ℕ → ℕ → ℕ
+leastWords sets nodes = 64 + 8 * sets + 8 * nodes
+
+-- the number of the root of a list that stands at node i
+abbrev pub rootAt : ℕ → List Bits → ℕ
+rootAt i [] = 0
+rootAt i (p ∷ l) = i
+
+-- the records from set s on, the first of them with its nodes from number i on
+unfoldable pub overRecords : List ℕ → ℕ → ℕ → List SetState → List ℕ
+overRecords w s i [] = w
+overRecords w s i (x ∷ xs) = overRecords (put w (recordAt s) (rootAt i (x .list) ∷ x .share ∷ x .limit ∷ [])) (s + 1) (i + held x) xs
+
+unfoldable pub nodeWords : List SetState → List ℕ
+nodeWords [] = []
+nodeWords (x ∷ xs) = enc (trieOf (x .list)) ++ nodeWords xs
+
+unfoldable pub over : List ℕ → State → List ℕ
+over w S =
+    put (overRecords (put w 0 (mark ∷ S .family ∷ length (S .sets) ∷ S .nodes ∷ [])) 0 1 (S .sets)) (base (length (S .sets))) (nodeWords (S .sets))
+
+pub data Decoded : Type 0 where
+  damaged : Decoded
+  sound : State → Decoded
+
+pub data ReadSets : Type 0 where
+  badSets : ReadSets
+  okSets : List SetState → ReadSets
+
+unfoldable pub isHeader : List ℕ → Bool
+isHeader w =
+    (eqb (getD w 0 0) mark && isFamily (getD w 1 0))
+    && (isSize (getD w 2 0) (getD w 3 0) && leb (leastWords (getD w 2 0) (getD w 3 0)) (length w))
+
+-- the trie of set s, where the next number that is not placed is i, and the node of a set begins there or nowhere
+unfoldable pub readSet : List ℕ → ℕ → ℕ → ℕ → ℕ → ℕ → Read
+readSet w b n f s i = cond (eqb (getD w (recordAt s) 0) 0) (ok none) (cond (eqb (getD w (recordAt s) 0) i) (parse w b n f i) bad)
+
+abbrev pub setOf : List ℕ → ℕ → Trie → SetState
+setOf w s t = record { share = getD w (recordAt s + 1) 0; limit = getD w (recordAt s + 2) 0; list = listOf t }
+
+-- the set is within its rules, and before the others
+abbrev pub setBefore : SetState → ReadSets → ReadSets
+setBefore x badSets = badSets
+setBefore x (okSets xs) = cond (leb (x .share) (x .limit) && leb (held x) (x .limit)) (okSets (x ∷ xs)) badSets
+
+-- m sets, from set s and number i on
+unfoldable pub readSets : List ℕ → ℕ → ℕ → ℕ → ℕ → ℕ → ℕ → ReadSets
+readSets w b n f zero s i = okSets []
+readSets w b n f (suc m) s i =
+    elim (readSet w b n f s i) [
+      | bad ↦ badSets
+      | ok t ↦ setBefore (setOf w s t) (readSets w b n f m (s + 1) (i + size t))
+    ]
+
+abbrev pub judged : List ℕ → ReadSets → Decoded
+judged w badSets = damaged
+judged w (okSets xs) = cond (leb (claimed xs) (getD w 3 0)) (sound (record { family = getD w 1 0; nodes = getD w 3 0; sets = xs })) damaged
+
+unfoldable pub decode : List ℕ → Decoded
+decode w = cond (isHeader w) (judged w (readSets w (base (getD w 2 0)) (getD w 3 0) (suc (width (getD w 1 0))) (getD w 2 0) 0 1)) damaged

@@ -1,0 +1,54 @@
+-- The steps that every changing call shares: what they ask, and what they leave. The laws of proofs/Changed.antt tie them to the state afterwards.
+--
+--   Surveyed w k v               v is what a pass over the sound pool found out for its set k
+--   behindAt w b v               the words of the sets behind that set, in words whose nodes begin at b;  Gap w b v n: what it takes to move them to where they stand behind n nodes
+--   relinked w k i old new       the words with the roots right after set k, which begins at node i, went from old nodes to new ones
+--   Relink w k old new           what it takes to write them
+use mathlib.Core.Path.{_≡_}
+use mathlib.Core.Bool.{true, cond}
+use mathlib.Core.List.{List, [], _∷_}
+use Prim.Native.Nat.{ℕ, zero, suc, _+_, _-_, _≤_, _<_}
+use lib.Dec.{eqb}
+use lib.ListN.{length, getD, take, drop}
+use Rattle.nodes.specs.Words.{put, place}
+use Rattle.pool_state.specs.Decode.{recordAt, base, decode}
+use Rattle.pool_state.specs.Rules.{surveyOf}
+use Rattle.pool_state.specs.declared.Survey.{Survey}
+
+pub record Surveyed (w : List ℕ) (k : ℕ) (v : Survey) : Type 0 where
+  pub found : v ≡ surveyOf (decode w) k
+  pub sound : v .sound ≡ true
+  pub known : k < getD w 2 0
+
+unfoldable pub behindAt : List ℕ → ℕ → Survey → List ℕ
+behindAt w b v = take (v .used + 1 - (v .at + v .held)) (drop (place b (v .at + v .held)) w)
+
+pub record Gap (w : List ℕ) (b : ℕ) (v : Survey) (n : ℕ) : Type 0 where
+  pub first : 1 ≤ v .at
+  pub last : v .at + v .held ≤ v .used + 1
+  pub long : b + v .used ≤ length w
+  pub room : b + v .used + n ≤ length w + v .held
+
+-- the root of the set that changed, and a root behind it
+abbrev pub ownRoot : ℕ → ℕ → ℕ
+ownRoot i new = cond (eqb new 0) 0 i
+
+abbrev pub movedRoot : ℕ → ℕ → ℕ → ℕ
+movedRoot old new r = cond (eqb r 0) 0 (r + new - old)
+
+-- the roots of m sets from set s on
+unfoldable pub movedRoots : List ℕ → ℕ → ℕ → ℕ → ℕ → List ℕ
+movedRoots w old new zero s = w
+movedRoots w old new (suc m) s = movedRoots (put w (recordAt s) (movedRoot old new (getD w (recordAt s) 0) ∷ [])) old new m (s + 1)
+
+unfoldable pub relinked : List ℕ → ℕ → ℕ → ℕ → ℕ → List ℕ
+relinked w k i old new = movedRoots (put w (recordAt k) (ownRoot i new ∷ [])) old new (getD w 2 0 - suc k) (k + 1)
+
+-- a root can move; the records are there, and the roots behind set k can move
+abbrev pub Movable : ℕ → ℕ → ℕ → Type 0
+Movable old new r = (r ≡ 0 → ⊥) → (old ≤ r) × (r + new < 4294967296)
+
+pub record Relink (w : List ℕ) (k old new : ℕ) : Type 0 where
+  pub known : k < getD w 2 0
+  pub long : base (getD w 2 0) ≤ length w
+  pub roots : (s : ℕ) → k < s → s < getD w 2 0 → Movable old new (getD w (recordAt s) 0)

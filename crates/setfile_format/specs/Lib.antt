@@ -1,0 +1,2 @@
+-- What a set file is.
+pub mod Files

@@ -1,0 +1,6 @@
+-- The entries lined up; the head of the lanes and what is behind it; what a file's tests say of its entries; and counting the nodes on the way.
+pub mod Lined
+pub mod Onwards
+pub mod First
+pub mod Opening
+pub mod Counting

@@ -1,0 +1,30 @@
+-- `heads::found` meets its contract. Assumes nothing.
+use native.Mathlib.Omega.{arith}
+use borrow.Author.Needs.{needs}
+use Rattle.setfile_lanes.specs.Lanes.{lanesOf}
+use Rattle.setfile_order.proofs.First.{head-none, finds, finds-small, finds-shares, finds-head}
+use Rattle.setfile_order.proofs.heads.found.Statement.{statement}
+use Rattle.setfile_order.proofs.heads.found.Tie as tie
+
+pub found-spec : {M : Type 1} → statement M
+unfolding lanesOf
+found-spec =
+    tie.close
+    (tie.spec
+    (λ c. search needs)
+    (λ c d q ms s. head-none ms s (c .before .before .pre .1) (c .if1 .taken))
+    (λ c κs. let p = c .before .before .pre in omega (arith, finds _ (p .0 .3) (p .1) (c .if1 .left) .lane, p .0 .3 .stream .lanes .few))
+    (λ c.
+    let d = c .before .before in
+    let p = d .before .before .pre in
+    omega (arith, finds-small (p .0 .3) _ (c .before .lane-at .ensures) (finds _ (p .0 .3) (p .1) (d .if1 .left))))
+    (λ c κs.
+    let d = c .before .before in
+    let p = d .before .before .pre in
+    finds-shares (p .0 .3) _ (c .before .lane-at .ensures) (finds _ (p .0 .3) (p .1) (d .if1 .left)))
+    (λ c. search needs)
+    (λ c. search needs)
+    (λ c _ q ms s.
+    let d = c .before .before .before in
+    let p = d .before .before .pre in
+    finds-head s _ (c .before .before .lane-at .ensures) (finds _ s (p .1) (d .if1 .left)) _ (c .shared .ensures)))

@@ -1,0 +1,2 @@
+-- The networks of a file in address order: what is answered.
+pub mod Flow

@@ -1,0 +1,2 @@
+-- What writing a file asks and leaves.
+pub mod Saving

@@ -1,0 +1,67 @@
+// Networks on standard output, and refusals on standard error.
+use libc::STDERR_FILENO;
+use libc::STDOUT_FILENO;
+use nets::Net;
+use pool_state::Answer;
+use text::Written;
+ghost use Prim.Native.Nat.{_*_, _≤_};
+ghost use lib.ListN.{length};
+
+// One network, by way of a lent line. Whether it was written.
+fn network(net: Net, line: &mut [u8]) -> bool {
+    let written = text::write_line(net, line);
+    let Written::Bytes(k) = written else {
+        return false;
+    };
+    let n = k as usize;
+    io::write_all(STDOUT_FILENO, &line[..n]) && io::write_all(STDOUT_FILENO, b"\n")
+}
+
+// The network of three numbers.
+fn row(hi: u64, lo: u64, len: u64) -> bool {
+    let mut line = [0u8; 18];
+    let net = Net {
+        family: 4,
+        hi,
+        lo,
+        len: (len % 256) as u8,
+    };
+    network(net, &mut line)
+}
+
+// The networks of so many rows, up to the first that cannot be written.
+fn networks(rows: &[u64], count: usize) -> bool
+    requires { ⌜ 3 * count ≤ length (now rows) ⌝ }
+{
+    let mut i = 0;
+    while i < count && row(rows[3 * i], rows[3 * i + 1], rows[3 * i + 2]) {
+        i += 1;
+    }
+    i == count
+}
+
+// The networks of a set of an IPv4 pool in the order of its list, a line each, by way of lent rows. Whether all were written.
+pub fn print_set(pool: &[u32], set: u32, rows: &mut [u64]) -> bool {
+    let listed = listing::list(pool, set, rows);
+    let Answer::Granted(n) = listed else {
+        return false;
+    };
+    networks(rows, n as usize)
+}
+
+// The name of a refusal's number, and the end of the line.
+pub fn say_refusal(no: u8) -> bool {
+    match no {
+        1 => io::write_all(STDERR_FILENO, b"BadSetup\n"),
+        2 => io::write_all(STDERR_FILENO, b"Damaged\n"),
+        3 => io::write_all(STDERR_FILENO, b"NoSet\n"),
+        4 => io::write_all(STDERR_FILENO, b"BadText\n"),
+        5 => io::write_all(STDERR_FILENO, b"BadFile\n"),
+        6 => io::write_all(STDERR_FILENO, b"WrongFamily\n"),
+        7 => io::write_all(STDERR_FILENO, b"BadNetwork\n"),
+        8 => io::write_all(STDERR_FILENO, b"Occupied\n"),
+        9 => io::write_all(STDERR_FILENO, b"OverLimit\n"),
+        10 => io::write_all(STDERR_FILENO, b"NoRoom\n"),
+        _ => io::write_all(STDERR_FILENO, b"ShortBuffer\n"),
+    }
+}

@@ -1,0 +1,161 @@
+-- Simplifying, step by step: what is seen of a trie, its children as the next sources, and the node over their answers. Assumes nothing.
+use mathlib.Core.Path.{_≡_, refl, sym, ap, _∙_}
+use mathlib.Core.Bool.{Bool, true, false, cond}
+use mathlib.Core.List.{List, _++_}
+use Prim.Native.Nat.{ℕ, _+_, _-_, _/_, _≤_, _<_}
+use native.Mathlib.Omega.{arith}
+use borrow.Author.Tests.{eq-eqb, ne-eqb}
+use lib.ListN.{length}
+use Rattle.nets.specs.Tries.{Trie, none, node, leaf, size, bare, levels, glue, simplifyT}
+use Rattle.nodes.specs.Words.{put, place, wordAt, enc}
+use Rattle.nodes.specs.Segments.{Segment, middleOf}
+use Rattle.nodes.proofs.Put.{length-put}
+use Rattle.nodes.proofs.Has.{has-put}
+use Rattle.nodes.proofs.Segments.{none-is, segment-fit, segment-leaf, segment-place, segment-middle, segment-left, segment-right}
+use Rattle.trie_emit.specs.Answers.{answer, body, Emits, endOf, Both, Pending}
+use Rattle.trie_emit.specs.Simplify.{seenAs, Source}
+use Rattle.trie_emit.specs.declared.emitting.Emitted.{Emitted}
+use Rattle.trie_emit.specs.declared.emitting.Emitted.the-variants.{Empty, Full}
+use Rattle.trie_emit.specs.declared.simplifying.Seen.{Seen}
+use Rattle.trie_emit.specs.declared.simplifying.Seen.the-variants.{Nothing, Leaf, Inner}
+use Rattle.trie_emit.proofs.Answers.{by-kind, end-is, emits-flat, length-body, size-glue}
+
+pub size-simplify : (t : Trie) → size (simplifyT t) ≤ size t
+unfolding size simplifyT
+size-simplify none = omega arith
+size-simplify (node l r) = go (bare l r) (size-simplify l) (size-simplify r)
+  where
+    go : (x : Bool) → size (simplifyT l) ≤ size l → size (simplifyT r) ≤ size r → size (cond x leaf (glue true (simplifyT l) (simplifyT r))) ≤ size (node l r)
+    go true f g = omega arith
+    go false f g = omega (arith, size-glue true (simplifyT l) (simplifyT r))
+
+-- What is seen, by the tests.
+module _ {w : List ℕ} {b i e u : ℕ} {rest : List ℕ} where
+  pub look-none : (t : Trie) → Segment w b i e u t rest → i ≡ e → Nothing ≡ seenAs i t
+  unfolding seenAs
+  look-none t g h = rw (none-is t (omega (arith, g .end)))
+
+  pub look-place : (t : Trie) → Segment w b i e u t rest → (i ≡ e → ⊥) → (1 ≤ i) × (place b i < length w)
+  unfolding size
+  look-place none g f = absurd (f (omega (arith, g .end)))
+  look-place (node l r) g f = (g .one, segment-place g)
+
+  pub look-leaf : (t : Trie) → Segment w b i e u t rest → (i ≡ e → ⊥) → wordAt w b i ≡ 0 → Leaf ≡ seenAs i t
+  unfolding seenAs size
+  look-leaf none g f h = absurd (f (omega (arith, g .end)))
+  look-leaf (node l r) g f h = rw (sym (segment-leaf g) ∙ eq-eqb (wordAt w b i) 0 h)
+
+  pub look-inner : (t : Trie) → Segment w b i e u t rest → (i ≡ e → ⊥) → (wordAt w b i ≡ 0 → ⊥) → Inner (middleOf (wordAt w b i / 2) i e) ≡ seenAs i t
+  unfolding seenAs size
+  look-inner none g f h = absurd (f (omega (arith, g .end)))
+  look-inner (node l r) g f h = rw (sym (segment-leaf g) ∙ ne-eqb (wordAt w b i) 0 h) (ap Inner (segment-middle g))
+
+-- A node with a child, and where its second child begins.
+pub record Fork (w : List ℕ) (b i e o fuel m : ℕ) (l r : Trie) : Type 0 where
+  pub src : Source w b i e o fuel (node l r)
+  pub inner : bare l r ≡ false
+  pub middle : m ≡ i + 1 + size l
+
+never : {A : Type 0} → _≡_ {A = ℕ} 0 1 → A
+never e = absurd (omega arith)
+
+module _ (w : List ℕ) (b i o : ℕ) (s : Seen) where
+  pub seen-none : (t : Trie) → s ≡ seenAs i t → s ≡ Nothing → Emits w w b o Empty (simplifyT t)
+  unfolding seenAs simplifyT
+  seen-none = by-kind (λ t. s ≡ seenAs i t → s ≡ Nothing → Emits w w b o Empty (simplifyT t)) (λ q h. emits-flat w b o false) (λ q h. never cc) (λ l r e. rw e (λ q h. never cc))
+
+  pub seen-leaf : (t : Trie) → s ≡ seenAs i t → s ≡ Leaf → Emits w w b o Full (simplifyT t)
+  unfolding seenAs simplifyT
+  seen-leaf = by-kind (λ t. s ≡ seenAs i t → s ≡ Leaf → Emits w w b o Full (simplifyT t)) (λ q h. never cc) (λ q h. emits-flat w b o true) (λ l r e. rw e (λ q h. never cc))
+
+pub seen-inner : {w : List ℕ} {b i e o fuel : ℕ} (s : Seen) (m : ℕ) → s ≡ Inner m → (t : Trie) → Source w b i e o fuel t → s ≡ seenAs i t
+    → (l : Trie) × (r : Trie) × (t ≡ node l r) × Fork w b i e o fuel m l r
+unfolding seenAs
+seen-inner {w} {b} {i} {e} {o} {fuel} s m h = by-kind (λ t. Source w b i e o fuel t → s ≡ seenAs i t → (l : Trie) × (r : Trie) × (t ≡ node l r) × Fork w b i e o fuel m l r)
+    (λ g q. never cc) (λ g q. never cc)
+    (λ l r d g q. (l, r, refl, record { src = g; inner = d; middle = let n : s ≡ Inner (i + 1 + size l) = rw d at q in cc }))
+
+-- Its children, and the node over what they are simplified to.
+module _ {w : List ℕ} {b i e o fuel m : ℕ} {l r : Trie} (d : Fork w b i e o fuel m l r) where
+  pub fork-fuel : 1 ≤ fuel
+  unfolding levels
+  fork-fuel = omega (arith, d .src .deep)
+
+  fork-end : e ≡ m + size r
+  unfolding size
+  fork-end = omega (arith, d .middle, d .src .here .end)
+
+  over-is : simplifyT (node l r) ≡ glue true (simplifyT l) (simplifyT r)
+  unfolding simplifyT
+  over-is = rw (d .inner)
+
+  small : o + 1 + size (simplifyT l) + size (simplifyT r) ≤ e
+  small = omega (arith, size-simplify l, size-simplify r, fork-end, d .middle, d .src .behind)
+
+  right : Segment w b m e (d .src .u) r (d .src .rest)
+  right = rw (d .middle) (segment-right (d .src .here))
+
+  pub left-source : Source w b (i + 1) m (o + 1) (fuel - 1) l
+  unfolding levels
+  left-source = record {
+    u = d .src .u;
+    rest = enc r ++ d .src .rest;
+    here = rw (d .middle) (segment-left (d .src .here));
+    one = omega arith;
+    behind = omega (arith, d .src .behind);
+    deep = omega (arith, d .src .deep);
+  }
+
+  module _ (x : Emitted) (k : ℕ) (said-l : x ≡ answer (o + 1) (simplifyT l)) (end : k ≡ endOf x (o + 1)) where
+    second : k ≡ o + 1 + size (simplifyT l)
+    second = end ∙ end-is x (simplifyT l) (o + 1) said-l
+
+    next-source : (w₁ : List ℕ) → Segment w₁ b m e (d .src .u) r (d .src .rest) → Source w₁ b m e k (fuel - 1) r
+    unfolding levels
+    next-source w₁ g = record {
+      u = d .src .u;
+      rest = d .src .rest;
+      here = g;
+      one = omega (arith, second);
+      behind = omega (arith, second, size-simplify l, d .middle, d .src .behind);
+      deep = omega (arith, d .src .deep);
+    }
+
+    both-said : (y : Emitted) → y ≡ answer k (simplifyT r) → Both o x y (simplifyT l) (simplifyT r)
+    both-said y said-r = record { first = said-l; second = rw second at said-r; small = omega (arith, small, d .src .here .few, d .src .here .used) }
+
+  -- with what is written of the first child, which ends before the second
+  module _ (w₁ : List ℕ) (x : Emitted) (k : ℕ) (hl : (t : Trie) → Source w b (i + 1) m (o + 1) (fuel - 1) t → Emits w w₁ b (o + 1) x (simplifyT t)) (end : k ≡ endOf x (o + 1)) where
+    done : Emits w w₁ b (o + 1) x (simplifyT l)
+    done = hl l left-source
+
+    stays : Segment w₁ b m e (d .src .u) r (d .src .rest)
+    stays = record {
+      has = rw (done .wrote) (has-put (place b (o + 1)) (body (simplifyT l)) (right .has) (λ n h₁ h₂ h₃ h₄. omega (arith, length-body (simplifyT l), size-simplify l, d .middle, d .src .behind)));
+      one = right .one;
+      end = right .end;
+      used = right .used;
+      few = right .few;
+      low = right .low;
+    }
+
+    pub rest-source : Source w₁ b m e k (fuel - 1) r
+    rest-source = next-source x k (done .answers) end w₁ stays
+
+    module _ (w₂ : List ℕ) (y : Emitted) (hr : (t : Trie) → Source w₁ b m e k (fuel - 1) t → Emits w₁ w₂ b k y (simplifyT t)) where
+      rest-done : Emits w₁ w₂ b k y (simplifyT r)
+      rest-done = hr r rest-source
+
+      same : length w₂ ≡ length w
+      same = rw (rest-done .wrote, done .wrote) (length-put (put w (place b (o + 1)) (body (simplifyT l))) (place b k) (body (simplifyT r)) ∙ length-put w (place b (o + 1)) (body (simplifyT l)))
+
+      pub pending : Pending w w₂ b true o x y (simplifyT l) (simplifyT r)
+      pending = record {
+        both = both-said x k (done .answers) end y (rest-done .answers);
+        wrote = rw (rest-done .wrote, done .wrote, second x k (done .answers) end);
+        one = d .src .one;
+        room = λ h. (rw same (omega (arith, small, segment-fit (d .src .here))), omega (arith, small, d .src .here .few, d .src .here .used));
+      }
+
+      pub simplified : (w₃ : List ℕ) (z : Emitted) → ((v : List ℕ) (t u : Trie) → Pending v w₂ b true o x y t u → Emits v w₃ b o z (glue true t u)) → Emits w w₃ b o z (simplifyT (node l r))
+      simplified w₃ z f = rw over-is (f w (simplifyT l) (simplifyT r) pending)

@@ -1,0 +1,3 @@
+-- Why: putting a path in, and the nodes that the trie then has.
+pub mod Insertion
+pub mod Counting
