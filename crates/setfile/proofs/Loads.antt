@@ -34,7 +34,7 @@ use Rattle.setfile_order.specs.declared.Checked.the-variants as checked
 use Rattle.setfile.specs.Loading.{loadNo, fileList, Loaded}
 use Rattle.setfile.specs.LoadSteps.{Ready, Asks, Writable, written}
 use Rattle.setfile.specs.declared.loading.Asked.the-variants.{Go, Refused}
-use Rattle.setfile.proofs.Filling.{file-listOf, file-size}
+use Rattle.setfile_build.proofs.Filling.{file-listOf, file-size}
 
 never : {A : Type 0} → _≡_ {A = ℕ} 0 1 → A
 never e = absurd (omega arith)

@@ -1,7 +1,7 @@
 -- The steps of a load: what they ask, and what they leave.
 --
 --   Ready w k d v f n    a load can go on: v is what a pass over the pool found for its empty set, and d is the file of a list of n nodes in the pool's family f;  Asks: that, or its refusal
---   Fillable, Writable   what writing the trie of the file's list asks, in a gap and with the gap still to open
+--   Writable             what writing the trie of the file's list asks
 --   written              the words that it leaves
 use mathlib.Core.List.{List}
 use mathlib.Core.Path.{_≡_}
@@ -32,13 +32,7 @@ abbrev pub Asks : List ℕ → ℕ → List ℕ → Asked → Type 0
 Asks w k d (Go v f n) = Ready w k d v f n
 Asks w k d (Refused x) = Loaded w k d (answer.Refused x) w
 
--- the bytes are the file of the list l, and there is room for its trie from node o on
-pub record Fillable (w : List ℕ) (b o : ℕ) (d : List ℕ) (f : ℕ) (l : List Bits) : Type 0 where
-  pub reads : readFile d ≡ file f l
-  pub one : 1 ≤ o
-  pub few : o + nodesL l ≤ 1073741824
-  pub room : place b o + nodesL l ≤ length w
-
+-- the bytes are the file of the list l, whose trie has n nodes, and there is a gap to open for it
 pub record Writable (w : List ℕ) (v : Survey) (d : List ℕ) (f n : ℕ) (l : List Bits) : Type 0 where
   pub reads : readFile d ≡ file f l
   pub nodes : nodesL l ≡ n

@@ -1,8 +1,13 @@
 // Set files: a set into bytes, and bytes into a set. Each call checks the pool in one pass.
 use listing::seats::Seated;
 use listing::seats::seat_of;
-use loading::load_file;
+use loading::Asked;
+use loading::ask;
+use loading::write;
 use nets::Refusal;
+use pool_change::judging::judge;
+use pool_change::judging::too_many;
+use pool_change::relinking::granted;
 use pool_state::Answer;
 use setfile_entries::reading::file_bytes;
 use setfile_write::saving::write_file;
@@ -37,5 +42,16 @@ pub fn save(pool: &[u32], set: u32, out: &mut [u8]) -> Answer
 pub fn load(pool: &mut [u32], set: u32, bytes: &[u8]) -> Answer
     ensures { λ r. ⌜ Loaded (now (pool .entry)) set (now (bytes .entry)) r (now (pool .exit)) ⌝ }
 {
-    load_file(pool, set, bytes)
+    let asked = ask(pool, set, bytes);
+    match asked {
+        Asked::Refused(no) => Answer::Refused(no),
+        Asked::Go(v, family, n) => {
+            let no = judge(pool, set, v, n);
+            if no != 0 {
+                return too_many(no);
+            }
+            write(pool, v, bytes, family, n);
+            granted(pool, set, v, n)
+        }
+    }
 }

@@ -3,3 +3,4 @@ pub mod Digits
 pub mod Growing
 pub mod Chaining
 pub mod Building
+pub mod Filling

@@ -5,17 +5,20 @@
 --   Chains, Chained   what writing the nodes of a network's path from depth d on asks: room from node e on, and in the path p for their numbers; and what it leaves
 --   Appends, Appended what putting a network behind those that end at node e asks: p is the path to the last one, and the node where the head leaves it is known; and what it leaves
 --   Due w b o h x f c t    the cursors c of the file x are at the networks of the trie t, the head is the first of them, and there is room for t from node o on
+--   Fillable w b o d f l   what writing the trie of a file's list asks
 use mathlib.Core.Path.{_≡_}
 use mathlib.Core.Bool.{false}
 use mathlib.Core.List.{List, [], _∷_}
 use Prim.Native.Nat.{ℕ, suc, _+_, _-_, _*_, _≤_, _<_}
 use lib.ListN.{length, getD, drop}
 use Rattle.nets.specs.Bits.{Bits}
+use Rattle.nets.specs.Lists.{nodesL}
 use Rattle.nets.specs.Tries.{Trie, none, isNone, size, levels, insertT}
 use Rattle.nets.specs.Networks.{width, netBits}
 use Rattle.nets.specs.declared.Net.{Net}
 use Rattle.nodes.specs.Words.{put, place, enc}
 use Rattle.address_order.specs.Streams.{flat}
+use Rattle.setfile_format.specs.Files.{file, readFile}
 use Rattle.setfile_order.specs.Flow.{headAs, Flow}
 use Rattle.setfile_order.specs.declared.Head.{Head}
 
@@ -58,3 +61,10 @@ pub record Due (w : List ℕ) (b o : ℕ) (h : Head) (x : List ℕ) (f : ℕ) (c
   pub one : 1 ≤ o
   pub few : o + size t ≤ 1073741824
   pub room : place b o + size t ≤ length w
+
+-- the bytes are the file of the list l, and there is room for its trie from node o on
+pub record Fillable (w : List ℕ) (b o : ℕ) (d : List ℕ) (f : ℕ) (l : List Bits) : Type 0 where
+  pub reads : readFile d ≡ file f l
+  pub one : 1 ≤ o
+  pub few : o + nodesL l ≤ 1073741824
+  pub room : place b o + nodesL l ≤ length w

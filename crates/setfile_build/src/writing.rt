@@ -44,7 +44,7 @@ fn append(w: &mut [u32], b: usize, e: usize, h: Head, path: &mut [usize; PATH])
 }
 
 // Writes from node o on the trie of the networks from the head on.
-pub fn build(
+pub fn grow(
     w: &mut [u32],
     b: usize,
     o: usize,

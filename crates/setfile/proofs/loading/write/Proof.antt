@@ -16,4 +16,4 @@ write-spec =
     (λ c. search needs)
     (λ c κs. let (l, g) = c .before .before .before .before .before .before .before .before .before .pre in (l, write-fills g (c .before .before .before .before .shift-behind .ensures)))
     (λ c. search needs)
-    (λ c l g. let e = c .before .before .before .before .before .before .before .shift-behind .ensures in write-wrote g e (c .before .before .fill .ensures l (write-fills g e))))
+    (λ c l g. let e = c .before .before .before .before .before .before .before .shift-behind .ensures in write-wrote g e (c .before .before .build .ensures l (write-fills g e))))

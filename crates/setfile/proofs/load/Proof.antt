@@ -1,11 +1,11 @@
--- `loading::load_file` meets its contract, each return by the tests on the way to it. Assumes nothing.
+-- `load` meets its contract, each return by the tests on the way to it. Assumes nothing.
 use denote.Ref.{now}
 use native.Mathlib.Omega.{arith}
 use borrow.Author.Needs.{needs}
 use Rattle.setfile.specs.LoadSteps.{Ready}
 use Rattle.setfile.proofs.Loads.{load-many, load-refused, load-writes, load-relinks, load-granted}
-use Rattle.setfile.proofs.loading.load_file.Statement.{statement}
-use Rattle.setfile.proofs.loading.load_file.Tie as tie
+use Rattle.setfile.proofs.load.Statement.{statement}
+use Rattle.setfile.proofs.load.Tie as tie
 
 abbrev start : tie.After-asked2 → tie.Start
 start c = c .before .before .before .before .before .before
@@ -14,8 +14,8 @@ ready : (c : tie.After-asked2) → let a = start c .args in
     Ready (now (a .pool)) (a .set) (now (a .bytes)) (c .asked2 .given .0 .0) (c .asked2 .given .0 .1 .0) (c .asked2 .given .0 .1 .1 .0)
 ready c = rw (c .asked2 .given .1) at (c .before .before .ask .ensures)
 
-pub load-file-spec : {M : Type 1} → statement M
-load-file-spec =
+pub load-spec : {M : Type 1} → statement M
+load-spec =
     tie.close
     (tie.spec
     (λ c κs. search needs)

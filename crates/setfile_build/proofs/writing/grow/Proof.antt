@@ -1,4 +1,4 @@
--- `writing::build` meets its contract. The loop's invariant: from what was written before it, it has gone on to what is written now. Assumes nothing.
+-- `writing::grow` meets its contract. The loop's invariant: from what was written before it, it has gone on to what is written now. Assumes nothing.
 use mathlib.Core.List.{List}
 use mathlib.Core.Path.{refl}
 use Prim.Native.Nat.{ℕ, _-_}
@@ -7,8 +7,8 @@ use borrow.Author.Needs.{needs}
 use Rattle.nets.specs.Tries.{Trie}
 use Rattle.setfile_build.specs.Building.{Due}
 use Rattle.setfile_build.proofs.Building.{Going, first, first-chains, first-few, first-going, going-end, going-long, going, going-step, going-appends, going-again}
-use Rattle.setfile_build.proofs.writing.build.Statement.{statement}
-use Rattle.setfile_build.proofs.writing.build.Tie as tie
+use Rattle.setfile_build.proofs.writing.grow.Statement.{statement}
+use Rattle.setfile_build.proofs.writing.grow.Tie as tie
 
 abbrev Inv-loop : tie.InvT-loop
 Inv-loop w₀ b o bytes family cursors₀ path₀ e₀ h₀ w cursors path e h =
@@ -44,8 +44,8 @@ again c v t s =
     let k = going g (a .if1 .taken) in
     going-again g k (c .before .before .before .before .before .before .append .ensures) (c .advance2 .ensures (k .m) (k .ms) (k .flow) (k .net))
 
-pub build-spec : {M : Type 1} → statement M
-build-spec =
+pub grow-spec : {M : Type 1} → statement M
+grow-spec =
     tie.close
     (tie.spec
     Inv-loop
