@@ -20,3 +20,4 @@ pub mod Returns
 -- What each call comes to: one outcome, and what it leaves.
 pub mod Determined
 pub mod Leaves
+pub mod Past
