@@ -1,47 +1,103 @@
 -- A number v in two words, hi and lo: what clearing its low bits, moving it to the left and taking its first bit make of the words.
 -- `omega` stops at numbers as long as 2^128, so a word is split off by the laws of lib.Pow. Assumes nothing.
-use mathlib.Core.Bool.{_&&_, and-true}
+use mathlib.Core.Bool.{Bool, true, false, _&&_, and-true}
 use mathlib.Core.List.{List, [], _∷_}
-use mathlib.Core.Path.{_≡_, ap, sym, _∙_}
+use mathlib.Core.Path.{_≡_, refl, ap, sym, _∙_}
 use Prim.Native.Nat.{ℕ, zero, suc, _+_, _-_, _*_, _/_, _%_, _^_, _≤_, _<_}
-use native.Mathlib.Nat.{add-mul, mul-assoc, add-zero, mul-add-div-right, lt-of-le-of-lt, div-mul-le-self, mod-eq-of-lt, mul-one, mul-mod-left, add-comm}
+use native.Mathlib.Nat.{add-comm, add-zero, add-mul, mul-one, zero-mul, mul-assoc, mul-add-div-right, mul-mod-left}
+use native.Mathlib.Nat.{lt-of-le-of-lt, lt-of-lt-of-le, div-eq-of-lt, div-mul-le-self, mod-eq-of-lt}
 use native.Mathlib.Omega.{arith}
 use lib.Dec.{eqb, leb, ltb, eqb·suc-zero}
 use lib.Arith.{digits-lt}
 use lib.Bits.{bitOr, or-shifted}
 use lib.ListN.{getD}
-use lib.Pow.{pow-pos, pow-add, shl-shr, shr-shr, high, low, mod-pow-add}
-use borrow.Author.Tests.{ne-eqb, le-ltb, lt-ltb}
-use Rattle.nets.specs.Networks.{width, value, netWords, netOf, bitsWords, bigEndian, inRange, refusalOf, cleared, startOf, nextOf}
+use lib.Pow.{pow-pos, pow-mono, pow-add, shl-shr, shr-shr, split, high, low, mod-pow-add}
+use borrow.Author.Tests.{eqb-true, eq-eqb, ne-eqb, ltb-true, ltb-false, le-ltb, lt-ltb}
+use Rattle.nets.specs.Networks.{width, value, netWords, netOf, address, bitsWords, bigEndian, inRange, refusalOf, cleared, startOf, nextOf}
 use Rattle.nets.specs.declared.Net.{Net}
 use Rattle.nets.specs.declared.PrefixBits.{PrefixBits}
 use Rattle.nets.specs.declared.NextBit.the-variants.{Bit}
+use Rattle.nets.proofs.Strings.{and-left, and-right, bool-iff}
 use Rattle.nets.proofs.Numbers.{cleared-number}
 
 pub netOf-value : (f hi lo n : ℕ) → lo < 2 ^ 64 → netOf f (value hi lo) n ≡ netWords f hi lo n
 netOf-value f hi lo n h = rw (high hi 64 h, low hi 64 h)
 
--- Clearing k low bits: those of the low word, or the low word and k - 64 of the high one.
-value-keep-low : (hi lo k : ℕ) → k < 64 → value hi lo / 2 ^ k * 2 ^ k ≡ value hi (lo / 2 ^ k * 2 ^ k)
-value-keep-low hi lo k h =
+-- Clearing k low bits: k of the low word, and k - 64 of the high one.
+abbrev keep : ℕ → ℕ → ℕ
+keep x k = x / 2 ^ k * 2 ^ k
+
+value-keep-few : (hi lo k : ℕ) → k < 64 → keep (value hi lo) k ≡ value hi (keep lo k)
+value-keep-few hi lo k h =
     let e : (64 - k) + k ≡ 64 = omega arith in
-    let p : hi * 2 ^ 64 ≡ hi * 2 ^ (64 - k) * 2 ^ k = ap (λ n. hi * 2 ^ n) (sym e) ∙ ap (λ n. hi * n) (pow-add 2 (64 - k) k) ∙ sym (mul-assoc hi (2 ^ (64 - k)) (2 ^ k)) in
+    let q = pow-add 2 (64 - k) k in
+    let p : hi * 2 ^ 64 ≡ hi * 2 ^ (64 - k) * 2 ^ k = ap (λ n. hi * 2 ^ n) (sym e) ∙ ap (λ n. hi * n) q ∙ sym (mul-assoc hi (2 ^ (64 - k)) (2 ^ k)) in
     rw (p, mul-add-div-right (pow-pos k) (hi * 2 ^ (64 - k)) lo) (add-mul (hi * 2 ^ (64 - k)) (lo / 2 ^ k) (2 ^ k))
 
-value-keep-high : (hi lo j : ℕ) → lo < 2 ^ 64 → value hi lo / 2 ^ (64 + j) * 2 ^ (64 + j) ≡ value (hi / 2 ^ j * 2 ^ j) 0
-value-keep-high hi lo j h =
-    rw (← shr-shr (value hi lo) 64 j, high hi 64 h, add-comm 64 j, pow-add 2 j 64) (sym (mul-assoc (hi / 2 ^ j) (2 ^ j) (2 ^ 64)) ∙ sym (add-zero (hi / 2 ^ j * 2 ^ j * 2 ^ 64)))
+value-keep-more : (hi lo j : ℕ) → lo < 2 ^ 64 → keep (value hi lo) (64 + j) ≡ value (keep hi j) 0
+value-keep-more hi lo j h =
+    rw (← shr-shr (value hi lo) 64 j, high hi 64 h, add-comm 64 j, pow-add 2 j 64)
+    (sym (mul-assoc (hi / 2 ^ j) (2 ^ j) (2 ^ 64)) ∙ sym (add-zero (keep hi j * 2 ^ 64)))
 
-module _ (n : Net) (k : ℕ) (e : refusalOf n ≡ 0) (g : n .len + k ≡ width (n .family)) (h : n .lo < 2 ^ 64) where
-  pub cleared-low : k < 64 → netWords (n .family) (n .hi) (n .lo / 2 ^ k * 2 ^ k) (n .len) ≡ cleared n
-  cleared-low l =
-      rw (cleared-number n e k g, value-keep-low (n .hi) (n .lo) k l) (sym (netOf-value (n .family) (n .hi) (n .lo / 2 ^ k * 2 ^ k) (n .len) (lt-of-le-of-lt (div-mul-le-self (n .lo) (2 ^ k)) h)))
+-- 64 bits and more are the whole word.
+pub keep-all : (x k : ℕ) → x < 2 ^ 64 → 64 ≤ k → keep x k ≡ 0
+keep-all x k h l = rw (div-eq-of-lt (lt-of-lt-of-le h (pow-mono l)), zero-mul)
 
-  pub cleared-high : 64 ≤ k → netWords (n .family) (n .hi / 2 ^ (k - 64) * 2 ^ (k - 64)) 0 (n .len) ≡ cleared n
-  cleared-high l =
-      let p : 64 + (k - 64) ≡ k = omega arith in
-      let q = rw p at (value-keep-high (n .hi) (n .lo) (k - 64) h) in
-      rw (cleared-number n e k g, q) (sym (netOf-value (n .family) (n .hi / 2 ^ (k - 64) * 2 ^ (k - 64)) 0 (n .len) (omega arith)))
+pub value-keep : (hi lo k : ℕ) → lo < 2 ^ 64 → keep (value hi lo) k ≡ value (keep hi (k - 64)) (keep lo k)
+value-keep hi lo k h = go (ltb k 64) refl
+  where
+    go : (t : Bool) → ltb k 64 ≡ t → keep (value hi lo) k ≡ value (keep hi (k - 64)) (keep lo k)
+    go true e =
+        let l : k < 64 = ltb-true k 64 e in
+        let z : k - 64 ≡ 0 = omega arith in
+        let o : keep hi 0 ≡ hi = omega arith in
+        rw (z, o) (value-keep-few hi lo k l)
+    go false e =
+        let l : 64 ≤ k = ltb-false k 64 e in
+        let p : 64 + (k - 64) ≡ k = omega arith in
+        rw (keep-all lo k h l) (rw p at (value-keep-more hi lo (k - 64) h))
+
+keep-low : (x k : ℕ) → x < 2 ^ 64 → keep x k < 2 ^ 64
+keep-low x k h = lt-of-le-of-lt (div-mul-le-self x (2 ^ k)) h
+
+pub cleared-words : (n : Net) (k : ℕ) → refusalOf n ≡ 0 → n .len + k ≡ width (n .family) → n .lo < 2 ^ 64
+    → netWords (n .family) (keep (n .hi) (k - 64)) (keep (n .lo) k) (n .len) ≡ cleared n
+cleared-words n k e g h =
+    rw (cleared-number n e k g, value-keep (n .hi) (n .lo) k h)
+    (sym (netOf-value (n .family) (keep (n .hi) (k - 64)) (keep (n .lo) k) (n .len) (keep-low (n .lo) k h)))
+
+-- And backwards: no bit is set among the k low ones exactly where clearing them leaves each word as it is.
+keep-same : (x k : ℕ) → x % 2 ^ k ≡ 0 → keep x k ≡ x
+keep-same x k e = omega (arith, split x k)
+
+same-keep : (x k : ℕ) → keep x k ≡ x → x % 2 ^ k ≡ 0
+same-keep x k e = omega (arith, split x k)
+
+pub value-past : (hi lo k : ℕ) → lo < 2 ^ 64 → eqb (value hi lo % 2 ^ k) 0 ≡ (eqb (keep hi (k - 64)) hi && eqb (keep lo k) lo)
+value-past hi lo k h = bool-iff (eqb (value hi lo % 2 ^ k) 0) (eqb (keep hi (k - 64)) hi && eqb (keep lo k) lo) there back
+  where
+    there : eqb (value hi lo % 2 ^ k) 0 ≡ true → (eqb (keep hi (k - 64)) hi && eqb (keep lo k) lo) ≡ true
+    there e =
+        let q = eqb-true (value hi lo % 2 ^ k) 0 e in
+        let p : value (keep hi (k - 64)) (keep lo k) ≡ value hi lo = sym (value-keep hi lo k h) ∙ keep-same (value hi lo) k q in
+        let l = keep-low lo k h in
+        let x = sym (high (keep hi (k - 64)) 64 l) ∙ ap (λ v. v / 2 ^ 64) p ∙ high hi 64 h in
+        let y = sym (low (keep hi (k - 64)) 64 l) ∙ ap (λ v. v % 2 ^ 64) p ∙ low hi 64 h in
+        rw (eq-eqb (keep hi (k - 64)) hi x, eq-eqb (keep lo k) lo y)
+
+    back : (eqb (keep hi (k - 64)) hi && eqb (keep lo k) lo) ≡ true → eqb (value hi lo % 2 ^ k) 0 ≡ true
+    back e =
+        let x = eqb-true (keep hi (k - 64)) hi (and-left (eqb (keep hi (k - 64)) hi) (eqb (keep lo k) lo) e) in
+        let y = eqb-true (keep lo k) lo (and-right (eqb (keep hi (k - 64)) hi) (eqb (keep lo k) lo) e) in
+        eq-eqb (value hi lo % 2 ^ k) 0 (same-keep (value hi lo) k (value-keep hi lo k h ∙ rw (x, y)))
+
+-- So clearing leaves a network as it is exactly where no bit past its length is set.
+module _ (n : Net) (k : ℕ) (e : refusalOf n ≡ 0) (g : n .len + k ≡ width (n .family)) where
+  pub cleared-same : n .lo < 2 ^ 64 → address n % 2 ^ k ≡ 0 → cleared n ≡ n
+  cleared-same h z = rw (cleared-number n e k g, keep-same (address n) k z) (netOf-value (n .family) (n .hi) (n .lo) (n .len) h)
+
+  pub same-cleared : cleared n ≡ n → address n % 2 ^ k ≡ 0
+  same-cleared p = same-keep (address n) k (sym (split (keep (address n) k) 64) ∙ ap address (sym (cleared-number n e k g) ∙ p))
 
 -- The range of each family, by words.
 pub inRange-4 : (n : Net) → n .family ≡ 4 → inRange n ≡ (leb (n .len) 32 && (eqb (n .hi) 0 && ltb (n .lo) (2 ^ 32)))

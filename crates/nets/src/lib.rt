@@ -6,6 +6,8 @@ ghost use Rattle.nets.specs.Networks.{width, netWords, netOf, refusalOf,
 mod rules;
 mod words;
 
+pub use words::has_bit_past;
+
 // The refusals of the table, by name.
 pub enum Refusal {
     BadSetup,

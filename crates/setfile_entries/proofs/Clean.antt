@@ -1,52 +1,18 @@
--- Networks with no bits past their lengths: by words, and their order by numbers. Assumes nothing.
+-- Networks with no bits past their lengths: their bits and their order, by numbers. Assumes nothing.
 use mathlib.Core.Bool.{Bool, true, false, or-false}
-use mathlib.Core.Path.{_≡_, refl, ap, sym, _∙_}
-use Prim.Native.Nat.{ℕ, zero, suc, _+_, _-_, _*_, _%_, _^_, _≤_, _<_}
+use mathlib.Core.Path.{_≡_, refl, sym, _∙_}
+use Prim.Native.Nat.{ℕ, _+_, _-_, _*_, _^_, _≤_, _<_}
 use native.Mathlib.Nat.{mul-lt-mul-of-pos-right, mul-le-mul-right}
 use native.Mathlib.Omega.{arith}
-use lib.Dec.{eqb, ltb}
+use lib.Dec.{ltb}
 use lib.ListN.{length}
-use lib.Pow.{pow-pos, high, low, mod-pow-add, mod-mod-pow}
-use borrow.Author.Tests.{le-leb, eq-eqb, ne-eqb, lt-ltb, le-ltb, ltb-true, ltb-false}
+use lib.Pow.{pow-pos}
+use borrow.Author.Tests.{eq-eqb, ne-eqb, lt-ltb, le-ltb, ltb-true, ltb-false}
 use Rattle.nets.specs.Bits.{val, before}
 use Rattle.nets.specs.Networks.{width, value, address, netBits}
 use Rattle.nets.specs.declared.Net.{Net}
-use Rattle.setfile_format.specs.Files.{isClean}
 use Rattle.setfile_format.proofs.RoundTrip.{clean-len, clean-length, clean-high}
 use Rattle.setfile_entries.specs.Entries.{Entry}
-
--- The low bits of two words: those of the low word, or all of them and some of the high word's.
-value-mod-low : (hi lo k : ℕ) → k < 64 → lo < 2 ^ 64 → value hi lo % 2 ^ k ≡ lo % 2 ^ k
-value-mod-low hi lo k h g =
-    let e : (64 - k) + k ≡ 64 = omega arith in
-    sym (mod-mod-pow (value hi lo) (64 - k) k) ∙ rw (e, low hi 64 g)
-
-value-mod-high : (hi lo j : ℕ) → lo < 2 ^ 64 → value hi lo % 2 ^ (j + 64) ≡ value (hi % 2 ^ j) lo
-value-mod-high hi lo j g = mod-pow-add (value hi lo) j 64 ∙ rw (high hi 64 g, low hi 64 g)
-
-high-clean : (hi j : ℕ) → eqb (hi % 2 ^ j) 0 ≡ eqb (value hi 0 % 2 ^ (j + 64)) 0
-high-clean hi j = go (hi % 2 ^ j) ∙ ap (λ x. eqb x 0) (sym (value-mod-high hi 0 j (omega arith)))
-  where
-    go : (x : ℕ) → eqb x 0 ≡ eqb (value x 0) 0
-    go zero = refl
-    go (suc x) = rw (ne-eqb (suc x) 0 (λ q. absurd (omega arith)), ne-eqb (value (suc x) 0) 0 (λ q. absurd (omega arith)))
-
-module _ (n : Net) (w : ℕ) (e : width (n .family) ≡ w) (g : n .lo < 2 ^ 64) (l : n .len ≤ w) where
-  pub isClean-low : w - n .len < 64 → eqb (n .lo % 2 ^ (w - n .len)) 0 ≡ isClean n
-  unfolding isClean
-  isClean-low h = rw (e, le-leb (n .len) w l, value-mod-low (n .hi) (n .lo) (w - n .len) h g)
-
-  pub isClean-filled : 64 ≤ w - n .len → (n .lo ≡ 0 → ⊥) → false ≡ isClean n
-  unfolding isClean
-  isClean-filled h z =
-      let p : w - n .len - 64 + 64 ≡ w - n .len = omega arith in
-      rw (e, le-leb (n .len) w l, ← p, value-mod-high (n .hi) (n .lo) (w - n .len - 64) g) (sym (ne-eqb (value (n .hi % 2 ^ (w - n .len - 64)) (n .lo)) 0 (λ q. z (omega arith))))
-
-  pub isClean-high : 64 ≤ w - n .len → n .lo ≡ 0 → eqb (n .hi % 2 ^ (w - n .len - 64)) 0 ≡ isClean n
-  unfolding isClean
-  isClean-high h z =
-      let p : w - n .len - 64 + 64 ≡ w - n .len = omega arith in
-      rw (e, le-leb (n .len) w l, z) (high-clean (n .hi) (w - n .len - 64) ∙ ap (λ x. eqb (value (n .hi) 0 % 2 ^ x) 0) p)
 
 -- The bits of an entry, by its numbers.
 module _ {f : ℕ} {n : Net} (h : Entry f n) where

@@ -1,36 +1,18 @@
 // Networks with no bits past their lengths, and their order in a list.
 ghost use mathlib.Core.Path.{_≡_};
-ghost use Prim.Native.Nat.{_%_, _^_};
 ghost use Rattle.nets.specs.Bits.{before};
 ghost use Rattle.nets.specs.Networks.{netBits};
 ghost use Rattle.setfile_format.specs.Files.{isClean};
 ghost use Rattle.setfile_entries.specs.Entries.{Entry};
 use nets::Net;
+use nets::has_bit_past;
 use nets::width;
-
-// The k low bits of a word.
-fn low_bits(x: u64, k: u8) -> u64
-    ensures { λ r. ⌜ r ≡ x % 2 ^ k ⌝ }
-{
-    if 64 <= k { x } else { x % (1 << k) }
-}
 
 // The length is within the width, and no bits stand past it.
 pub fn is_clean(n: Net) -> bool
     ensures { λ r. ⌜ r ≡ isClean n ⌝ }
 {
-    let w = width(n.family);
-    if w < n.len {
-        return false;
-    }
-    let k = w - n.len;
-    if k < 64 {
-        return low_bits(n.lo, k) == 0;
-    }
-    if n.lo != 0 {
-        return false;
-    }
-    low_bits(n.hi, k - 64) == 0
+    n.len <= width(n.family) && !has_bit_past(n)
 }
 
 // The network x comes before y in a list: the shorter first, then the smaller address.

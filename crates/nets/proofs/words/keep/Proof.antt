@@ -1,8 +1,10 @@
--- `words::keep` meets its contract: from 64 bits on nothing is left, and below nothing is shifted out. Assumes nothing.
-use native.Mathlib.Nat.{lt-of-lt-of-le, lt-of-le-of-lt, div-eq-of-lt, zero-mul, div-mul-le-self, mod-eq-of-lt}
+-- `words::keep` meets its contract: below 64 bits nothing is shifted out, and from there on nothing is left. Assumes nothing.
+use mathlib.Core.Path.{sym}
 use Prim.Native.Nat.{_^_}
-use lib.Pow.{pow-mono}
+use native.Mathlib.Nat.{lt-of-le-of-lt, div-mul-le-self, mod-eq-of-lt}
+use native.Mathlib.Omega.{arith}
 use borrow.Author.Needs.{needs}
+use Rattle.nets.proofs.TwoWords.{keep-all}
 use Rattle.nets.proofs.words.keep.Statement.{statement}
 use Rattle.nets.proofs.words.keep.Tie as tie
 
@@ -12,5 +14,5 @@ keep-spec =
     (tie.spec
     (λ c. search needs)
     (λ c. search needs)
-    (λ c. rw (div-eq-of-lt (lt-of-lt-of-le (c .before .fits .x .fits) (pow-mono (c .if1 .taken))), zero-mul))
-    (λ c. mod-eq-of-lt (lt-of-le-of-lt (div-mul-le-self (c .before .args .x) (2 ^ c .before .args .k)) (c .before .fits .x .fits))))
+    (λ c. mod-eq-of-lt (lt-of-le-of-lt (div-mul-le-self (c .before .args .x) (2 ^ c .before .args .k)) (c .before .fits .x .fits)))
+    (λ c. sym (keep-all (c .before .args .x) (c .before .args .k) (c .before .fits .x .fits) (omega arith))))
