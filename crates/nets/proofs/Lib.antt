@@ -1,5 +1,5 @@
--- The laws of the definitions, from the bottom up: bit strings and their order; tries and their lists; nodes and lookups; each changing call; the shortest list and the order
--- of merges; numbers and answers; the worked networks.
+-- The laws of the definitions, from the bottom up: bit strings and their order; tries and their lists; nodes and lookups; each changing call; the shortest
+-- list, and the order of merges; numbers and answers; the worked networks.
 pub mod Strings
 pub mod Order
 pub mod Members

@@ -10,7 +10,7 @@ use lib.ListN.{length}
 use borrow.Author.Tests.{eqb-true}
 use Rattle.nets.specs.Bits.{Bits}
 use Rattle.nets.specs.Lists.{covers, within, isList, mergeL, Simplified}
-use Rattle.nets.specs.Shortest.{Grouping, set, both, ends, someOf, everyOf, isIn, names, mergedL}
+use Rattle.nets.specs.Groupings.{Grouping, set, both, ends, someOf, everyOf, isIn, names, mergedL}
 use Rattle.nets.proofs.Strings.{and-left, and-right, or-cases, bool-iff}
 use Rattle.nets.proofs.TrieOf.{isList-within}
 use Rattle.nets.proofs.Simplifying.{simplified-one}
