@@ -1,4 +1,4 @@
-// Reads lines of IPv4 networks into a set, simplifies it once and prints it.
+// Reads lines of IPv4 networks into a set, simplifies it once and prints it: the shortest list of the same addresses, by the theorem simplify-fewest of nets.
 use tool_io::Input;
 
 mod report;

@@ -1,11 +1,14 @@
 -- What holds of some member of a list: of a list in two parts, of the members kept, and the member that shows it. Assumes nothing.
-use mathlib.Core.Bool.{Bool, true, false, cond, _&&_, _||_, or-true, or-assoc, and-false, false≢true, Bool·beq as same}
+use mathlib.Core.Bool.{Bool, true, false, not, cond, _&&_, _||_, or-true, or-assoc, and-false, false≢true, Bool·beq as same}
 use mathlib.Core.List.{List, [], _∷_, _++_, map}
 use mathlib.Core.Logic.{_⊎_, inl, inr}
 use mathlib.Core.Path.{_≡_, refl, ap, sym, _∙_}
+use Prim.Native.Nat.{suc, _≤_, _<_}
+use native.Mathlib.Omega.{arith}
+use lib.ListN.{length}
 use Rattle.nets.specs.Bits.{Bits, equal}
 use Rattle.nets.specs.Lists.{anyOf, member, keep}
-use Rattle.nets.proofs.Strings.{and-left, and-right, and-both, or-cases, bool-iff, equal-refl, equal-is}
+use Rattle.nets.proofs.Strings.{and-left, and-right, and-both, or-cases, bool-iff, cond-both, equal-refl, equal-is}
 
 pub anyOf-append : (f : Bits → Bool) (l m : List Bits) → anyOf f (l ++ m) ≡ (anyOf f l || anyOf f m)
 anyOf-append f [] m = refl
@@ -59,6 +62,22 @@ member-keep f q l =
     let s = equal-is q (r .0) (and-right (f (r .0)) (equal q (r .0)) (r .2)) in
     rw s (and-both (member (r .0) l) (f (r .0)) (r .1) (and-left (f (r .0)) (equal q (r .0)) (r .2))))
     (λ e. anyOf-keep f (equal q) l ∙ anyOf-in (λ m. f m && equal q m) q l (and-left (member q l) (f q) e) (and-both (f q) (equal q q) (and-right (member q l) (f q) e) (equal-refl q)))
+
+length-keep : (f : Bits → Bool) (l : List Bits) → length (keep f l) ≤ length l
+length-keep f [] = omega arith
+length-keep f (m ∷ l) =
+    let ih = length-keep f l in
+    cond-both (λ z. length z ≤ suc (length l)) (f m) (m ∷ keep f l) (keep f l) (omega arith) (omega arith)
+
+-- what leaves a member out is shorter
+pub keep-fewer : (f : Bits → Bool) (l : List Bits) → anyOf f l ≡ true → length (keep (λ m. not (f m)) l) < length l
+keep-fewer f [] e = absurd (false≢true e)
+keep-fewer f (m ∷ l) e = go (f m) e (keep-fewer f l)
+  where
+    go : (x : Bool) → (x || anyOf f l) ≡ true → (anyOf f l ≡ true → length (keep (λ m. not (f m)) l) < length l)
+        → length (cond (not x) (m ∷ keep (λ m. not (f m)) l) (keep (λ m. not (f m)) l)) < suc (length l)
+    go true e ih = omega (arith, length-keep (λ m. not (f m)) l)
+    go false e ih = omega (arith, ih e)
 
 -- One bit in front of each member.
 pub member-map-end : (b : Bool) (l : List Bits) → member [] (map (λ p. b ∷ p) l) ≡ false

@@ -66,7 +66,7 @@ simple-side : (b : Bool) (l r : Trie) → Simple (node l r) → Simple (side b l
 simple-side false l r s = s .1
 simple-side true l r s = s .2
 
-simple-half : (b : Bool) (t : Trie) → Simple t → Simple (half b t)
+pub simple-half : (b : Bool) (t : Trie) → Simple t → Simple (half b t)
 simple-half b none s = tt
 simple-half b (node l r) s = cond-both Simple (bare l r) leaf (side b l r) (refl, tt, tt) (simple-side b l r s)
 

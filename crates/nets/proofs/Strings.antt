@@ -1,6 +1,6 @@
 -- Bit strings: equality, and which leads which. Assumes nothing.
 use mathlib.Core.Bool.{Bool, true, false, not, cond, _&&_, _||_, Bool·beq as same, false≢true}
-use mathlib.Core.List.{[], _∷_}
+use mathlib.Core.List.{[], _∷_, _++_}
 use mathlib.Core.Logic.{_⊎_, inl, inr}
 use mathlib.Core.Path.{_≡_, refl, sym}
 use Prim.Native.Nat.{_≤_}
@@ -78,6 +78,10 @@ pub leads-length : (p q : Bits) → leads p q ≡ true → length p ≤ length q
 leads-length [] q e = omega arith
 leads-length (b ∷ p) [] e = absurd (false≢true e)
 leads-length (b ∷ p) (c ∷ q) e = omega (arith, leads-length p q (leads-tail b c p q e))
+
+pub leads-append : (p q : Bits) → leads p (p ++ q) ≡ true
+leads-append [] q = refl
+leads-append (b ∷ p) q = leads-cons b p (p ++ q) (leads-append p q)
 
 -- a longest leading string is the whole
 pub leads-all : (p q : Bits) → leads p q ≡ true → length q ≤ length p → p ≡ q

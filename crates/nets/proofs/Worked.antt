@@ -43,7 +43,7 @@ allHold [] = true
 allHold (r ∷ t) = holds r && allHold t
 
 -- a.b.c.d/n
-abbrev ip : ℕ → ℕ → ℕ → ℕ → ℕ → Bits
+abbrev pub ip : ℕ → ℕ → ℕ → ℕ → ℕ → Bits
 ip a b c d n = take n (bits 32 (((a * 256 + b) * 256 + c) * 256 + d))
 
 abbrev two : List Bits

@@ -1,0 +1,21 @@
+-- Sets merged by the calls of a history, whatever other calls stand between. A merge is granted only into an empty set.
+--
+--   MergedSince cs ds ss x g    the calls ds, answered ss, begin with cs. Granted ones among the others have merged into set x the sets of the grouping g, as
+--                               they were after cs, in its order. A call that writes another set than x, or is refused, may stand anywhere
+use mathlib.Core.List.{List, _∷_}
+use mathlib.Core.Path.{_≡_}
+use Prim.Native.Nat.{ℕ}
+use Rattle.nets.specs.Groupings.{Grouping, set, both}
+use Rattle.nets.specs.declared.Refusal.{Refusal}
+use Rattle.pool_state.specs.declared.Answer.{Answer}
+use Rattle.pool_state.specs.declared.Answer.the-variants as answer
+use Rattle.histories.specs.Calls.{Call, merge, target}
+
+pub data MergedSince (cs : List Call) : List Call → List Answer → ℕ → Grouping → Type 0 where
+  since : {ss : List Answer} {x : ℕ} → MergedSince cs cs ss x (set x)
+  merged : {ds : List Call} {ss : List Answer} {x a b n : ℕ} {g h : Grouping}
+      → MergedSince cs ds ss a g → MergedSince cs ds ss b h → MergedSince cs (merge x a b ∷ ds) (answer.Granted n ∷ ss) x (both g h)
+  other : {ds : List Call} {ss : List Answer} {x : ℕ} {g : Grouping} {c : Call} {r : Answer}
+      → MergedSince cs ds ss x g → (target c ≡ x → ⊥) → MergedSince cs (c ∷ ds) (r ∷ ss) x g
+  refused : {ds : List Call} {ss : List Answer} {x : ℕ} {g : Grouping} {c : Call} {e : Refusal}
+      → MergedSince cs ds ss x g → MergedSince cs (c ∷ ds) (answer.Refused e ∷ ss) x g
