@@ -9,20 +9,16 @@ mod oracle;
 mod plan;
 mod wire;
 
-fn option(args: &[String], name: &str, default: u64) -> u64 {
-    let at = args.iter().position(|a| a == name);
-    at.and_then(|k| args.get(k + 1)).map_or(default, |n| n.parse().expect("a number"))
-}
-
 fn main() {
-    let args: Vec<String> = std::env::args().skip(1).collect();
-    let right = match args.first().map(String::as_str) {
-        Some("differential") => differential::main(option(&args, "--calls", 100_000), option(&args, "--seed", 1)),
-        Some("sample") => differential::sample(option(&args, "--frames", 6), option(&args, "--seed", 1)),
-        Some("bench") => bench::main(),
+    let words: Vec<String> = std::env::args().skip(1).collect();
+    let numbers: Option<Vec<u64>> = words.iter().skip(1).map(|word| word.parse().ok()).collect();
+    let right = match (words.first().map(String::as_str), numbers.as_deref()) {
+        (Some("differential"), Some(&[calls, seed])) => differential::main(calls, seed),
+        (Some("sample"), Some(&[frames, seed])) => differential::sample(frames, seed),
+        (Some("bench"), Some(&[])) => bench::main(),
         _ => {
-            eprintln!("usage: run differential [--calls N] [--seed S], run sample [--frames N] [--seed S], or run bench");
-            false
+            eprintln!("usage: harness differential CALLS SEED, harness sample FRAMES SEED, or harness bench (`run` has the options)");
+            std::process::exit(2)
         }
     };
     std::process::exit(!right as i32);

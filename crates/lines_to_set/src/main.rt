@@ -9,13 +9,7 @@ use tool_io::Input;
 use tool_io::NODES;
 use tool_io::WORDS;
 
-// The line that is refused.
-fn refused(number: u64, no: u8) {
-    io::write_all(STDERR_FILENO, b"lines-to-set: line ");
-    io::print_decimal(STDERR_FILENO, number);
-    io::write_all(STDERR_FILENO, b" refused: ");
-    tool_io::say_refusal(no);
-}
+mod writing;
 
 // Adds the networks of the lines to the set. Whether none is refused.
 fn take(fd: i32, path: &[u8], pool: &mut [u32]) -> bool {
@@ -23,11 +17,11 @@ fn take(fd: i32, path: &[u8], pool: &mut [u32]) -> bool {
     match input {
         Input::Added => true,
         Input::Refused(number, no) => {
-            refused(number, no);
+            tool_io::say_refused_line(b"lines-to-set", number, no);
             false
         }
         Input::Unreadable => {
-            os::fail(path);
+            tool_io::say_failed(b"lines-to-set", path);
             false
         }
     }
@@ -38,27 +32,21 @@ fn take_file(pool: &mut [u32]) -> bool {
     let mut path = io::buffer();
     let n = os::arg(1, &mut path);
     if os::errno() != 0 {
-        os::fail(b"LINES");
+        tool_io::say_failed(b"lines-to-set", b"LINES");
         return false;
     }
     let fd = tool_io::open_source(&path[..n]);
     if fd < 0 {
-        os::fail(&path[..n]);
+        tool_io::say_failed(b"lines-to-set", &path[..n]);
         return false;
     }
     take(fd, &path[..n], pool)
 }
 
-// Writes a file. One that is cut short, as on a full disk, is no set file: its header has its length.
+// Writes a file, and says so where that failed.
 fn write(path: &[u8], bytes: &[u8]) {
-    let fd = tool_io::open_target(path);
-    if fd < 0 {
-        os::fail(path);
-        return;
-    }
-    let is_written = io::write_all(fd, bytes);
-    if !is_written || libc::close(fd) < 0 {
-        os::fail(path);
+    if !writing::write(path, bytes) {
+        tool_io::say_failed(b"lines-to-set", path);
     }
 }
 
@@ -67,8 +55,7 @@ fn save(pool: &[u32], path: &[u8], bytes: &mut [u8]) {
     let saved = setfile::save(pool, 0, bytes);
     match saved {
         Answer::Refused(no) => {
-            io::write_all(STDERR_FILENO, b"lines-to-set: ");
-            tool_io::say_refusal(no.number());
+            tool_io::say_refused(b"lines-to-set", no.number());
         }
         Answer::Granted(k) => {
             let n = k as usize;
@@ -82,7 +69,7 @@ fn save_file(pool: &[u32]) {
     let mut path = io::buffer();
     let n = os::arg(2, &mut path);
     if os::errno() != 0 {
-        os::fail(b"SETFILE");
+        tool_io::say_failed(b"lines-to-set", b"SETFILE");
         return;
     }
     let mut bytes = [0u8; BYTES];

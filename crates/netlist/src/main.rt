@@ -1,4 +1,6 @@
 // Reads lines of IPv4 networks into a set, simplifies it once and prints it: the shortest list of the same addresses, by the theorem simplify-fewest of nets.
+//
+// Where a line is refused, standard output has the scope document's one line, and standard error says it too, with the refusal's name.
 use tool_io::Input;
 
 mod report;
@@ -6,20 +8,28 @@ mod report;
 // The words of a pool of one set and 1,000 nodes.
 const WORDS: usize = 8072;
 
+// Says so where standard output was not written.
+fn tell(is_written: bool) {
+    if !is_written {
+        tool_io::say_failed(b"netlist", b"standard output");
+    }
+}
+
 fn main() {
     let mut pool = [0u32; WORDS];
     pool::layout(&mut pool, 4, 1, 1000, &[1000], &[1000]);
     let input = tool_io::read_lines(0, &mut pool);
     match input {
         Input::Unreadable => {
-            io::write_all(2, b"netlist: the input cannot be read\n");
+            tool_io::say_failed(b"netlist", b"standard input");
         }
         Input::Refused(number, no) => {
-            report::refused(number, no);
+            tell(report::refused(number, no));
+            tool_io::say_refused_line(b"netlist", number, no);
         }
         Input::Added => {
             change::simplify(&mut pool, 0);
-            report::set(&pool);
+            tell(report::set(&pool));
         }
     }
 }

@@ -21,8 +21,7 @@ fn load(pool: &mut [u32], bytes: &[u8]) -> bool {
     match loaded {
         Answer::Granted(_) => true,
         Answer::Refused(no) => {
-            io::write_all(STDERR_FILENO, b"set-to-lines: ");
-            tool_io::say_refusal(no.number());
+            tool_io::say_refused(b"set-to-lines", no.number());
             false
         }
     }
@@ -34,7 +33,7 @@ fn load_from(fd: i32, path: &[u8], pool: &mut [u32]) -> bool {
     let n = io::read_full(fd, &mut bytes);
     let more = past(fd);
     if more < 0 {
-        os::fail(path);
+        tool_io::say_failed(b"set-to-lines", path);
         return false;
     }
     if more > 0 {
@@ -52,12 +51,12 @@ fn load_file(pool: &mut [u32]) -> bool {
     let mut path = io::buffer();
     let n = os::arg(1, &mut path);
     if os::errno() != 0 {
-        os::fail(b"SETFILE");
+        tool_io::say_failed(b"set-to-lines", b"SETFILE");
         return false;
     }
     let fd = tool_io::open_source(&path[..n]);
     if fd < 0 {
-        os::fail(&path[..n]);
+        tool_io::say_failed(b"set-to-lines", &path[..n]);
         return false;
     }
     load_from(fd, &path[..n], pool)
@@ -66,7 +65,7 @@ fn load_file(pool: &mut [u32]) -> bool {
 // Prints the networks of the set, by way of lent rows.
 fn print(pool: &[u32], rows: &mut [u64]) {
     if !tool_io::print_set(pool, 0, rows) {
-        os::fail(b"standard output");
+        tool_io::say_failed(b"set-to-lines", b"standard output");
     }
 }
 

@@ -1,5 +1,4 @@
-// Networks on standard output, and refusals on standard error.
-use libc::STDERR_FILENO;
+// Networks on standard output.
 use libc::STDOUT_FILENO;
 use nets::Net;
 use pool_state::Answer;
@@ -47,21 +46,4 @@ pub fn print_set(pool: &[u32], set: u32, rows: &mut [u64]) -> bool {
         return false;
     };
     networks(rows, n as usize)
-}
-
-// The name of a refusal's number, and the end of the line.
-pub fn say_refusal(no: u8) -> bool {
-    match no {
-        1 => io::write_all(STDERR_FILENO, b"BadSetup\n"),
-        2 => io::write_all(STDERR_FILENO, b"Damaged\n"),
-        3 => io::write_all(STDERR_FILENO, b"NoSet\n"),
-        4 => io::write_all(STDERR_FILENO, b"BadText\n"),
-        5 => io::write_all(STDERR_FILENO, b"BadFile\n"),
-        6 => io::write_all(STDERR_FILENO, b"WrongFamily\n"),
-        7 => io::write_all(STDERR_FILENO, b"BadNetwork\n"),
-        8 => io::write_all(STDERR_FILENO, b"Occupied\n"),
-        9 => io::write_all(STDERR_FILENO, b"OverLimit\n"),
-        10 => io::write_all(STDERR_FILENO, b"NoRoom\n"),
-        _ => io::write_all(STDERR_FILENO, b"ShortBuffer\n"),
-    }
 }
