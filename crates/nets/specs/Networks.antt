@@ -1,5 +1,6 @@
 -- A network as numbers: family, address in two 64-bit words, length. From numbers to bits and back, over the width of the family.
 --
+--   isFamily f       the families are 4 and 6
 --   width f          32 bits for family 4, 128 for family 6
 --   address n        the number of the two words
 --   netBits n        the network: the first len bits of its address
@@ -23,6 +24,9 @@ use Rattle.nets.specs.declared.Prefix.the-variants as prefix
 use Rattle.nets.specs.declared.PrefixBits.{PrefixBits}
 use Rattle.nets.specs.declared.NextBit.{NextBit}
 use Rattle.nets.specs.declared.NextBit.the-variants.{Bit, End}
+
+abbrev pub isFamily : ℕ → Bool
+isFamily f = eqb f 4 || eqb f 6
 
 unfoldable pub width : ℕ → ℕ
 width f = cond (eqb f 4) 32 128
@@ -50,7 +54,7 @@ unfoldable pub inRange : Net → Bool
 inRange n = leb (n .len) (width (n .family)) && ltb (address n) (2 ^ width (n .family))
 
 unfoldable pub refusalOf : Net → ℕ
-refusalOf n = cond (eqb (n .family) 4 || eqb (n .family) 6) (cond (inRange n) 0 7) 6
+refusalOf n = cond (isFamily (n .family)) (cond (inRange n) 0 7) 6
 
 -- the answers: a network, or a refusal with zeros; and the answer to a network as given
 abbrev pub noNet : Net

@@ -3,9 +3,11 @@ ghost use mathlib.Core.Path.{_≡_};
 ghost use Rattle.nets.specs.Refusals.{number, answered};
 ghost use Rattle.nets.specs.Networks.{width, netWords, netOf, refusalOf, noNet, takenAs, judged, withLen, cleared, bigEndian, startOf, noBits, prefixAs, nextOf};
 
+pub mod families;
 mod rules;
 mod words;
 
+pub use families::width;
 pub use words::has_bit_past;
 
 // The refusals of the table, by name.
@@ -139,13 +141,6 @@ impl PrefixBits {
         self.len -= 1;
         NextBit::Bit(bit, self)
     }
-}
-
-// How many bits an address of the family has.
-pub fn width(family: u8) -> u8
-    ensures { λ r. ⌜ r ≡ width family ⌝ }
-{
-    if family == IPV4 { 32 } else { 128 }
 }
 
 // The network of one IPv4 address, its most significant byte first.
