@@ -1,4 +1,5 @@
 -- Answers by the table: the number says which refusal it is, so an answer's number and values say which answer it is. Assumes nothing.
+use mathlib.Core.Bool.{Bool, true, false, cond, _&&_}
 use mathlib.Core.List.{[], _∷_}
 use mathlib.Core.Option.{Option, none, some}
 use mathlib.Core.Path.{_≡_, refl, ap, sym, _∙_}
@@ -7,7 +8,7 @@ use native.Mathlib.Omega.{arith}
 use lib.ListN.{getD}
 use borrow.Author.Tests.{ne-eqb}
 use Rattle.nets.specs.Refusals.{number, answered}
-use Rattle.nets.specs.Networks.{refusalOf, noNet, takenAs, judged, noBits, startOf, prefixAs}
+use Rattle.nets.specs.Networks.{isFamily, inRange, refusalOf, noNet, takenAs, judged, withLen, withLenNo, noBits, startOf, prefixAs}
 use Rattle.nets.specs.declared.Refusal.{Refusal}
 use Rattle.nets.specs.declared.Refusal.the-variants.{BadSetup, Damaged, NoSet, BadText, BadFile, WrongFamily, BadNetwork, Occupied, OverLimit, NoRoom, ShortBuffer}
 use Rattle.nets.specs.declared.Net.{Net}
@@ -57,6 +58,27 @@ pub judged-refused : {A : Type 0} (t : Taken) (n : Net) (r : Refusal) (z v : A) 
 judged-refused t n r z v e h =
     let k : refusalOf n ≡ number r = ap (λ p. p .0) (sym e ∙ ap takenAs h) in
     rw (k, ne-eqb (number r) 0 (number-some r))
+
+-- Another length: of a network it is refused as its result is, and what is no network is refused as it is.
+pub withLenNo-net : (n : Net) (k : ℕ) → refusalOf n ≡ 0 → withLenNo n k ≡ refusalOf (withLen n k)
+unfolding withLenNo refusalOf
+withLenNo-net n k e = go (isFamily (n .family)) (inRange n) e
+  where
+    go : (f r : Bool) → _≡_ {A = ℕ} (cond f (cond r 0 7) 6) 0
+        → _≡_ {A = ℕ} (cond f (cond (r && inRange (withLen n k)) 0 7) 6) (cond f (cond (inRange (withLen n k)) 0 7) 6)
+    go true true q = refl
+    go true false q = absurd (omega arith)
+    go false r q = refl
+
+pub withLenNo-none : (n : Net) (k : ℕ) → (refusalOf n ≡ 0 → ⊥) → withLenNo n k ≡ refusalOf n
+unfolding withLenNo refusalOf
+withLenNo-none n k e = go (isFamily (n .family)) (inRange n) e
+  where
+    go : (f r : Bool) → (_≡_ {A = ℕ} (cond f (cond r 0 7) 6) 0 → ⊥)
+        → _≡_ {A = ℕ} (cond f (cond (r && inRange (withLen n k)) 0 7) 6) (cond f (cond r 0 7) 6)
+    go true true q = absurd (q refl)
+    go true false q = refl
+    go false r q = refl
 
 pub prefix-bits : (n : Net) (p : Prefix) (s : PrefixBits) → prefixAs p ≡ answered (refusalOf n) noBits (startOf n) → p ≡ prefix.Bits s → (refusalOf n ≡ 0) × (s ≡ startOf n)
 prefix-bits n p s e h = answered-granted (refusalOf n) noBits (startOf n) s (sym (ap prefixAs h) ∙ e)

@@ -6,7 +6,9 @@
 --   netBits n        the network: the first len bits of its address
 --   netFrom f p      the numbers of the network p: the bits past its length are clear
 --   cleared n        the network n with the bits past its length cleared
+--   withLen n k      the numbers of n with the length k
 --   refusalOf n      6 for another family than 4 and 6, 7 for a length or an address outside the range, 0 for a network
+--   withLenNo n k    6 for another family, 7 where n or withLen n k is outside the range, else 0
 --   bigEndian b xs k the number that the first k digits of base b write, the most significant first
 --   bitsLeft s       the bits that the iterator s has still to hand out;  nextOf s: its next bit, and the iterator behind it
 use mathlib.Core.Bool.{Bool, cond, _&&_, _||_}
@@ -67,9 +69,14 @@ takenAs (taken.Refused r) = (number r, noNet)
 abbrev pub judged : Net → ℕ × Net
 judged n = answered (refusalOf n) noNet n
 
--- the numbers with another length, and a network with the bits past its length cleared
+-- the numbers with another length, and their refusal: a network is asked for before and after
 abbrev pub withLen : Net → ℕ → Net
 withLen n k = netWords (n .family) (n .hi) (n .lo) k
+
+unfoldable pub withLenNo : Net → ℕ → ℕ
+withLenNo n k = cond (isFamily (n .family)) (cond (inRange n && inRange (withLen n k)) 0 7) 6
+
+-- a network with the bits past its length cleared
 
 unfoldable pub cleared : Net → Net
 cleared n = netFrom (n .family) (netBits n)

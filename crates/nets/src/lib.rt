@@ -1,7 +1,8 @@
 // Networks: the numbers of one, the refusal of numbers that are none, clearing, and the bits from the highest on.
 ghost use mathlib.Core.Path.{_≡_};
 ghost use Rattle.nets.specs.Refusals.{number, answered};
-ghost use Rattle.nets.specs.Networks.{width, netWords, netOf, refusalOf, noNet, takenAs, judged, withLen, cleared, bigEndian, startOf, noBits, prefixAs, nextOf};
+ghost use Rattle.nets.specs.Networks.{width, netWords, netOf, refusalOf, noNet, takenAs, judged, withLen, withLenNo, cleared, bigEndian};
+ghost use Rattle.nets.specs.Networks.{startOf, noBits, prefixAs, nextOf};
 
 pub mod families;
 mod rules;
@@ -109,11 +110,17 @@ impl Net {
     }
 
     // The network of length len around the same address.
-    pub fn with_new_prefix(mut self, len: u8) -> Taken
-        ensures { λ r. ⌜ takenAs r ≡ answered (refusalOf (withLen self len)) noNet (cleared (withLen self len)) ⌝ }
+    pub fn with_new_prefix(self, len: u8) -> Taken
+        ensures { λ r. ⌜ takenAs r ≡ answered (withLenNo self len) noNet (cleared (withLen self len)) ⌝ }
     {
-        self.len = len;
-        self.to_network()
+        let t = rules::judge(self);
+        match t {
+            Taken::Network(mut n) => {
+                n.len = len;
+                n.to_network()
+            }
+            Taken::Refused(no) => Taken::Refused(no),
+        }
     }
 
     // The bits of the network, to be taken one by one.
