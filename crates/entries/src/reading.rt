@@ -9,7 +9,7 @@ ghost use Rattle.files.specs.Files.{entryBytes, fileBytes, mostEntries, headNum
 use crate::cleared;
 use nets::IPV4;
 use nets::Net;
-use pool::checking::is_family;
+use nets::families::is_family;
 
 // The bytes of the header.
 pub const HEADER: usize = 16;
