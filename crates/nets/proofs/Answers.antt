@@ -8,13 +8,15 @@ use native.Mathlib.Omega.{arith}
 use lib.ListN.{getD}
 use borrow.Author.Tests.{ne-eqb}
 use Rattle.nets.specs.Refusals.{number, answered}
-use Rattle.nets.specs.Networks.{isFamily, inRange, refusalOf, noNet, takenAs, judged, withLen, withLenNo, noBits, startOf, prefixAs}
+use Rattle.nets.specs.Networks.{isFamily, inRange, refusalOf, noNet, takenAs, judged, withLen, withLenNo, noBits, startOf, prefixAs, nextAs, nextOf}
 use Rattle.nets.specs.declared.Refusal.{Refusal}
 use Rattle.nets.specs.declared.Refusal.the-variants.{BadSetup, Damaged, NoSet, BadText, BadFile, WrongFamily, BadNetwork, Occupied, OverLimit, NoRoom, ShortBuffer}
 use Rattle.nets.specs.declared.Net.{Net}
 use Rattle.nets.specs.declared.Taken.{Taken}
 use Rattle.nets.specs.declared.Taken.the-variants as taken
 use Rattle.nets.specs.declared.PrefixBits.{PrefixBits}
+use Rattle.nets.specs.declared.NextBit.{NextBit}
+use Rattle.nets.specs.declared.NextBit.the-variants.{Bit, End}
 use Rattle.nets.specs.declared.Prefix.{Prefix}
 use Rattle.nets.specs.declared.Prefix.the-variants as prefix
 
@@ -97,3 +99,12 @@ prefixAs-one (prefix.Bits m) (prefix.Bits n) e = ap prefix.Bits (ap (λ p. p .1)
 prefixAs-one (prefix.Bits m) (prefix.Refused y) e = absurd (number-some y (sym (ap (λ p. p .0) e)))
 prefixAs-one (prefix.Refused x) (prefix.Bits n) e = absurd (number-some x (ap (λ p. p .0) e))
 prefixAs-one (prefix.Refused x) (prefix.Refused y) e = ap prefix.Refused (number-one x y (ap (λ p. p .0) e))
+
+pub nextAs-one : (r s : NextBit) → nextAs r ≡ nextAs s → r ≡ s
+nextAs-one (Bit b p) (Bit d q) e = let x = ap (λ a. a .1 .1 .0) e in let y = ap (λ a. a .1 .1 .1) e in cc
+nextAs-one (Bit b p) End e = let h : true ≡ false = ap (λ a. a .1 .0) e in let z : _≡_ {A = ℕ} 0 1 = cc in absurd (omega arith)
+nextAs-one End (Bit d q) e = let h : false ≡ true = ap (λ a. a .1 .0) e in let z : _≡_ {A = ℕ} 0 1 = cc in absurd (omega arith)
+nextAs-one End End e = refl
+
+pub next-determined : (s : PrefixBits) (r q : NextBit) → nextAs r ≡ nextOf s → nextAs q ≡ nextOf s → r ≡ q
+next-determined s r q e h = nextAs-one r q (e ∙ sym h)

@@ -11,7 +11,7 @@
 --   withLenNo n k    6 for another family, 7 where n or withLen n k is outside the range, else 0
 --   bigEndian b xs k the number that the first k digits of base b write, the most significant first
 --   bitsLeft s       the bits that the iterator s has still to hand out;  nextOf s: its next bit, and the iterator behind it
-use mathlib.Core.Bool.{Bool, cond, _&&_, _||_}
+use mathlib.Core.Bool.{Bool, true, false, cond, _&&_, _||_}
 use mathlib.Core.List.{List, [], _∷_}
 use Prim.Native.Nat.{ℕ, zero, suc, _+_, _-_, _*_, _/_, _%_, _^_}
 use lib.Dec.{eqb, leb, ltb}
@@ -105,12 +105,18 @@ abbrev pub prefixAs : Prefix → ℕ × PrefixBits
 prefixAs (prefix.Bits s) = (0, s)
 prefixAs (prefix.Refused r) = (number r, noBits)
 
--- one bit, the highest, and the iterator of the others, one place to the left; and the bits that a step hands out
-unfoldable pub nextOf : PrefixBits → NextBit
-nextOf s =
-    cond (eqb (s .len) 0) End
-    (Bit (eqb (value (s .hi) (s .lo) / 2 ^ 127 % 2) 1) (bitsOf (value (s .hi) (s .lo) * 2) (s .len - 1)))
+-- a step: whether there is a bit, the bit, and the iterator of those behind it
+abbrev pub nextAs : NextBit → ℕ × (Bool × (Bool × PrefixBits))
+nextAs (Bit b s) = (0, (true, (b, s)))
+nextAs End = (0, (false, (false, noBits)))
 
-abbrev pub handed : NextBit → Bits
-handed End = []
-handed (Bit b s) = b ∷ bitsLeft s
+-- the highest bit, and the others one place to the left; and the bits that a step hands out
+unfoldable pub nextOf : PrefixBits → ℕ × (Bool × (Bool × PrefixBits))
+nextOf s = (
+  0,
+  cond (eqb (s .len) 0) (false, (false, noBits))
+      (true, (eqb (value (s .hi) (s .lo) / 2 ^ 127 % 2) 1, bitsOf (value (s .hi) (s .lo) * 2) (s .len - 1))),
+)
+
+abbrev pub handed : ℕ × (Bool × (Bool × PrefixBits)) → Bits
+handed a = cond (a .1 .0) (a .1 .1 .0 ∷ bitsLeft (a .1 .1 .1)) []

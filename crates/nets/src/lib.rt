@@ -2,7 +2,7 @@
 ghost use mathlib.Core.Path.{_≡_};
 ghost use Rattle.nets.specs.Refusals.{number, answered};
 ghost use Rattle.nets.specs.Networks.{width, netWords, netOf, refusalOf, noNet, takenAs, judged, withLen, withLenNo, cleared, bigEndian};
-ghost use Rattle.nets.specs.Networks.{startOf, noBits, prefixAs, nextOf};
+ghost use Rattle.nets.specs.Networks.{startOf, noBits, prefixAs, nextAs, nextOf};
 
 pub mod families;
 mod rules;
@@ -137,7 +137,7 @@ impl Net {
 impl PrefixBits {
     // The next bit, with the iterator of those behind it.
     pub fn next(mut self) -> NextBit
-        ensures { λ r. ⌜ r ≡ nextOf self ⌝ }
+        ensures { λ r. ⌜ nextAs r ≡ nextOf self ⌝ }
     {
         if self.len == 0 {
             return NextBit::End;
