@@ -8,7 +8,7 @@ pub mod families;
 mod rules;
 mod words;
 
-pub use families::width;
+use families::width;
 pub use words::has_bit_past;
 
 // The refusals of the table, by name.
