@@ -284,7 +284,7 @@ fn alone(c: &Call) -> Answer {
         TO_NETWORK => answered(no, || given(net(n.family, member(n)))),
         WITH_NEW_PREFIX => {
             let m = Net { len: c.a as u8, ..n.clone() };
-            answered(net_no(&m), || given(net(m.family, member(&m))))
+            answered(if no != 0 { no } else { net_no(&m) }, || given(net(m.family, member(&m))))
         }
         PREFIX_BITS => answered(no, || {
             let a = address(n) << (128 - width(n.family));

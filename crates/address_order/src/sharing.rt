@@ -5,7 +5,7 @@ ghost use lib.Count.{leadingZeros};
 ghost use Rattle.nets.specs.Networks.{value, netBits, refusalOf};
 ghost use Rattle.address_order.specs.Streams.{shared};
 use nets::Net;
-use nets::width;
+use nets::families::width;
 
 // How many leading zeros the number of two words has.
 fn zeros(hi: u64, lo: u64) -> u8

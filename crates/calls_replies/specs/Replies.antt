@@ -5,15 +5,13 @@
 --   bitReply            the step of the bit iterator
 --   toldReply           the answers by a flag;  entryReply: one number, and an entry of a page
 --   changed w k a f     a changing call on set k: its answer, and the words that it leaves
-use mathlib.Core.Bool.{Bool, true, false, cond}
+use mathlib.Core.Bool.{Bool, false, cond}
 use mathlib.Core.List.{List}
 use Prim.Native.Nat.{ℕ}
 use Rattle.nets.specs.Bits.{Bits}
 use Rattle.nets.specs.Networks.{netWords, noNet}
 use Rattle.nets.specs.declared.Net.{Net}
 use Rattle.nets.specs.declared.PrefixBits.{PrefixBits}
-use Rattle.nets.specs.declared.NextBit.{NextBit}
-use Rattle.nets.specs.declared.NextBit.the-variants.{Bit, End}
 use Rattle.pool_state.specs.States.{State}
 use Rattle.pool_state.specs.Decode.{decode}
 use Rattle.pool_state.specs.Rules.{toldAs}
@@ -51,9 +49,8 @@ leftNet s = netWords 0 (s .hi) (s .lo) (s .len)
 abbrev pub bitsReply : ℕ × PrefixBits → Reply
 bitsReply a = reply (a .0) false 0 0 (leftNet (a .1))
 
-abbrev pub bitReply : NextBit → Reply
-bitReply End = noReply 0
-bitReply (Bit b s) = reply 0 true (cond b 1 0) 0 (leftNet s)
+abbrev pub bitReply : ℕ × (Bool × (Bool × PrefixBits)) → Reply
+bitReply a = reply (a .0) (a .1 .0) (cond (a .1 .1 .0) 1 0) 0 (leftNet (a .1 .1 .1))
 
 abbrev pub toldReply : Told → Reply
 toldReply t = flagReply (toldAs t)

@@ -1,7 +1,7 @@
 // The answers of the calls as the records of docs/CALLS.md: a refusal has its number, and zeros elsewhere.
 ghost use mathlib.Core.Bool.{true, cond};
 ghost use mathlib.Core.Path.{_≡_};
-ghost use Rattle.nets.specs.Networks.{takenAs, prefixAs};
+ghost use Rattle.nets.specs.Networks.{takenAs, prefixAs, nextAs};
 ghost use Rattle.nets.specs.Refusals.{number};
 ghost use Rattle.pool_state.specs.Rules.{answerAs, reportAs};
 ghost use Rattle.lookup.specs.Rules.{supernetAs};
@@ -205,7 +205,7 @@ fn one_if(bit: bool) -> u32
 }
 
 fn of_step(bit: bool, left: PrefixBits) -> Reply
-    ensures { λ r. ⌜ r ≡ bitReply (NextBit.Bit bit left) ⌝ }
+    ensures { λ r. ⌜ r ≡ bitReply (nextAs (NextBit.Bit bit left)) ⌝ }
 {
     Reply {
         no: 0,
@@ -217,7 +217,7 @@ fn of_step(bit: bool, left: PrefixBits) -> Reply
 }
 
 pub fn of_bit(a: NextBit) -> Reply
-    ensures { λ r. ⌜ r ≡ bitReply a ⌝ }
+    ensures { λ r. ⌜ r ≡ bitReply (nextAs a) ⌝ }
 {
     match a {
         NextBit::Bit(bit, left) => of_step(bit, left),

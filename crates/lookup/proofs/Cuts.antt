@@ -1,18 +1,19 @@
 -- A member that a path shows is at most as long as the query: the query cut to its length is a network. Assumes nothing.
 use mathlib.Core.Bool.{Bool, true, false, cond}
 use mathlib.Core.List.{List, [], _∷_}
-use mathlib.Core.Path.{_≡_, refl}
+use mathlib.Core.Path.{_≡_, refl, _∙_}
 use Prim.Native.Nat.{ℕ, _+_, _≤_}
 use native.Mathlib.Omega.{arith}
 use lib.Dec.{eqb, leb, ltb}
 use lib.ListN.{length, getD}
 use borrow.Author.Tests.{eqb-true}
 use Rattle.nets.specs.Bits.{Bits}
-use Rattle.nets.specs.Networks.{netBits, refusalOf, withLen}
+use Rattle.nets.specs.Networks.{netBits, refusalOf, withLen, withLenNo}
 use Rattle.nets.specs.declared.Net.{Net}
 use Rattle.nets.specs.declared.Refusal.the-variants.{Damaged, NoSet, WrongFamily, BadNetwork}
 use Rattle.nets.proofs.Strings.{cond-both}
 use Rattle.nets.proofs.Numbers.{refusalOf-is, is-refusalOf, length-netBits}
+use Rattle.nets.proofs.Answers.{withLenNo-net}
 use Rattle.nodes.specs.Words.{wordAt}
 use Rattle.pool_state.specs.Decode.{recordAt, base, isHeader}
 use Rattle.lookup.specs.Walks.{areNodes, toward, shows, walk, walkFrom}
@@ -50,11 +51,13 @@ module _ (w : List ℕ) (b n m : ℕ) where
 
 -- the query n, cut to the length of the member that is shown, is a network
 abbrev pub Cut : Net → Shown → Type 0
-Cut n = Shows (λ d. refusalOf (withLen n d) ≡ 0)
+Cut n = Shows (λ d. withLenNo n d ≡ 0)
 
 module _ (n : Net) where
   cut : refusalOf n ≡ 0 → (s : Shown) → AtMost (n .len) s → Cut n s
-  cut e (Member d) h = let k = refusalOf-is n e in is-refusalOf (withLen n d) (record { family = k .family; len = omega (arith, k .len); address = k .address })
+  cut e (Member d) h =
+      let k = refusalOf-is n e in
+      withLenNo-net n d e ∙ is-refusalOf (withLen n d) (record { family = k .family; len = omega (arith, k .len); address = k .address })
   cut e Nothing h = tt
   cut e (Refused r) h = tt
 

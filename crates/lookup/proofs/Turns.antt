@@ -8,7 +8,7 @@ use native.Mathlib.Omega.{arith}
 use lib.Dec.{eqb, leb}
 use borrow.Author.Tests.{le-leb, lt-leb, eq-eqb, ne-eqb}
 use Rattle.nets.specs.Bits.{Bits}
-use Rattle.nets.specs.Networks.{bitsLeft, nextOf, handed}
+use Rattle.nets.specs.Networks.{bitsLeft, nextAs, nextOf, handed}
 use Rattle.nets.specs.declared.PrefixBits.{PrefixBits}
 use Rattle.nets.specs.declared.NextBit.the-variants.{Bit, End}
 use Rattle.nets.specs.declared.Refusal.the-variants.{Damaged}
@@ -87,7 +87,7 @@ pub record Inner (w : List ℕ) (b n root : ℕ) (bits : PrefixBits) (i d : ℕ)
 
 pub record Turned (w : List ℕ) (b n root : ℕ) (bits : PrefixBits) (i d : ℕ) (left : PrefixBits) (x c : ℕ) (bit : Bool) (later : PrefixBits) : Type 0 where
   pub inner : Inner w b n root bits i d left x
-  pub next : nextOf left ≡ Bit bit later
+  pub next : nextOf left ≡ nextAs (Bit bit later)
   pub by : c ≡ toward bit x
 
 module _ {w : List ℕ} {b n root : ℕ} {bits : PrefixBits} {i d : ℕ} {left : PrefixBits} {x : ℕ} (g : Inner w b n root bits i d left x) where
@@ -97,7 +97,7 @@ module _ {w : List ℕ} {b n root : ℕ} {bits : PrefixBits} {i d : ℕ} {left :
   handed-next : bitsLeft left ≡ handed (nextOf left)
   handed-next = bitsLeft-next left (omega (arith, g .down .few))
 
-  pub inner-end : nextOf left ≡ End → Nothing ≡ walkFrom w b n (bitsLeft bits) root
+  pub inner-end : nextOf left ≡ nextAs End → Nothing ≡ walkFrom w b n (bitsLeft bits) root
   inner-end e =
       let h : bitsLeft left ≡ [] = handed-next ∙ ap handed e in
       rw h at on

@@ -9,7 +9,7 @@ use walking::lookup;
 use walking::root;
 ghost use mathlib.Core.Bool.{true};
 ghost use mathlib.Core.Path.{_≡_};
-ghost use Rattle.nets.specs.Networks.{refusalOf, withLen, cleared};
+ghost use Rattle.nets.specs.Networks.{withLen, withLenNo, cleared};
 ghost use Rattle.pool_state.specs.Rules.{toldAs};
 ghost use Rattle.lookup.specs.Rules.{supernetAs, supernetRule, containsRule, emptyRule};
 
@@ -24,7 +24,7 @@ pub enum Covering {
 
 // The member of that length around the query.
 fn member(net: Net, len: u8) -> Covering
-    requires { ⌜ refusalOf (withLen net len) ≡ 0 ⌝ }
+    requires { ⌜ withLenNo net len ≡ 0 ⌝ }
     ensures { λ r. ⌜ supernetAs r ≡ (0, (true, cleared (withLen net len))) ⌝ }
 {
     let t = net.with_new_prefix(len);

@@ -1,4 +1,5 @@
 -- Answers by the table: the number says which refusal it is, so an answer's number and values say which answer it is. Assumes nothing.
+use mathlib.Core.Bool.{Bool, true, false, cond, _&&_}
 use mathlib.Core.List.{[], _∷_}
 use mathlib.Core.Option.{Option, none, some}
 use mathlib.Core.Path.{_≡_, refl, ap, sym, _∙_}
@@ -7,13 +8,15 @@ use native.Mathlib.Omega.{arith}
 use lib.ListN.{getD}
 use borrow.Author.Tests.{ne-eqb}
 use Rattle.nets.specs.Refusals.{number, answered}
-use Rattle.nets.specs.Networks.{refusalOf, noNet, takenAs, judged, noBits, startOf, prefixAs}
+use Rattle.nets.specs.Networks.{isFamily, inRange, refusalOf, noNet, takenAs, judged, withLen, withLenNo, noBits, startOf, prefixAs, nextAs, nextOf}
 use Rattle.nets.specs.declared.Refusal.{Refusal}
 use Rattle.nets.specs.declared.Refusal.the-variants.{BadSetup, Damaged, NoSet, BadText, BadFile, WrongFamily, BadNetwork, Occupied, OverLimit, NoRoom, ShortBuffer}
 use Rattle.nets.specs.declared.Net.{Net}
 use Rattle.nets.specs.declared.Taken.{Taken}
 use Rattle.nets.specs.declared.Taken.the-variants as taken
 use Rattle.nets.specs.declared.PrefixBits.{PrefixBits}
+use Rattle.nets.specs.declared.NextBit.{NextBit}
+use Rattle.nets.specs.declared.NextBit.the-variants.{Bit, End}
 use Rattle.nets.specs.declared.Prefix.{Prefix}
 use Rattle.nets.specs.declared.Prefix.the-variants as prefix
 
@@ -58,6 +61,27 @@ judged-refused t n r z v e h =
     let k : refusalOf n ≡ number r = ap (λ p. p .0) (sym e ∙ ap takenAs h) in
     rw (k, ne-eqb (number r) 0 (number-some r))
 
+-- Another length: of a network it is refused as its result is, and what is no network is refused as it is.
+pub withLenNo-net : (n : Net) (k : ℕ) → refusalOf n ≡ 0 → withLenNo n k ≡ refusalOf (withLen n k)
+unfolding withLenNo refusalOf
+withLenNo-net n k e = go (isFamily (n .family)) (inRange n) e
+  where
+    go : (f r : Bool) → _≡_ {A = ℕ} (cond f (cond r 0 7) 6) 0
+        → _≡_ {A = ℕ} (cond f (cond (r && inRange (withLen n k)) 0 7) 6) (cond f (cond (inRange (withLen n k)) 0 7) 6)
+    go true true q = refl
+    go true false q = absurd (omega arith)
+    go false r q = refl
+
+pub withLenNo-none : (n : Net) (k : ℕ) → (refusalOf n ≡ 0 → ⊥) → withLenNo n k ≡ refusalOf n
+unfolding withLenNo refusalOf
+withLenNo-none n k e = go (isFamily (n .family)) (inRange n) e
+  where
+    go : (f r : Bool) → (_≡_ {A = ℕ} (cond f (cond r 0 7) 6) 0 → ⊥)
+        → _≡_ {A = ℕ} (cond f (cond (r && inRange (withLen n k)) 0 7) 6) (cond f (cond r 0 7) 6)
+    go true true q = absurd (q refl)
+    go true false q = refl
+    go false r q = refl
+
 pub prefix-bits : (n : Net) (p : Prefix) (s : PrefixBits) → prefixAs p ≡ answered (refusalOf n) noBits (startOf n) → p ≡ prefix.Bits s → (refusalOf n ≡ 0) × (s ≡ startOf n)
 prefix-bits n p s e h = answered-granted (refusalOf n) noBits (startOf n) s (sym (ap prefixAs h) ∙ e)
 
@@ -75,3 +99,12 @@ prefixAs-one (prefix.Bits m) (prefix.Bits n) e = ap prefix.Bits (ap (λ p. p .1)
 prefixAs-one (prefix.Bits m) (prefix.Refused y) e = absurd (number-some y (sym (ap (λ p. p .0) e)))
 prefixAs-one (prefix.Refused x) (prefix.Bits n) e = absurd (number-some x (ap (λ p. p .0) e))
 prefixAs-one (prefix.Refused x) (prefix.Refused y) e = ap prefix.Refused (number-one x y (ap (λ p. p .0) e))
+
+pub nextAs-one : (r s : NextBit) → nextAs r ≡ nextAs s → r ≡ s
+nextAs-one (Bit b p) (Bit d q) e = let x = ap (λ a. a .1 .1 .0) e in let y = ap (λ a. a .1 .1 .1) e in cc
+nextAs-one (Bit b p) End e = let h : true ≡ false = ap (λ a. a .1 .0) e in let z : _≡_ {A = ℕ} 0 1 = cc in absurd (omega arith)
+nextAs-one End (Bit d q) e = let h : false ≡ true = ap (λ a. a .1 .0) e in let z : _≡_ {A = ℕ} 0 1 = cc in absurd (omega arith)
+nextAs-one End End e = refl
+
+pub next-determined : (s : PrefixBits) (r q : NextBit) → nextAs r ≡ nextOf s → nextAs q ≡ nextOf s → r ≡ q
+next-determined s r q e h = nextAs-one r q (e ∙ sym h)

@@ -13,7 +13,7 @@ use lib.Bits.{bitOr, or-shifted}
 use lib.ListN.{getD}
 use lib.Pow.{pow-pos, pow-mono, pow-add, shl-shr, shr-shr, split, high, low, mod-pow-add}
 use borrow.Author.Tests.{eqb-true, eq-eqb, ne-eqb, ltb-true, ltb-false, le-ltb, lt-ltb}
-use Rattle.nets.specs.Networks.{width, value, netWords, netOf, address, bitsWords, bigEndian, inRange, refusalOf, cleared, startOf, nextOf}
+use Rattle.nets.specs.Networks.{width, value, netWords, netOf, address, bitsWords, bigEndian, inRange, refusalOf, cleared, startOf, nextAs, nextOf}
 use Rattle.nets.specs.declared.Net.{Net}
 use Rattle.nets.specs.declared.PrefixBits.{PrefixBits}
 use Rattle.nets.specs.declared.NextBit.the-variants.{Bit}
@@ -143,7 +143,7 @@ twice-low : (hi lo : ℕ) → value hi lo * 2 % 2 ^ 64 ≡ lo * 2 % 2 ^ 64
 twice-low hi lo = omega arith
 
 pub nextOf-bit : (s : PrefixBits) → (s .len ≡ 0 → ⊥) → s .hi < 2 ^ 64 → s .lo < 2 ^ 64
-    → Bit (eqb (s .hi / 2 ^ 63) 1) (bitsWords (bitOr (s .hi * 2 % 2 ^ 64) (s .lo / 2 ^ 63)) (s .lo * 2 % 2 ^ 64) (s .len - 1)) ≡ nextOf s
+    → nextAs (Bit (eqb (s .hi / 2 ^ 63) 1) (bitsWords (bitOr (s .hi * 2 % 2 ^ 64) (s .lo / 2 ^ 63)) (s .lo * 2 % 2 ^ 64) (s .len - 1))) ≡ nextOf s
 unfolding nextOf
 nextOf-bit s e h g = rw (ne-eqb (s .len) 0 e, value-top (s .hi) (s .lo) h g, twice-high (s .hi) (s .lo), twice-carry (s .hi) (s .lo / 2 ^ 63) (omega arith), twice-low (s .hi) (s .lo))
 

@@ -1,14 +1,17 @@
 -- A network as numbers: family, address in two 64-bit words, length. From numbers to bits and back, over the width of the family.
 --
+--   isFamily f       the families are 4 and 6
 --   width f          32 bits for family 4, 128 for family 6
 --   address n        the number of the two words
 --   netBits n        the network: the first len bits of its address
 --   netFrom f p      the numbers of the network p: the bits past its length are clear
 --   cleared n        the network n with the bits past its length cleared
+--   withLen n k      the numbers of n with the length k
 --   refusalOf n      6 for another family than 4 and 6, 7 for a length or an address outside the range, 0 for a network
+--   withLenNo n k    6 for another family, 7 where n or withLen n k is outside the range, else 0
 --   bigEndian b xs k the number that the first k digits of base b write, the most significant first
 --   bitsLeft s       the bits that the iterator s has still to hand out;  nextOf s: its next bit, and the iterator behind it
-use mathlib.Core.Bool.{Bool, cond, _&&_, _||_}
+use mathlib.Core.Bool.{Bool, true, false, cond, _&&_, _||_}
 use mathlib.Core.List.{List, [], _∷_}
 use Prim.Native.Nat.{ℕ, zero, suc, _+_, _-_, _*_, _/_, _%_, _^_}
 use lib.Dec.{eqb, leb, ltb}
@@ -23,6 +26,9 @@ use Rattle.nets.specs.declared.Prefix.the-variants as prefix
 use Rattle.nets.specs.declared.PrefixBits.{PrefixBits}
 use Rattle.nets.specs.declared.NextBit.{NextBit}
 use Rattle.nets.specs.declared.NextBit.the-variants.{Bit, End}
+
+abbrev pub isFamily : ℕ → Bool
+isFamily f = eqb f 4 || eqb f 6
 
 unfoldable pub width : ℕ → ℕ
 width f = cond (eqb f 4) 32 128
@@ -50,7 +56,7 @@ unfoldable pub inRange : Net → Bool
 inRange n = leb (n .len) (width (n .family)) && ltb (address n) (2 ^ width (n .family))
 
 unfoldable pub refusalOf : Net → ℕ
-refusalOf n = cond (eqb (n .family) 4 || eqb (n .family) 6) (cond (inRange n) 0 7) 6
+refusalOf n = cond (isFamily (n .family)) (cond (inRange n) 0 7) 6
 
 -- the answers: a network, or a refusal with zeros; and the answer to a network as given
 abbrev pub noNet : Net
@@ -63,9 +69,14 @@ takenAs (taken.Refused r) = (number r, noNet)
 abbrev pub judged : Net → ℕ × Net
 judged n = answered (refusalOf n) noNet n
 
--- the numbers with another length, and a network with the bits past its length cleared
+-- the numbers with another length, and their refusal: a network is asked for before and after
 abbrev pub withLen : Net → ℕ → Net
 withLen n k = netWords (n .family) (n .hi) (n .lo) k
+
+unfoldable pub withLenNo : Net → ℕ → ℕ
+withLenNo n k = cond (isFamily (n .family)) (cond (inRange n && inRange (withLen n k)) 0 7) 6
+
+-- a network with the bits past its length cleared
 
 unfoldable pub cleared : Net → Net
 cleared n = netFrom (n .family) (netBits n)
@@ -94,12 +105,18 @@ abbrev pub prefixAs : Prefix → ℕ × PrefixBits
 prefixAs (prefix.Bits s) = (0, s)
 prefixAs (prefix.Refused r) = (number r, noBits)
 
--- one bit, the highest, and the iterator of the others, one place to the left; and the bits that a step hands out
-unfoldable pub nextOf : PrefixBits → NextBit
-nextOf s =
-    cond (eqb (s .len) 0) End
-    (Bit (eqb (value (s .hi) (s .lo) / 2 ^ 127 % 2) 1) (bitsOf (value (s .hi) (s .lo) * 2) (s .len - 1)))
+-- a step: whether there is a bit, the bit, and the iterator of those behind it
+abbrev pub nextAs : NextBit → ℕ × (Bool × (Bool × PrefixBits))
+nextAs (Bit b s) = (0, (true, (b, s)))
+nextAs End = (0, (false, (false, noBits)))
 
-abbrev pub handed : NextBit → Bits
-handed End = []
-handed (Bit b s) = b ∷ bitsLeft s
+-- the highest bit, and the others one place to the left; and the bits that a step hands out
+unfoldable pub nextOf : PrefixBits → ℕ × (Bool × (Bool × PrefixBits))
+nextOf s = (
+  0,
+  cond (eqb (s .len) 0) (false, (false, noBits))
+      (true, (eqb (value (s .hi) (s .lo) / 2 ^ 127 % 2) 1, bitsOf (value (s .hi) (s .lo) * 2) (s .len - 1))),
+)
+
+abbrev pub handed : ℕ × (Bool × (Bool × PrefixBits)) → Bits
+handed a = cond (a .1 .0) (a .1 .1 .0 ∷ bitsLeft (a .1 .1 .1)) []

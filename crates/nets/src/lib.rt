@@ -1,11 +1,14 @@
 // Networks: the numbers of one, the refusal of numbers that are none, clearing, and the bits from the highest on.
 ghost use mathlib.Core.Path.{_≡_};
 ghost use Rattle.nets.specs.Refusals.{number, answered};
-ghost use Rattle.nets.specs.Networks.{width, netWords, netOf, refusalOf, noNet, takenAs, judged, withLen, cleared, bigEndian, startOf, noBits, prefixAs, nextOf};
+ghost use Rattle.nets.specs.Networks.{width, netWords, netOf, refusalOf, noNet, takenAs, judged, withLen, withLenNo, cleared, bigEndian};
+ghost use Rattle.nets.specs.Networks.{startOf, noBits, prefixAs, nextAs, nextOf};
 
+pub mod families;
 mod rules;
 mod words;
 
+use families::width;
 pub use words::has_bit_past;
 
 // The refusals of the table, by name.
@@ -107,11 +110,17 @@ impl Net {
     }
 
     // The network of length len around the same address.
-    pub fn with_new_prefix(mut self, len: u8) -> Taken
-        ensures { λ r. ⌜ takenAs r ≡ answered (refusalOf (withLen self len)) noNet (cleared (withLen self len)) ⌝ }
+    pub fn with_new_prefix(self, len: u8) -> Taken
+        ensures { λ r. ⌜ takenAs r ≡ answered (withLenNo self len) noNet (cleared (withLen self len)) ⌝ }
     {
-        self.len = len;
-        self.to_network()
+        let t = rules::judge(self);
+        match t {
+            Taken::Network(mut n) => {
+                n.len = len;
+                n.to_network()
+            }
+            Taken::Refused(no) => Taken::Refused(no),
+        }
     }
 
     // The bits of the network, to be taken one by one.
@@ -128,7 +137,7 @@ impl Net {
 impl PrefixBits {
     // The next bit, with the iterator of those behind it.
     pub fn next(mut self) -> NextBit
-        ensures { λ r. ⌜ r ≡ nextOf self ⌝ }
+        ensures { λ r. ⌜ nextAs r ≡ nextOf self ⌝ }
     {
         if self.len == 0 {
             return NextBit::End;
@@ -139,13 +148,6 @@ impl PrefixBits {
         self.len -= 1;
         NextBit::Bit(bit, self)
     }
-}
-
-// How many bits an address of the family has.
-pub fn width(family: u8) -> u8
-    ensures { λ r. ⌜ r ≡ width family ⌝ }
-{
-    if family == IPV4 { 32 } else { 128 }
 }
 
 // The network of one IPv4 address, its most significant byte first.

@@ -2,10 +2,10 @@
 ghost use mathlib.Core.Path.{_≡_};
 ghost use Rattle.nets.specs.Networks.{inRange, takenAs, judged};
 use crate::IPV4;
-use crate::IPV6;
 use crate::Net;
 use crate::Refusal;
 use crate::Taken;
+use crate::families::is_family;
 
 // Whether length and address are within the family's range.
 fn in_range(n: Net) -> bool
@@ -21,7 +21,7 @@ fn in_range(n: Net) -> bool
 pub fn judge(n: Net) -> Taken
     ensures { λ r. ⌜ takenAs r ≡ judged n ⌝ }
 {
-    if n.family != IPV4 && n.family != IPV6 {
+    if !is_family(n.family as u32) {
         return Taken::Refused(Refusal::WrongFamily);
     }
     if !in_range(n) {

@@ -8,7 +8,7 @@ ghost use lib.ListN.{getD};
 use crate::IPV4;
 use crate::Net;
 use crate::PrefixBits;
-use crate::width;
+use crate::families::width;
 
 // a less b, and 0 where b is more.
 fn less(a: u8, b: u8) -> u8

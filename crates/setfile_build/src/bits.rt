@@ -6,7 +6,7 @@ ghost use lib.ListN.{getD};
 ghost use Rattle.nets.specs.Bits.{bits};
 ghost use Rattle.nets.specs.Networks.{width, address};
 use nets::Net;
-use nets::width;
+use nets::families::width;
 
 // Bit d of a network's address, counted from the highest on.
 pub fn bit_at(n: Net, d: usize) -> bool

@@ -5,8 +5,8 @@ ghost use Rattle.nets.specs.Networks.{netBits};
 ghost use Rattle.setfile_format.specs.Files.{isClean};
 ghost use Rattle.setfile_entries.specs.Entries.{Entry};
 use nets::Net;
+use nets::families::width;
 use nets::has_bit_past;
-use nets::width;
 
 // The length is within the width, and no bits stand past it.
 pub fn is_clean(n: Net) -> bool

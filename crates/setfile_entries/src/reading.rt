@@ -9,7 +9,7 @@ ghost use Rattle.setfile_format.specs.Files.{entryBytes, fileBytes, mostEntries
 use crate::cleared;
 use nets::IPV4;
 use nets::Net;
-use pool_check::is_family;
+use nets::families::is_family;
 
 // The bytes of the header.
 pub const HEADER: usize = 16;

@@ -7,7 +7,7 @@ ghost use Rattle.nets.specs.Bits.{Bits};
 ghost use Rattle.nets.specs.Networks.{width, netFrom};
 ghost use Rattle.trie_paths.specs.Spans.{snoc};
 use nets::Net;
-use nets::width;
+use nets::families::width;
 
 // The network of all addresses.
 pub fn whole(family: u8) -> Net

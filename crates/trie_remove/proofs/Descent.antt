@@ -9,7 +9,7 @@ use lib.ListN.{length}
 use Rattle.nets.specs.Bits.{Bits, bits}
 use Rattle.nets.specs.Tries.{Trie, none, node, leaf, size}
 use Rattle.nets.specs.TrieOps.{removeT}
-use Rattle.nets.specs.Networks.{bitsLeft, nextOf}
+use Rattle.nets.specs.Networks.{bitsLeft, nextAs, nextOf}
 use Rattle.nets.specs.declared.PrefixBits.{PrefixBits}
 use Rattle.nets.specs.declared.NextBit.the-variants.{Bit, End}
 use Rattle.nets.proofs.Listing.{leaf-is}
@@ -25,7 +25,7 @@ use Rattle.nets.proofs.Handing.{len-next, bits-end, bits-next, length-bitsLeft}
 pub nothing-here : {w : List ℕ} {b i e u : ℕ} {t : Trie} {rest : List ℕ} → Segment w b i e u t rest → i ≡ e → (p : Bits) → removeT p t ≡ none
 nothing-here {t = t} g q p = rw (none-is t (omega (arith, g .end))) (removeT-none p)
 
-pub nothing-more : (s : PrefixBits) (t : Trie) → s .len ≤ 128 → nextOf s ≡ End → removeT (bitsLeft s) t ≡ none
+pub nothing-more : (s : PrefixBits) (t : Trie) → s .len ≤ 128 → nextOf s ≡ nextAs End → removeT (bitsLeft s) t ≡ none
 nothing-more s t h e = rw (bits-end s h e) (removeT-end t)
 
 -- a node stands there
@@ -50,13 +50,13 @@ module _ {w : List ℕ} {b i e u : ℕ} {rest : List ℕ} where
   pub middle-here : {t : Trie} → Segment w b i e u t rest → (i ≡ e → ⊥) → (x m : ℕ) → x ≡ wordAt w b i → m ≡ middleOf (x / 2) i e → (i < m) × (m ≤ e)
   middle-here {t} g ne x m q d = let n = node-here t g ne in omega (arith, middle-is n x m q d, n .here .end, node-size (n .l) (n .r))
 
-  pub full-here : {t : Trie} → Segment w b i e u t rest → (i ≡ e → ⊥) → (s later : PrefixBits) (bit : Bool) (x : ℕ) → nextOf s ≡ Bit bit later
+  pub full-here : {t : Trie} → Segment w b i e u t rest → (i ≡ e → ⊥) → (s later : PrefixBits) (bit : Bool) (x : ℕ) → nextOf s ≡ nextAs (Bit bit later)
       → x ≡ wordAt w b i → x ≡ 0 → (t ≡ leaf) × (0 < s .len)
   full-here {t} g ne s later bit x k q z =
       let n = node-here t g ne in
       (n .is ∙ leaf-is (node (n .l) (n .r)) (sym (segment-leaf (n .here)) ∙ eq-eqb (wordAt w b i) 0 (sym q ∙ z)), omega (arith, len-next s later bit k))
 
-  pub inner-here : {t : Trie} → Segment w b i e u t rest → (i ≡ e → ⊥) → (s later : PrefixBits) (bit : Bool) (x m : ℕ) (c : Child) → s .len ≤ 128 → nextOf s ≡ Bit bit later
+  pub inner-here : {t : Trie} → Segment w b i e u t rest → (i ≡ e → ⊥) → (s later : PrefixBits) (bit : Bool) (x m : ℕ) (c : Child) → s .len ≤ 128 → nextOf s ≡ nextAs (Bit bit later)
       → x ≡ wordAt w b i → (x ≡ 0 → ⊥) → m ≡ middleOf (x / 2) i e → c ≡ childOf bit i m e → Inside s i e t bit c later
   inner-here {t} g ne s later bit x m c h k q z d o =
       let n = node-here t g ne in

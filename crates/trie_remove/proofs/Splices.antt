@@ -8,7 +8,7 @@ use lib.ListN.{length, take, drop}
 use Rattle.nets.specs.Bits.{Bits}
 use Rattle.nets.specs.Tries.{Trie, none, node, leaf, size, fork}
 use Rattle.nets.specs.TrieOps.{removeT}
-use Rattle.nets.specs.Networks.{bitsLeft, nextOf}
+use Rattle.nets.specs.Networks.{bitsLeft, nextAs, nextOf}
 use Rattle.nets.specs.declared.PrefixBits.{PrefixBits}
 use Rattle.nets.specs.declared.NextBit.the-variants.{Bit, End}
 use Rattle.nodes.specs.Words.{put, place, word, enc}
@@ -73,7 +73,7 @@ pub record Chain (w₀ : List ℕ) (b i : ℕ) (s : PrefixBits) (w : List ℕ) (
   pub rest : put w (place b k) (enc (removeT (bitsLeft left) leaf)) ≡ put w₀ (place b i) (enc (removeT (bitsLeft s) leaf))
 
 module _ {w₀ : List ℕ} {b i : ℕ} {s : PrefixBits} {w : List ℕ} {k : ℕ} {left : PrefixBits} (c : Chain w₀ b i s w k left) where
-  pub chain-turn : (later : PrefixBits) (bit : Bool) (v : List ℕ) (j : ℕ) → nextOf left ≡ Bit bit later → length v ≡ length w → (k < j) × (j ≤ k + 2)
+  pub chain-turn : (later : PrefixBits) (bit : Bool) (v : List ℕ) (j : ℕ) → nextOf left ≡ nextAs (Bit bit later) → length v ≡ length w → (k < j) × (j ≤ k + 2)
       → ((x : Trie) → size x ≡ 2 * later .len → put v (place b j) (enc x) ≡ put w (place b k) (enc (fork bit x leaf))) → Chain w₀ b i s v j later
   chain-turn later bit v j e l h f =
       let q = len-next left later bit e in
@@ -87,15 +87,15 @@ module _ {w₀ : List ℕ} {b i : ℕ} {s : PrefixBits} {w : List ℕ} {k : ℕ}
             ∙ (rw (bits-next left later bit (c .few) e, removeT-leaf bit (bitsLeft later)) at (c .rest));
       }
 
-  pub chain-less : (later : PrefixBits) (bit : Bool) → nextOf left ≡ Bit bit later → (later .len < left .len) × (later .len < 128)
+  pub chain-less : (later : PrefixBits) (bit : Bool) → nextOf left ≡ nextAs (Bit bit later) → (later .len < left .len) × (later .len < 128)
   chain-less later bit e = omega (arith, len-next left later bit e, c .few)
 
-  pub chain-end : nextOf left ≡ End → w ≡ put w₀ (place b i) (enc (removeT (bitsLeft s) leaf))
+  pub chain-end : nextOf left ≡ nextAs End → w ≡ put w₀ (place b i) (enc (removeT (bitsLeft s) leaf))
   unfolding enc
   chain-end e = sym (put-nil w (place b k)) ∙ (rw (bits-end left (c .few) e, removeT-end leaf) at (c .rest))
 
   -- there is room for the next node and its leaf
-  pub chain-room : (later : PrefixBits) (bit : Bool) → nextOf left ≡ Bit bit later → 1 ≤ i → i < 1073741824 → s .len ≤ 128 → place b i + 2 * s .len ≤ length w₀
+  pub chain-room : (later : PrefixBits) (bit : Bool) → nextOf left ≡ nextAs (Bit bit later) → 1 ≤ i → i < 1073741824 → s .len ≤ 128 → place b i + 2 * s .len ≤ length w₀
       → ((1 ≤ k) × (k + 2 * later .len < 2147483646)) × (place b k + 2 * later .len + 1 < length w)
   chain-room later bit e o h n m = let q = len-next left later bit e in omega (arith, c .one, c .within, c .long)
 

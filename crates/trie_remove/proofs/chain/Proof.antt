@@ -1,8 +1,8 @@
 -- `removing::chain` meets its contract. The loop's invariant: what is still to be written completes the chain. Assumes nothing.
-use mathlib.Core.Path.{_≡_, refl, sym, _∙_}
+use mathlib.Core.Path.{_≡_, refl, ap, sym, _∙_}
 use native.Mathlib.Omega.{arith}
 use borrow.Author.Needs.{needs}
-use Rattle.nets.specs.Networks.{nextOf}
+use Rattle.nets.specs.Networks.{nextAs, nextOf}
 use Rattle.nets.specs.declared.NextBit.the-variants.{Bit}
 use Rattle.trie_remove.proofs.Splices.{Chain, chain-turn, chain-less, chain-end, chain-room}
 use Rattle.trie_remove.proofs.chain.Statement.{statement}
@@ -15,8 +15,8 @@ abbrev μ-loop : tie.MeasureT-loop
 μ-loop w₀ b i k₀ left₀ w k left = left .len
 
 -- the bit that the iterator hands out
-bit : (c : tie.After-n Inv-loop μ-loop) → nextOf (c .before .before .before .loop .left) ≡ Bit (c .n .given .0 .0) (c .n .given .0 .1 .0)
-bit c = sym (c .before .before .next .ensures) ∙ c .n .given .1
+bit : (c : tie.After-n Inv-loop μ-loop) → nextOf (c .before .before .before .loop .left) ≡ nextAs (Bit (c .n .given .0 .0) (c .n .given .0 .1 .0))
+bit c = sym (c .before .before .next .ensures) ∙ ap nextAs (c .n .given .1)
 
 pub chain-spec : {M : Type 1} → statement M
 chain-spec =
@@ -28,7 +28,7 @@ chain-spec =
     (λ c κs. search needs)
     (λ c. search needs)
     (λ c. c .before .before .before .loop .inv .long)
-    (λ c. chain-end (c .before .before .before .loop .inv) (sym (c .before .before .next .ensures) ∙ c .enum-told .given .1))
+    (λ c. chain-end (c .before .before .before .loop .inv) (sym (c .before .before .next .ensures) ∙ ap nextAs (c .enum-told .given .1)))
     (λ c. search needs)
     (λ c. omega (arith, chain-less (c .before .before .before .before .before .before .loop .inv) _ _ (bit (c .before .before .before))))
     (λ c. omega (arith, chain-less (c .before .before .before .before .before .before .loop .inv) _ _ (bit (c .before .before .before))))

@@ -1,8 +1,9 @@
 -- `walking::walk_from` meets its contract. The loop's invariant: the walk from here shows what the whole walk shows. Assumes nothing.
 use denote.Ref.{now}
-use mathlib.Core.Path.{sym, _∙_}
+use mathlib.Core.Path.{ap, sym, _∙_}
 use native.Mathlib.Omega.{arith}
 use borrow.Author.Needs.{needs}
+use Rattle.nets.specs.Networks.{nextAs}
 use Rattle.lookup.proofs.Turns.{walkFrom-none, walkFrom-over, walkFrom-node, Down, down-leaf, down-first, down-second, Inner, inner-end, Turned, turned-none, turned-less, turned-within, turned-on}
 use Rattle.lookup.proofs.walking.walk_from.Statement.{statement}
 use Rattle.lookup.proofs.walking.walk_from.Tie as tie
@@ -33,7 +34,7 @@ turned : (c : tie.After-turn Inv-loop μ-loop) →
     (p .next2 .given .0 .0) (p .next2 .given .0 .1 .0)
 turned c =
     let p = c .before .before in
-    record { inner = inner (p .before .before .before); next = sym (p .before .before .next .ensures) ∙ p .next2 .given .1; by = c .turn .ensures }
+    record { inner = inner (p .before .before .before); next = sym (p .before .before .next .ensures) ∙ ap nextAs (p .next2 .given .1); by = c .turn .ensures }
 
 pub walk-from-spec : {M : Type 1} → statement M
 walk-from-spec =
@@ -52,7 +53,7 @@ walk-from-spec =
     (λ c. down-second (c .before .before .before .before .loop .inv) (c .before .before .before .word-at .ensures) (c .before .before .if3 .left) (c .if5 .taken))
     (λ c κs. search needs)
     (λ c. search needs)
-    (λ c. inner-end (inner (c .before .before .before)) (sym (c .before .before .next .ensures) ∙ c .enum-told .given .1))
+    (λ c. inner-end (inner (c .before .before .before)) (sym (c .before .before .next .ensures) ∙ ap nextAs (c .enum-told .given .1)))
     (λ c. search needs)
     (λ c κs. search needs)
     (λ c. turned-none (turned (c .before)) (c .if6 .taken))
