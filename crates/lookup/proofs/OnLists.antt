@@ -14,7 +14,7 @@ use Rattle.nets.specs.Bits.{Bits, leads, bits}
 use Rattle.nets.specs.Tries.{trieOf}
 use Rattle.nets.specs.Lists.{Found, found, missing, isFound, isList, supernetL, containsL}
 use Rattle.nets.specs.Refusals.{number, answered}
-use Rattle.nets.specs.Networks.{width, address, netBits, netFrom, inRange, refusalOf, noNet, withLen, cleared}
+use Rattle.nets.specs.Networks.{isFamily, width, address, netBits, netFrom, inRange, refusalOf, noNet, withLen, cleared}
 use Rattle.nets.specs.declared.Net.{Net}
 use Rattle.nets.specs.declared.Refusal.{Refusal}
 use Rattle.nets.specs.declared.Refusal.the-variants.{NoSet, WrongFamily, BadNetwork}
@@ -22,7 +22,7 @@ use Rattle.nets.proofs.Strings.{and-left, leads-head, leads-tail, leads-length}
 use Rattle.nets.proofs.Numbers.{length-netBits}
 use Rattle.nets.proofs.TrieOf.{listOf-trieOf}
 use Rattle.nets.proofs.Lookups.{supernetL-found, searchT-listOf}
-use Rattle.pool_state.specs.States.{State, isFamily, held}
+use Rattle.pool_state.specs.States.{State, held}
 use Rattle.pool_state.specs.Decode.{recordAt, base, decode, sound}
 use Rattle.pool_state.specs.Rules.{startOf}
 use Rattle.pool_state.specs.Changes.{setAt, listAt, netNo}

@@ -12,7 +12,7 @@ use lib.ListN.{length}
 use Rattle.nets.specs.Bits.{Bits}
 use Rattle.nets.specs.Tries.{Trie, listOf}
 use Rattle.nets.specs.declared.Net.{Net}
-use Rattle.pool_state.specs.States.{isFamily}
+use Rattle.nets.specs.Networks.{isFamily}
 use Rattle.pool_state.specs.declared.Answer.{Answer}
 use Rattle.trie_next.specs.Spots.{nowhere, beforeAll, goneOn, StandsIn, Goes}
 use Rattle.netrows.specs.Rows.{filled, Listed}

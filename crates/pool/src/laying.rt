@@ -1,9 +1,9 @@
 // The parts of layout: the rules of a setup, the cleared buffer, the header, and the records of empty sets.
+use nets::families::is_family;
 use pool_check::HEAD;
 use pool_check::MARK;
 use pool_check::NODE;
 use pool_check::RECORD;
-use pool_check::is_family;
 use pool_check::is_size;
 ghost use mathlib.Core.Path.{_≡_};
 ghost use mathlib.Core.List.{[], _∷_};

@@ -1,4 +1,5 @@
 // The check of a whole pool, in one pass over its sets.
+use nets::families::is_family;
 use nodes::reading::trie_end;
 use pool_state::Survey;
 ghost use mathlib.Core.Path.{_≡_};
@@ -8,7 +9,7 @@ ghost use lib.Dec.{eqb, leb};
 ghost use lib.ListN.{length};
 ghost use Rattle.nets.specs.Networks.{width};
 ghost use Rattle.nodes.specs.Parse.{Room, after};
-ghost use Rattle.pool_state.specs.States.{isFamily, isSize};
+ghost use Rattle.pool_state.specs.States.{isSize};
 ghost use Rattle.pool_state.specs.Decode.{base, isHeader, readSet, decode};
 ghost use Rattle.pool_state.specs.Rules.{shareIn, limitIn, noSurvey, surveyOf};
 
@@ -25,16 +26,6 @@ pub const NODE: usize = 8;
 const MOST_SETS: u32 = 64;
 
 const MOST_NODES: u32 = 4194304;
-
-// The families are 4 and 6.
-pub fn is_family(family: u32) -> bool
-    ensures { λ r. ⌜ r ≡ isFamily family ⌝ }
-{
-    if family == 4 {
-        return true;
-    }
-    family == 6
-}
 
 // How many sets and nodes a pool may have.
 pub fn is_size(sets: u32, nodes: u32) -> bool

@@ -10,9 +10,9 @@ use lib.ListN.{length, getD, replicate}
 use borrow.Author.Tests.{leb-true}
 use Rattle.nets.specs.Bits.{Bits, before}
 use Rattle.nets.specs.Lists.{isList, nodesL}
-use Rattle.nets.specs.Networks.{width}
+use Rattle.nets.specs.Networks.{isFamily, width}
 use Rattle.nets.proofs.Strings.{and-left, and-right}
-use Rattle.pool_state.specs.States.{SetState, State, held, claim, used, claimed, claimedBut, freeOf, roomOf, isFamily, isSize, isSet, areSets, isState}
+use Rattle.pool_state.specs.States.{SetState, State, held, claim, used, claimed, claimedBut, freeOf, roomOf, isSize, isSet, areSets, isState}
 use Rattle.pool_state.specs.Rules.{noSet}
 
 -- The rules of a state.

@@ -9,7 +9,8 @@ use lib.ListN.{length, getD}
 use borrow.Author.Tests.{lt-leb, eq-eqb, ne-eqb, leb-true, eqb-true}
 use Rattle.nets.proofs.Strings.{and-left, and-right}
 use Rattle.nodes.specs.Parse.{Room}
-use Rattle.pool_state.specs.States.{isFamily, isSize}
+use Rattle.pool_state.specs.States.{isSize}
+use Rattle.nets.specs.Networks.{isFamily}
 use Rattle.pool_state.specs.Decode.{mark, base, leastWords, isHeader}
 use Rattle.pool_state.proofs.Claims.{Sized, isSize-is}
 

@@ -15,7 +15,8 @@ use Rattle.nets.specs.Lists.{nodesL}
 use Rattle.nets.specs.declared.Refusal.the-variants.{BadSetup}
 use Rattle.nets.proofs.Strings.{and-left, and-right, bool-iff}
 use Rattle.nodes.specs.Words.{put, enc}
-use Rattle.pool_state.specs.States.{isFamily, isSize}
+use Rattle.pool_state.specs.States.{isSize}
+use Rattle.nets.specs.Networks.{isFamily}
 use Rattle.pool_state.specs.Decode.{mark, recordAt, leastWords, overRecords, nodeWords, over}
 use Rattle.pool_state.specs.Rules.{withinLimits, total, sharesFit, isSetup, layoutNo, emptySets, laid, Laid}
 use Rattle.pool_state.specs.declared.Answer.the-variants as answer

@@ -10,10 +10,10 @@ use lib.Dec.{eqb, leb}
 use lib.ListN.{length, getD}
 use Rattle.nets.specs.Bits.{Bits}
 use Rattle.nets.specs.Tries.{Trie, none, size, listOf, trieOf}
-use Rattle.nets.specs.Networks.{width}
+use Rattle.nets.specs.Networks.{isFamily, width}
 use Rattle.nodes.specs.Words.{put, enc}
 use Rattle.nodes.specs.Parse.{Read, bad, ok, parse}
-use Rattle.pool_state.specs.States.{SetState, State, held, claimed, isFamily, isSize}
+use Rattle.pool_state.specs.States.{SetState, State, held, claimed, isSize}
 
 abbrev pub mark : ℕ
 mark = 1296126540

@@ -11,7 +11,8 @@ use lib.Dec.{eqb, leb, ltb}
 use lib.ListN.{length, getD, replicate}
 use Rattle.nets.specs.Refusals.{number}
 use Rattle.nodes.specs.Words.{put}
-use Rattle.pool_state.specs.States.{SetState, State, held, claimed, used, freeOf, isFamily, isSize}
+use Rattle.pool_state.specs.States.{SetState, State, held, claimed, used, freeOf, isSize}
+use Rattle.nets.specs.Networks.{isFamily}
 use Rattle.pool_state.specs.Decode.{Decoded, damaged, sound, leastWords, recordAt, over}
 use Rattle.pool_state.specs.declared.Answer.{Answer}
 use Rattle.pool_state.specs.declared.Answer.the-variants as answer

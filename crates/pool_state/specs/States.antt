@@ -6,14 +6,14 @@
 --   roomOf S k        the pool's nodes less, for every other set than k, its claim
 --   isState S         the rules: a family, 1 to 64 sets, 1 to 4,194,304 nodes, each list a list of the family's width within its limit,
 --                     each share at most its limit, the claims at most the nodes
-use mathlib.Core.Bool.{Bool, true, _&&_, _||_}
+use mathlib.Core.Bool.{Bool, true, _&&_}
 use mathlib.Core.List.{List, [], _∷_}
 use Prim.Native.Nat.{ℕ, zero, suc, _+_, _-_, max}
-use lib.Dec.{eqb, leb}
+use lib.Dec.{leb}
 use lib.ListN.{length}
 use Rattle.nets.specs.Bits.{Bits}
 use Rattle.nets.specs.Lists.{isList, nodesL}
-use Rattle.nets.specs.Networks.{width}
+use Rattle.nets.specs.Networks.{isFamily, width}
 
 pub record SetState : Type 0 where
   pub share : ℕ
@@ -50,9 +50,6 @@ freeOf S = S .nodes - used (S .sets)
 
 abbrev pub roomOf : State → ℕ → ℕ
 roomOf S k = S .nodes - claimedBut k (S .sets)
-
-abbrev pub isFamily : ℕ → Bool
-isFamily f = eqb f 4 || eqb f 6
 
 -- the rules of one set in a pool of width w
 abbrev pub isSet : ℕ → SetState → Bool

@@ -7,7 +7,7 @@ use native.Mathlib.Omega.{arith}
 use lib.Dec.{eqb, leb}
 use lib.ListN.{length}
 use borrow.Author.Tests.{ne-eqb, eq-eqb, le-leb, lt-leb}
-use Rattle.pool_state.specs.States.{isFamily}
+use Rattle.nets.specs.Networks.{isFamily}
 use Rattle.setfile_format.specs.Files.{mostEntries, fileBytes, headNumber, isFileHeader}
 
 module _ (d : List ℕ) where

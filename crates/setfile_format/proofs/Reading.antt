@@ -11,10 +11,9 @@ use lib.ListN.{length}
 use borrow.Author.Tests.{eqb-true, leb-true}
 use Rattle.nets.specs.Bits.{Bits}
 use Rattle.nets.specs.Lists.{ascending, apart, isList, nodesL}
-use Rattle.nets.specs.Networks.{width}
+use Rattle.nets.specs.Networks.{isFamily, width}
 use Rattle.nets.proofs.Strings.{and-left, and-right, and-both}
 use Rattle.nets.proofs.Numbers.{width-le}
-use Rattle.pool_state.specs.States.{isFamily}
 use Rattle.setfile_format.specs.Files.{headerBytes, fileBytes, mostEntries, headNumber, areClean, networksIn, isFileHeader, areEntries, file, broken, readFile}
 use Rattle.address_order.specs.Streams.{inAddressOrder, loose, pathNodes}
 use Rattle.setfile_format.proofs.RoundTrip.{length-networksIn}

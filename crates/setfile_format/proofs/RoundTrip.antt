@@ -14,11 +14,10 @@ use lib.Pow.{shr-mod, split}
 use lib.Seq.{take-suc, take-add, drop-drop, getD-drop}
 use Rattle.nets.specs.Bits.{Bits, val, bits}
 use Rattle.nets.specs.Lists.{isList}
-use Rattle.nets.specs.Networks.{width, address, netBits, bigEndian}
+use Rattle.nets.specs.Networks.{isFamily, width, address, netBits, bigEndian}
 use Rattle.nets.specs.declared.Net.{Net}
 use Rattle.nets.proofs.Strings.{and-left, and-right}
 use Rattle.nets.proofs.Numbers.{length-bits, val-bits, take-bits}
-use Rattle.pool_state.specs.States.{isFamily}
 use Rattle.setfile_format.specs.Files.{bytesOf, addressBytes, entryBytes, headerBytes, fileBytes, mostEntries, entryOf, entriesOf, headerOf, fileOf, headNumber, entryAt, entryNet, isClean, areClean, networksIn, isFileHeader, areEntries, File, broken, file, readFile}
 use Rattle.setfile_format.proofs.Bytes.{Bytes, bigEndian-lt, bytesOf-bigEndian}
 use Rattle.setfile_format.proofs.Written.{address-bytes, readFile-fileOf}

@@ -12,12 +12,11 @@ use lib.Pow.{pow-add, shl-lt, split}
 use lib.Seq.{drop-at, getD-at}
 use Rattle.nets.specs.Bits.{Bits, val}
 use Rattle.nets.specs.Lists.{within, isList}
-use Rattle.nets.specs.Networks.{width, netFrom}
+use Rattle.nets.specs.Networks.{isFamily, width, netFrom}
 use Rattle.nets.proofs.Strings.{and-left, and-right}
 use Rattle.nets.proofs.Order.{val-high}
 use Rattle.nets.proofs.Numbers.{family-few, width-4, width-6, width-le, netBits-netFrom}
 use Rattle.nets.proofs.TrieOf.{isList-within}
-use Rattle.pool_state.specs.States.{isFamily}
 use Rattle.setfile_format.specs.Files.{bytesOf, addressBytes, entryBytes, headerBytes, fileBytes, mostEntries, entryOf, entriesOf, headerOf, fileOf, headNumber, entryAt, entryNet, isClean, areClean, networksIn, isFileHeader, areEntries, file, readFile}
 use Rattle.setfile_format.proofs.Bytes.{length-bytesOf, bigEndian-bytesOf}
 

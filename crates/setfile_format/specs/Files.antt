@@ -14,9 +14,8 @@ use lib.Dec.{eqb, leb}
 use lib.ListN.{length, getD, drop}
 use Rattle.nets.specs.Bits.{Bits, val}
 use Rattle.nets.specs.Lists.{isList}
-use Rattle.nets.specs.Networks.{width, netOf, address, netBits, bigEndian}
+use Rattle.nets.specs.Networks.{isFamily, width, netOf, address, netBits, bigEndian}
 use Rattle.nets.specs.declared.Net.{Net}
-use Rattle.pool_state.specs.States.{isFamily}
 
 unfoldable pub bytesOf : ℕ → ℕ → List ℕ
 bytesOf zero n = []

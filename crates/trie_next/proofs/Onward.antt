@@ -9,7 +9,7 @@ use Rattle.nets.specs.Bits.{Bits}
 use Rattle.nets.specs.Tries.{Trie, none, size, levels, listOf}
 use Rattle.nodes.specs.Words.{enc}
 use Rattle.nets.specs.Lists.{member, keep, past, isPast, Found, found, missing, nextL}
-use Rattle.nets.specs.Networks.{width, netFrom, refusalOf, startOf, noBits, prefixAs}
+use Rattle.nets.specs.Networks.{isFamily, width, netFrom, refusalOf, startOf, noBits, prefixAs}
 use Rattle.nets.specs.Refusals.{answered}
 use Rattle.nets.specs.declared.Net.{Net}
 use Rattle.nets.specs.declared.Prefix.{Prefix}
@@ -21,7 +21,6 @@ use Rattle.nets.proofs.Listing.{from-listOf, member-listOf, memberT-length}
 use Rattle.nets.proofs.Lookups.{keep-start, nextL-step, nextL-end, nextL-found}
 use Rattle.nets.proofs.Numbers.{bitsLeft-start, startOf-few, netBits-netFrom, refusalOf-netFrom}
 use Rattle.nets.proofs.Answers.{number-some, prefix-bits, prefix-refused}
-use Rattle.pool_state.specs.States.{isFamily}
 use Rattle.trie_next.specs.Following.{placeOf, lenOf, nextAs}
 use Rattle.trie_next.specs.declared.following.Place.{Place}
 use Rattle.trie_next.specs.declared.following.Place.the-variants.{Start, Past}

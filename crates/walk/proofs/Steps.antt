@@ -9,12 +9,12 @@ use lib.Dec.{ltb}
 use lib.ListN.{length}
 use borrow.Author.Tests.{lt-ltb, le-ltb, ltb-true}
 use Rattle.nets.specs.Bits.{Bits}
-use Rattle.nets.specs.Networks.{netFrom}
+use Rattle.nets.specs.Networks.{isFamily, netFrom}
 use Rattle.nets.specs.Refusals.{number}
 use Rattle.nets.specs.Tries.{Trie, none, levels, listOf}
 use Rattle.nets.specs.declared.Net.{Net}
 use Rattle.nets.specs.declared.Refusal.{Refusal}
-use Rattle.pool_state.specs.States.{State, isFamily}
+use Rattle.pool_state.specs.States.{State}
 use Rattle.pool_state.specs.Decode.{Decoded, damaged, sound, decode}
 use Rattle.pool_state.proofs.Claims.{isState-family}
 use Rattle.pool_state.proofs.Decoded.{decode-state}

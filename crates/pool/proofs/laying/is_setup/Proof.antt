@@ -4,7 +4,8 @@ use mathlib.Core.Logic.{⊎-elim}
 use mathlib.Core.Path.{_≡_, _∙_}
 use lib.Dec.{leb}
 use borrow.Author.Needs.{needs}
-use Rattle.pool_state.specs.States.{isFamily, isSize}
+use Rattle.pool_state.specs.States.{isSize}
+use Rattle.nets.specs.Networks.{isFamily}
 use Rattle.pool_state.specs.Decode.{leastWords}
 use Rattle.pool_state.specs.Rules.{isSetup}
 use Rattle.pool.proofs.laying.is_setup.Statement.{statement}
