@@ -1,7 +1,7 @@
 // Writes the set file of lines of IPv4 networks: lines-to-set LINES SETFILE, two names of files, where - is standard input or standard output.
 //
-// The list is the one that add gives, line after line: a network inside another goes, and two halves of a block are not joined. Where a line is refused, standard error
-// says which and why, and no file is written. The set has at most 100,000 nodes: a line that needs more is refused, OverLimit.
+// The list is the one that add gives, line after line: a network inside another goes, and two halves of a block are not joined. Where a line is refused,
+// standard error says which and why, and no file is written. The set has at most 100,000 nodes: a line that needs more is refused, OverLimit.
 use libc::STDERR_FILENO;
 use pool_state::Answer;
 use tool_io::BYTES;

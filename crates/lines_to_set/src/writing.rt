@@ -1,5 +1,5 @@
-// A file written whole or not at all: it is written beside the old one, under a name of its own, and takes the old one's name when all of it is on the disk. So a write that fails, as on
-// a full disk, leaves the old file as it was.
+// A file written whole or not at all: it is written beside the old one, under a name of its own, and takes the old one's name when all of it is on the disk.
+// So a write that fails, as on a full disk, leaves the old file as it was.
 //
 // Where a function answers false, errno says why.
 use libc::PATH_MAX;

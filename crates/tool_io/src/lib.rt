@@ -1,5 +1,5 @@
-// What the programs share: files by name, lines from an open file into a set, the networks of a set as lines, and messages on standard error. What is read and written no
-// contract can say: each function is proved safe and ending.
+// What the programs share: files by name, lines from an open file into a set, the networks of a set as lines, and messages on standard error. What is read
+// and written no contract can say: each function is proved safe and ending.
 mod opening;
 mod printing;
 mod reading;

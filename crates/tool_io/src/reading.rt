@@ -23,8 +23,8 @@ fn read_some(fd: i32, pool: &mut [u32], r: Reader) -> Turn {
     Turn { reader, got }
 }
 
-// Reads to the end of the input or to the first refused line. A proved loop has to end, and nothing says that the input does: the loop counts its turns down, from a
-// number that no run uses up.
+// Reads to the end of the input or to the first refused line. A proved loop has to end, and nothing says that the input does: the loop counts its turns down,
+// from a number that no run uses up.
 fn read_all(fd: i32, pool: &mut [u32]) -> Turn {
     let mut turn = read_some(fd, pool, lines::start());
     let mut turns = u64::MAX;
