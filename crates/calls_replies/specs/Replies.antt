@@ -10,6 +10,7 @@ use mathlib.Core.List.{List}
 use Prim.Native.Nat.{ℕ}
 use Rattle.nets.specs.Bits.{Bits}
 use Rattle.nets.specs.Networks.{netWords, noNet}
+use Rattle.nets.specs.Refusals.{Rule}
 use Rattle.nets.specs.declared.Net.{Net}
 use Rattle.nets.specs.declared.PrefixBits.{PrefixBits}
 use Rattle.nets.specs.declared.NextBit.{NextBit}
@@ -58,5 +59,5 @@ bitReply (Bit b s) = reply 0 true (cond b 1 0) 0 (leftNet s)
 abbrev pub toldReply : Told → Reply
 toldReply t = flagReply (toldAs t)
 
-unfoldable pub changed : List ℕ → ℕ → (State → ℕ) → (State → List Bits) → Reply × List ℕ
+unfoldable pub changed : List ℕ → ℕ → (State → List Rule) → (State → List Bits) → Reply × List ℕ
 changed w k a f = (oneReply (changeRule (decode w) k a f), wordsAfter w (decode w) k a f)

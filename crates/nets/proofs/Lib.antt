@@ -20,4 +20,5 @@ pub mod TwoWords
 pub mod Numbers
 pub mod Handing
 pub mod Answers
+pub mod Refused
 pub mod Worked
