@@ -8,4 +8,5 @@ pub mod Check
 pub mod Move
 pub mod Linked
 pub mod Segments
+pub mod Views
 pub mod Zeros
