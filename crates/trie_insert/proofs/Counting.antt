@@ -10,9 +10,10 @@ use Rattle.nets.specs.Tries.{side, insertT}
 use Rattle.nodes.specs.Segments.{Views}
 use Rattle.nodes.specs.declared.steps.View.the-variants.{Nothing, Leaf, Inner}
 use Rattle.nodes.proofs.Tries.{size-leaf}
+use Rattle.nodes.proofs.Chains.{size-chain}
 use Rattle.nodes.proofs.Views.{view-none, inward, behind, branch-size, branch-child}
 use Rattle.trie_insert.specs.Insert.{Held, InsertSize}
-use Rattle.trie_insert.proofs.Insertion.{empty-end, size-chain, branch, inserted-size, inserted-leaf}
+use Rattle.trie_insert.proofs.Insertion.{empty-end, branch, inserted-size, inserted-leaf}
 
 -- the trie from node k up to node z is the part of the one from node i up to node e into which the path p, the rest of s, goes
 pub record Part (w : List ℕ) (b i e : ℕ) (s : Bits) (k z : ℕ) (p : Bits) : Type 0 where

@@ -1,67 +1,26 @@
--- A path put into a trie in the used words: the chain of a path, the sizes, and the words that each way through `insert` leaves.
+-- A path put into a trie in the used words: the sizes, and the words that each way through `insert` leaves.
 -- Laws of a child speak of the side d of the bit. Assumes nothing.
-use mathlib.Core.Path.{_≡_, refl, sym, ap, _∙_}
+use mathlib.Core.Path.{_≡_, refl, ap, _∙_}
 use mathlib.Core.Bool.{Bool, true, false, cond}
-use mathlib.Core.List.{List, [], _∷_, _++_, append-nil}
+use mathlib.Core.List.{List, [], _∷_}
 use Prim.Native.Nat.{ℕ, suc, _+_, _-_, _≤_, _<_}
 use native.Mathlib.Omega.{arith}
 use lib.ListN.{length, take, drop}
-use mir.Val.{boolByte}
 use Rattle.nets.specs.Bits.{Bits}
 use Rattle.nets.specs.Tries.{Trie, none, node, leaf, size, bare, side, fork, insertT}
 use Rattle.nets.specs.Networks.{bitsLeft}
 use Rattle.nets.specs.declared.PrefixBits.{PrefixBits}
-use Rattle.nodes.specs.Words.{put, place, link0, link1, word, enc}
+use Rattle.nodes.specs.Words.{put, place, enc, chain}
 use Rattle.nodes.specs.Links.{linked}
 use Rattle.nodes.specs.Segments.{Segment, Spliced, Views, Branch}
 use Rattle.nodes.specs.declared.steps.View.the-variants.{Nothing, Leaf, Inner}
-use Rattle.nodes.proofs.Put.{put-behind-at, put-before-at}
-use Rattle.nodes.proofs.Tries.{length-enc, some, size-leaf, size-fork, size-side}
+use Rattle.nodes.proofs.Put.{put-before-at}
+use Rattle.nodes.proofs.Tries.{length-enc, size-leaf, size-fork, size-side}
+use Rattle.nodes.proofs.Chains.{size-chain}
 use Rattle.nodes.proofs.Segments.{none-is, leaf-words, segment-rest, spliced-same}
 use Rattle.nodes.proofs.Views.{view-none, view-leaf, view-inner, inward, beside, behind, branch-fit, branch-size, branch-child, branch-spliced}
 use Rattle.trie_insert.specs.Insert.{Insertable, Inserted}
 use Rattle.nets.proofs.Handing.{length-bitsLeft}
-
--- The chain of a path.
-pub boolByte-le : (d : Bool) → boolByte d ≤ 1
-boolByte-le false = omega arith
-boolByte-le true = omega arith
-
-insertT-some : (p : Bits) → insertT p none ≡ none → ⊥
-unfolding insertT
-insertT-some [] e = some _ _ e
-insertT-some (d ∷ p) e = some _ _ e
-
-word-only : (d : Bool) (t : Trie) → (t ≡ none → ⊥) → word (side d t none) (side d none t) ≡ 1 + boolByte d
-unfolding word link0 link1 size
-word-only d none f = absurd (f refl)
-word-only false (node l r) f = refl
-word-only true (node l r) f = refl
-
-enc-only : (d : Bool) (t : Trie) → enc (side d t none) ++ enc (side d none t) ≡ enc t
-unfolding enc
-enc-only false t = append-nil (enc t)
-enc-only true t = refl
-
-enc-chain : (d : Bool) (p : Bits) → enc (insertT (d ∷ p) none) ≡ (1 + boolByte d) ∷ enc (insertT p none)
-unfolding insertT enc
-enc-chain d p = rw (word-only d (insertT p none) (insertT-some p), enc-only d (insertT p none))
-
-pub size-chain : (p : Bits) → size (insertT p none) ≡ length p + 1
-unfolding insertT size
-size-chain [] = refl
-size-chain (false ∷ p) = omega (arith, size-chain p)
-size-chain (true ∷ p) = omega (arith, size-chain p)
-
--- a turn of the loop that writes the chain, and its end
-pub chain-step : (w v : List ℕ) (b k : ℕ) (d : Bool) (p : Bits) → 1 ≤ k → v ≡ put w (place b k) ((1 + boolByte d) ∷ [])
-    → put v (place b (k + 1)) (enc (insertT p none)) ≡ put w (place b k) (enc (insertT (d ∷ p) none))
-chain-step w v b k d p one e =
-    rw (enc-chain d p, e) (put-behind-at w (place b k) (place b (k + 1)) ((1 + boolByte d) ∷ []) (enc (insertT p none)) (omega arith))
-
-pub chain-end : (w v : List ℕ) (k : ℕ) {p : Bits} → p ≡ [] → v ≡ put w k (0 ∷ []) → v ≡ put w k (enc (insertT p none))
-unfolding insertT enc word link0 link1
-chain-end w v k z e = rw z e
 
 -- Sizes.
 pub size-insert : (p : Bits) (t : Trie) → size (insertT p t) ≤ size t + length p + 1
@@ -96,11 +55,11 @@ pub empty-end : {w : List ℕ} {b i e u : ℕ} {t : Trie} {rest : List ℕ} → 
 unfolding size
 empty-end {i = i} {u = u} {t = t} {rest = rest} k g = omega (arith, g .end, ap size (view-none i t (k t rest u g)))
 
-pub inserted-none : (w v₁ v₂ : List ℕ) (b i u n : ℕ) (p : Bits) → n ≡ length p + 1 → v₁ ≡ put w (b + (i - 1) + n) (take (u - i) (drop (b + (i - 1)) w)) → v₂ ≡ put v₁ (place b i) (enc (insertT p none))
+pub inserted-none : (w v₁ v₂ : List ℕ) (b i u n : ℕ) (p : Bits) → n ≡ length p + 1 → v₁ ≡ put w (b + (i - 1) + n) (take (u - i) (drop (b + (i - 1)) w)) → v₂ ≡ put v₁ (place b i) (enc (chain p))
     → Inserted w v₂ b i i u p (i + n)
 inserted-none w v₁ v₂ b i u n p q e₁ e₂ t rest g =
     record {
-      wrote = rw (segment-none g, e₂, e₁, segment-rest g) (put-before-at w (place b i) (b + (i - 1) + n) (enc (insertT p none)) rest (omega (arith, length-enc (insertT p none), size-chain p)));
+      wrote = rw (segment-none g, e₂, e₁, segment-rest g) (put-before-at w (place b i) (b + (i - 1) + n) (enc (chain p)) rest (omega (arith, length-enc (chain p), size-chain p)));
       end = rw (segment-none g, size-chain p, q);
     }
 

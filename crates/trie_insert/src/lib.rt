@@ -3,9 +3,8 @@ ghost use mathlib.Core.Path.{_≡_};
 ghost use mathlib.Core.List.{[]};
 ghost use Prim.Native.Nat.{_+_, _≤_, _<_};
 ghost use lib.ListN.{length};
-ghost use Rattle.nets.specs.Tries.{none, insertT};
 ghost use Rattle.nets.specs.Networks.{bitsLeft};
-ghost use Rattle.nodes.specs.Words.{put, place, enc};
+ghost use Rattle.nodes.specs.Words.{put, place, enc, chain};
 ghost use Rattle.trie_insert.specs.Insert.{Held, Insertable, InsertSize, Inserted};
 use nets::NextBit;
 use nets::PrefixBits;
@@ -51,7 +50,7 @@ pub fn insert_size(w: &[u32], b: usize, i: usize, e: usize, s: PrefixBits) -> us
 // Writes the path s as a chain of nodes, from node i on.
 fn chain(w: &mut [u32], b: usize, i: usize, s: PrefixBits)
     requires { ⌜ (1 ≤ i) × ((s .len ≤ 128) × (place b i + s .len < length (now w))) ⌝ }
-    ensures { λ _. ⌜ now (w .exit) ≡ put (now (w .entry)) (place b i) (enc (insertT (bitsLeft s) none)) ⌝ }
+    ensures { λ _. ⌜ now (w .exit) ≡ put (now (w .entry)) (place b i) (enc (chain (bitsLeft s))) ⌝ }
 {
     let mut k = i;
     let mut p = s;
