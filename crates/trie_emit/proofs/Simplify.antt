@@ -7,12 +7,12 @@ use native.Mathlib.Omega.{arith}
 use lib.ListN.{length}
 use Rattle.nets.specs.Tries.{Trie, none, node, leaf, size, bare, levels, glue, simplifyT}
 use Rattle.nodes.specs.Words.{put, place, enc}
-use Rattle.nodes.specs.Segments.{Segment, viewOf}
+use Rattle.nodes.specs.Segments.{Segment, viewOf, Branch}
 use Rattle.nodes.specs.declared.steps.View.the-variants.{Nothing, Leaf, Inner}
 use Rattle.nodes.proofs.Put.{length-put}
 use Rattle.nodes.proofs.Has.{has-put}
 use Rattle.nodes.proofs.Segments.{segment-fit, segment-left, segment-right}
-use Rattle.nodes.proofs.Views.{Branch, view-none, view-leaf, view-inner}
+use Rattle.nodes.proofs.Views.{view-none, view-leaf, view-inner}
 use Rattle.trie_emit.specs.Answers.{answer, body, Emits, endOf, Both, Pending}
 use Rattle.trie_emit.specs.Simplify.{Source}
 use Rattle.trie_emit.specs.declared.emitting.Emitted.{Emitted}

@@ -5,7 +5,7 @@ use borrow.Author.Needs.{needs}
 use borrow.Fn.Kinds.{In}
 use borrow.Fn.PlainCycle.{Measures, is, falls, and}
 use Rattle.nets.specs.Tries.{Trie}
-use Rattle.nodes.proofs.Views.{Branch}
+use Rattle.nodes.specs.Segments.{Branch}
 use Rattle.trie_emit.specs.Simplify.{Source}
 use Rattle.trie_emit.proofs.Simplify.{Fork, seen-none, seen-leaf, seen-inner, fork-fuel, left-source, rest-source, pending, simplified}
 use Rattle.trie_emit.proofs.simplifying.simplify.Reads as simplify
