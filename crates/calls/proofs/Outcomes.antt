@@ -7,8 +7,8 @@ use native.Mathlib.Omega.{arith}
 use lib.Dec.{eqb}
 use lib.ListN.{length}
 use borrow.Author.Tests.{eqb-true, eqb-false}
+use Rattle.calls_kinds.proofs.Judged.{stopAt-whole}
 use Rattle.calls.specs.Runs.{Machine, machine, stopsAt, stepOf, runFrom, runOf, RunsTo}
-use Rattle.calls.proofs.Judged.{stopAt-whole}
 use Rattle.calls.proofs.Turns.{run-on, run-stop}
 
 pub run-determined : {w v b o w₁ v₁ o₁ w₂ v₂ o₂ : List ℕ} {r s : ℕ} → RunsTo w v b o r w₁ v₁ o₁ → RunsTo w v b o s w₂ v₂ o₂ → (r ≡ s) × ((w₁ ≡ w₂) × ((v₁ ≡ v₂) × (o₁ ≡ o₂)))

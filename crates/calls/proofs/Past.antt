@@ -1,4 +1,5 @@
--- Past its last answer a run leaves the bytes for answers as they were: each answer has the bytes by which the place of the next one goes on.
+-- The tail of an answer has the bytes that the call decides. So past its last answer a run leaves the bytes for answers as they were: each answer has the
+-- bytes by which the place of the next one goes on.
 use mathlib.Core.Bool.{Bool, true, false}
 use mathlib.Core.List.{List, [], _∷_, _++_}
 use mathlib.Core.Path.{_≡_, refl, sym, _∙_}
@@ -16,9 +17,11 @@ use Rattle.calls_bytes.specs.declared.Call.{Call}
 use Rattle.calls_bytes.proofs.Written.{length-u32, length-u64, length-reply}
 use Rattle.calls_tailed.specs.Tailed.{rowsOf}
 use Rattle.calls_tailed.proofs.Lent.{length-rowsOf, length-lineBytes, length-saveBytes}
-use Rattle.calls.specs.Runs.{callBytes, effectOf, effectAt, tailLength, Machine, machine, stopsAt, stepOf, runFrom, runOf}
-use Rattle.calls.proofs.Judged.{tail-list, tail-line, tail-save, tail-words, tail-none}
-use Rattle.calls.proofs.Done.{effect-list, effect-line, effect-save, effect-words, effect-plain}
+use Rattle.calls_kinds.specs.Kinds.{kindOf, asksBy, tailLength}
+use Rattle.calls_kinds.specs.declared.Kind.{Kind}
+use Rattle.calls_kinds.specs.declared.Kind.the-variants as kind
+use Rattle.calls.specs.Effects.{effectBy, effectOf}
+use Rattle.calls.specs.Runs.{callBytes, effectAt, Machine, machine, stopsAt, stepOf, runFrom, runOf}
 use Rattle.calls.proofs.Turns.{run-on, run-stop}
 
 length-rowBytes : (f : ℕ → List ℕ) (k : ℕ) → ((x : ℕ) → length (f x) ≡ k) → (xs : List ℕ) → length (rowBytes f xs) ≡ k * length xs
@@ -31,25 +34,24 @@ unfolding wordsFrom
 length-wordsFrom w p zero = refl
 length-wordsFrom w p (suc n) = rw (length-wordsFrom w (p + 1) n)
 
-length-by : (w v s : List ℕ) (c : Call) (p q r t : Bool) → eqb (c .code) 15 ≡ p → eqb (c .code) 18 ≡ q → eqb (c .code) 19 ≡ r → eqb (c .code) 49 ≡ t
-    → length (effectOf w v s c .tail) ≡ tailLength c
-length-by w v s c true q r t e f g h =
-    let i = eqb-true _ _ e in
-    rw (effect-list w v s c i, tail-list c i, length-rowBytes u64Bytes 8 length-u64 (rowsOf w c), length-rowsOf w c)
-length-by w v s c false true r t e f g h = let i = eqb-true _ _ f in rw (effect-line w v s c i, tail-line c i, length-lineBytes c)
-length-by w v s c false false true t e f g h = let i = eqb-true _ _ g in rw (effect-save w v s c i, tail-save c i, length-saveBytes w c)
-length-by w v s c false false false true e f g h =
-    let i = eqb-true _ _ h in
-    rw (effect-words w v s c i, tail-words c i, length-rowBytes u32Bytes 4 length-u32 (wordsFrom w (c .a) (c .b)), length-wordsFrom w (c .a) (c .b))
-length-by w v s c false false false false e f g h =
-    let i = eqb-false _ _ e in
-    let j = eqb-false _ _ f in
-    let k = eqb-false _ _ g in
-    let l = eqb-false _ _ h in
-    rw (effect-plain w v s c i j k l, tail-none c i j k l)
+length-by : (k : Kind) (w v s : List ℕ) (c : Call) → length (effectBy k w v s c .tail) ≡ asksBy k (c .b) .bytes
+unfolding effectBy
+length-by kind.Layout w v s c = refl
+length-by kind.Report w v s c = refl
+length-by kind.Change w v s c = refl
+length-by kind.List w v s c = rw (length-rowBytes u64Bytes 8 length-u64 (rowsOf w c), length-rowsOf w c)
+length-by kind.Network w v s c = refl
+length-by kind.WriteLine w v s c = length-lineBytes c
+length-by kind.Save w v s c = length-saveBytes w c
+length-by kind.Load w v s c = refl
+length-by kind.Lines w v s c = refl
+length-by kind.WriteWords w v s c = refl
+length-by kind.ReadWords w v s c = rw (length-rowBytes u32Bytes 4 length-u32 (wordsFrom w (c .a) (c .b)), length-wordsFrom w (c .a) (c .b))
+length-by kind.Unknown w v s c = refl
 
 pub length-tail : (w v s : List ℕ) (c : Call) → length (effectOf w v s c .tail) ≡ tailLength c
-length-tail w v s c = length-by w v s c (eqb (c .code) 15) (eqb (c .code) 18) (eqb (c .code) 19) (eqb (c .code) 49) refl refl refl refl
+unfolding effectOf
+length-tail w v s c = length-by (kindOf (c .code)) w v s c
 
 -- from a machine on
 record Kept (m e : Machine) : Type 0 where

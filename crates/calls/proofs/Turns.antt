@@ -1,31 +1,41 @@
--- One call after another. What is left of the run from where it stands is what is left from the start; it ends where a call is not done, and not for want of turns, since each call
--- has 35 bytes or more.
+-- One call after another. What is left of the run from where it stands is what is left from the start; it ends where a call is not done, and not for want
+-- of turns, since each call has 35 bytes or more.
 use mathlib.Core.List.{List}
 use mathlib.Core.Path.{_≡_, refl, sym, ap, _∙_}
-use Prim.Native.Nat.{ℕ, zero, suc, _+_, _-_, _*_, _≤_, _<_}
+use Prim.Native.Nat.{ℕ, zero, suc, _+_, _-_, _*_, _≤_, _<_, _^_}
 use native.Mathlib.Nat.{sub-zero}
 use native.Mathlib.Omega.{arith}
 use lib.ListN.{length, take, drop, length-take, length-drop}
 use borrow.Author.Tests.{eq-eqb, ne-eqb}
 use Rattle.calls_bytes.specs.Records.{callAt}
 use Rattle.calls_bytes.specs.declared.Call.{Call}
-use Rattle.calls.specs.Runs.{callBytes, tailLength, stopAt, Fits, Stepped, Machine, machine, stopsAt, stepOf, runFrom, runOf, Ran}
-use Rattle.calls.proofs.Judged.{Goes, goes}
+use Rattle.calls_kinds.specs.Kinds.{asksOf, tailLength}
+use Rattle.calls_kinds.specs.Places.{stopAt, pastOf, Room}
+use Rattle.calls_kinds.specs.declared.places.Place.{Place}
+use Rattle.calls_kinds.proofs.Judged.{Goes, goes}
+use Rattle.calls.specs.Effects.{Fits}
+use Rattle.calls.specs.Runs.{callBytes, Stepped, Machine, machine, stopsAt, stepOf, runFrom, runOf, Ran}
+
+abbrev pub start : Place
+start = record { at = 0; to = 0; done = 0 }
+
+abbrev pub standing : List ℕ → List ℕ → List ℕ → Place → Machine
+standing w v o p = machine w v o (p .at) (p .to) (p .done)
 
 -- the words, rows and answers of a run at its start, and as they are now
-pub record Going (w₀ v₀ b o₀ w v o : List ℕ) (at to done why : ℕ) : Type 0 where
-  pub within : at ≤ length b
-  pub counted : 35 * done ≤ at
-  pub room : to ≤ length o
+pub record Going (w₀ v₀ b o₀ w v o : List ℕ) (p : Place) (why : ℕ) : Type 0 where
+  pub within : p .at ≤ length b
+  pub counted : 35 * p .done ≤ p .at
+  pub room : p .to ≤ length o
   pub same-words : length w ≡ length w₀
   pub same-rows : length v ≡ length v₀
   pub same-out : length o ≡ length o₀
-  pub small : length o < 18446744073709551616
-  pub short : length b < 18446744073709551616
-  pub stop : why ≡ stopAt b at (length v) (length o - to)
-  pub run : runFrom (length b - done) b (machine w v o at to done) ≡ runOf w₀ v₀ b o₀
+  pub small : length o < 2 ^ 64
+  pub short : length b < 2 ^ 64
+  pub stop : why ≡ stopAt b (p .at) (length v) (length o - p .to)
+  pub run : runFrom (length b - p .done) b (standing w v o p) ≡ runOf w₀ v₀ b o₀
 
-pub going-start : (w v b o : List ℕ) {why : ℕ} → length o < 18446744073709551616 → length b < 18446744073709551616 → why ≡ stopAt b 0 (length v) (length o) → Going w v b o w v o 0 0 0 why
+pub going-start : (w v b o : List ℕ) {why : ℕ} → length o < 2 ^ 64 → length b < 2 ^ 64 → why ≡ stopAt b 0 (length v) (length o) → Going w v b o w v o start why
 unfolding runOf
 going-start w v b o h i e =
     record {
@@ -50,28 +60,49 @@ unfolding runFrom
 run-stop b m zero h = refl
 run-stop b m (suc n) h = rw (ne-eqb _ _ h)
 
--- a turn: the call c, done
-module _ {w₀ v₀ b o₀ w v o : List ℕ} {at to done why : ℕ} (g : Going w₀ v₀ b o₀ w v o at to done why) (five : why ≡ 5) where
-  pub turn : Goes b at (length v) (length o - to)
-  turn = goes b at (length v) (length o - to) (sym (g .stop) ∙ five)
+-- a turn: the call c, done, and the place q past it
+module _ {w₀ v₀ b o₀ w v o : List ℕ} {p : Place} {why : ℕ} (g : Going w₀ v₀ b o₀ w v o p why) (five : why ≡ 5) where
+  pub turn : Goes b (p .at) (length v) (length o - p .to)
+  turn = goes b (p .at) (length v) (length o - p .to) (sym (g .stop) ∙ five)
+
+  pub turn-room : (c : Call) → c ≡ callAt b (p .at) → Room p c
+  turn-room c e =
+      let t : c .tail ≡ callAt b (p .at) .tail = ap (λ (x : Call). x .tail) e in
+      let l : tailLength c ≡ tailLength (callAt b (p .at)) = ap tailLength e in
+      record {
+        at = omega (arith, turn .call, g .short);
+        to = omega (arith, turn .answer, g .small, g .room);
+        done = omega (arith, turn .call, g .counted, g .short);
+      }
+
+  -- the place past it is within
+  pub turn-past : (c : Call) (q : Place) → c ≡ callAt b (p .at) → q ≡ pastOf p c → (q .at ≡ p .at + 35 + c .tail) × ((q .at ≤ length b) × (q .to ≤ length o))
+  turn-past c q e d =
+      let at : q .at ≡ p .at + 35 + c .tail = ap (λ (x : Place). x .at) d in
+      let to : q .to ≡ p .to + 28 + tailLength c = ap (λ (x : Place). x .to) d in
+      let t : c .tail ≡ callAt b (p .at) .tail = ap (λ (x : Call). x .tail) e in
+      let l : tailLength c ≡ tailLength (callAt b (p .at)) = ap tailLength e in
+      (at, (omega (arith, turn .call), omega (arith, turn .answer, g .room)))
 
   -- k bytes are cut out for the call
-  pub turn-fits : (c : Call) (k : ℕ) → c ≡ callAt b at → k ≡ 35 + c .tail → Fits v (take k (drop at b)) c o (to + 28)
+  pub turn-fits : (c : Call) (k : ℕ) → c ≡ callAt b (p .at) → k ≡ 35 + c .tail → Fits v (take k (drop (p .at) b)) c o (p .to + 28)
   turn-fits c k e f =
       record {
         call = simp (length-take, length-drop) (omega (arith, turn .call, ap (λ (x : Call). x .tail) e));
         room = omega (arith, turn .answer, ap tailLength e, g .room);
-        rows = rw e (turn .lent);
+        rows = omega (arith, turn .lent, ap (λ x. asksOf x .rows) e);
       }
 
-  pub turn-on : {w′ v′ o′ : List ℕ} (c : Call) (k at′ to′ : ℕ) {why′ : ℕ} → c ≡ callAt b at → k ≡ 35 + c .tail → Stepped w v (take k (drop at b)) c o to w′ v′ o′
-      → length w′ ≡ length w → length v′ ≡ length v → length o′ ≡ length o → at′ ≡ at + 35 + c .tail → to′ ≡ to + (28 + tailLength c) → why′ ≡ stopAt b at′ (length v′) (length o′ - to′)
-      → Going w₀ v₀ b o₀ w′ v′ o′ at′ to′ (done + 1) why′
+  pub turn-on : {w′ v′ o′ : List ℕ} (c : Call) (k : ℕ) (q : Place) {why′ : ℕ} → c ≡ callAt b (p .at) → k ≡ 35 + c .tail → q ≡ pastOf p c
+      → Stepped w v (take k (drop (p .at) b)) c o (p .to) w′ v′ o′ → length w′ ≡ length w → length v′ ≡ length v → length o′ ≡ length o
+      → why′ ≡ stopAt b (q .at) (length v′) (length o′ - q .to) → Going w₀ v₀ b o₀ w′ v′ o′ q why′
   unfolding stepOf callBytes
-  turn-on {w′} {v′} {o′} c k at′ to′ e f s lw lv lo ea et h =
-      let a : at′ ≡ at + 35 + callAt b at .tail = rw (← e) ea in
-      let t : to′ ≡ to + (28 + tailLength (callAt b at)) = rw (← e) et in
-      let z : Stepped w v (take (35 + callAt b at .tail) (drop at b)) (callAt b at) o to w′ v′ o′ = rw (f, e) at s in
+  turn-on {w′} {v′} {o′} c k q e f d s lw lv lo h =
+      let n : q ≡ pastOf p (callAt b (p .at)) = rw e at d in
+      let at : q .at ≡ p .at + 35 + callAt b (p .at) .tail = ap (λ (x : Place). x .at) n in
+      let to : q .to ≡ p .to + 28 + tailLength (callAt b (p .at)) = ap (λ (x : Place). x .to) n in
+      let done : q .done ≡ p .done + 1 = ap (λ (x : Place). x .done) n in
+      let z : Stepped w v (take (35 + callAt b (p .at) .tail) (drop (p .at) b)) (callAt b (p .at)) o (p .to) w′ v′ o′ = rw (f, e) at s in
       record {
         within = omega (arith, turn .call);
         counted = omega (arith, g .counted);
@@ -83,15 +114,16 @@ module _ {w₀ v₀ b o₀ w v o : List ℕ} {at to done why : ℕ} (g : Going w
         short = g .short;
         stop = h;
         run =
-            rw (z .words, z .rows, z .out, a, t)
-            (sym (run-on b (machine w v o at to done) (length b - done) (length b - (done + 1)) (omega (arith, turn .call, g .counted)) (sym (g .stop) ∙ five)) ∙ g .run);
+            rw (z .words, z .rows, z .out, n)
+            (sym (run-on b (standing w v o p) (length b - p .done) (length b - (p .done + 1))
+            (omega (arith, turn .call, g .counted)) (sym (g .stop) ∙ five)) ∙ g .run);
       }
 
 -- the end of the run
-pub ran : {w₀ v₀ b o₀ w v o : List ℕ} {at to done why : ℕ} → Going w₀ v₀ b o₀ w v o at to done why → (why ≡ 5 → ⊥)
-    → Ran w₀ v₀ b o₀ (record { why = why; done = done; to = to }) w v o
-ran {w₀} {v₀} {b} {o₀} {w} {v} {o} {at} {to} {done} g h =
-    let e : machine w v o at to done ≡ runOf w₀ v₀ b o₀ = sym (run-stop b (machine w v o at to done) (length b - done) (λ i. h (g .stop ∙ i))) ∙ g .run in
+pub ran : {w₀ v₀ b o₀ w v o : List ℕ} {p : Place} {why : ℕ} → Going w₀ v₀ b o₀ w v o p why → (why ≡ 5 → ⊥)
+    → Ran w₀ v₀ b o₀ (record { why = why; done = p .done; to = p .to }) w v o
+ran {w₀} {v₀} {b} {o₀} {w} {v} {o} {p} g h =
+    let e : standing w v o p ≡ runOf w₀ v₀ b o₀ = sym (run-stop b (standing w v o p) (length b - p .done) (λ i. h (g .stop ∙ i))) ∙ g .run in
     record {
       why = g .stop ∙ ap (stopsAt b) e;
       done = ap (λ (m : Machine). m .done) e;

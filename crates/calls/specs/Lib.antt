@@ -1,2 +1,3 @@
--- What a reader must believe of a run.
+-- What a reader must believe of what a call does, and of a run.
+pub mod Effects
 pub mod Runs

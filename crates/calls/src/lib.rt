@@ -2,6 +2,7 @@
 use running::run;
 ghost use Rattle.calls.specs.Runs.{RunsTo};
 
+mod answering;
 pub mod running;
 
 // Runs the calls on the pool and writes the answers from the first byte of out on. Answers eight times the number of calls that were done, and why it ended.

@@ -59,7 +59,8 @@ fn put_net(out: &mut [u8], at: usize, net: Net)
     put_u8(out, at + 17, net.len);
 }
 
-fn flag_byte(flag: bool) -> u8
+// 1 where it is set, else 0.
+pub fn flag_byte(flag: bool) -> u8
     ensures { λ r. ⌜ r ≡ cond flag 1 0 ⌝ }
 {
     if flag { 1 } else { 0 }

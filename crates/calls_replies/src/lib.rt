@@ -1,5 +1,5 @@
 // The answers of the calls as the records of docs/CALLS.md: a refusal has its number, and zeros elsewhere.
-ghost use mathlib.Core.Bool.{true, cond};
+ghost use mathlib.Core.Bool.{true};
 ghost use mathlib.Core.Path.{_≡_};
 ghost use Rattle.nets.specs.Networks.{takenAs, prefixAs, nextAs};
 ghost use Rattle.nets.specs.Refusals.{number};
@@ -9,6 +9,7 @@ ghost use Rattle.listing.specs.Calls.{followerAs};
 ghost use Rattle.text.specs.Answers.{writtenAs};
 ghost use Rattle.calls_replies.specs.Replies.{noReply, oneReply, twoReply, flagReply, netReply, foundReply, leftNet, bitsReply, bitReply, toldReply, entryReply};
 use calls_bytes::Reply;
+use calls_bytes::records::flag_byte;
 use listing::Follower;
 use lookup::Covering;
 use nets::Net;
@@ -198,19 +199,13 @@ pub fn of_prefix(a: Prefix) -> Reply
     }
 }
 
-fn one_if(bit: bool) -> u32
-    ensures { λ r. ⌜ r ≡ cond bit 1 0 ⌝ }
-{
-    if bit { 1 } else { 0 }
-}
-
 fn of_step(bit: bool, left: PrefixBits) -> Reply
     ensures { λ r. ⌜ r ≡ bitReply (nextAs (NextBit.Bit bit left)) ⌝ }
 {
     Reply {
         no: 0,
         flag: true,
-        x: one_if(bit),
+        x: flag_byte(bit) as u32,
         y: 0,
         net: of_left(left),
     }

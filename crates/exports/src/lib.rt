@@ -1,6 +1,5 @@
 // The calls that are exported each for itself, for programs in other languages: the lookup on the request path, and those whose rows or bytes would otherwise be copied. Each answers
 // 2^32 times the number of its refusal, plus its value.
-ghost use mathlib.Core.Bool.{cond};
 ghost use mathlib.Core.Path.{_≡_};
 ghost use lib.ListN.{length};
 ghost use Rattle.nets.specs.Networks.{netWords};
@@ -28,12 +27,6 @@ fn granted(x: u32) -> u64
     x as u64
 }
 
-fn one_if(flag: bool) -> u32
-    ensures { λ r. ⌜ r ≡ cond flag 1 0 ⌝ }
-{
-    if flag { 1 } else { 0 }
-}
-
 fn of_answer(a: Answer) -> u64
     ensures { λ r. ⌜ r ≡ packed (answerAs a) ⌝ }
 {
@@ -47,7 +40,12 @@ fn of_told(a: Told) -> u64
     ensures { λ r. ⌜ r ≡ packedFlag (toldAs a) ⌝ }
 {
     match a {
-        Told::Is(flag) => granted(one_if(flag)),
+        Told::Is(flag) => {
+            if flag {
+                return granted(1);
+            }
+            granted(0)
+        }
         Told::Refused(no) => refused(no),
     }
 }

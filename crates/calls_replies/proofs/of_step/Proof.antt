@@ -8,5 +8,6 @@ of-step-spec =
     tie.close
     (tie.spec
     (λ c κs. search needs)
+    (λ c. search needs)
     (λ c κs. search needs)
-    (λ c. rw (c .before .one-if .ensures, c .of-left .ensures)))
+    (λ c. rw (c .before .flag-byte .ensures, c .of-left .ensures)))

@@ -1,7 +1,5 @@
 -- `of_told` meets its contract, arm by arm. Assumes nothing.
 use borrow.Author.Needs.{needs}
-use mathlib.Core.Path.{ap, _∙_}
-use Rattle.exports.specs.Packed.{packed}
 use Rattle.exports.proofs.of_told.Statement.{statement}
 use Rattle.exports.proofs.of_told.Tie as tie
 
@@ -11,8 +9,9 @@ of-told-spec =
     (tie.spec
     (λ c. search needs)
     (λ c κs. search needs)
+    (λ c. rw (c .before .before .before .a .given .1, c .before .if1 .taken) (c .granted .ensures))
     (λ c κs. search needs)
     (λ c. search needs)
     (λ c κs. search needs)
-    (λ c. rw (c .before .before .before .a .given .1) (c .granted .ensures ∙ ap (λ k. packed (0, k)) (c .before .one-if .ensures)))
+    (λ c. rw (c .before .before .before .a .given .1, c .before .if1 .left) (c .granted2 .ensures))
     (λ c. rw (c .before .before .a2 .given .1) (c .refused .ensures)))

@@ -1,12 +1,12 @@
--- `running::stop_at` meets its contract, test by test. Assumes nothing.
+-- `places::stop_at` meets its contract, test by test. Assumes nothing.
 use mathlib.Core.Path.{sym, ap, _∙_}
 use Rattle.calls_bytes.specs.declared.Call.{Call}
-use Rattle.calls.specs.Runs.{stopOf}
-use Rattle.calls.proofs.Judged.{stopAt-whole, stopAt-cut, stopAt-tail, stopAt-call}
+use Rattle.calls_kinds.specs.Places.{stopOf}
+use Rattle.calls_kinds.proofs.Judged.{stopAt-whole, stopAt-cut, stopAt-tail, stopAt-call}
 use borrow.Author.Needs.{needs}
 use native.Mathlib.Omega.{arith}
-use Rattle.calls.proofs.running.stop_at.Statement.{statement}
-use Rattle.calls.proofs.running.stop_at.Tie as tie
+use Rattle.calls_kinds.proofs.places.stop_at.Statement.{statement}
+use Rattle.calls_kinds.proofs.places.stop_at.Tie as tie
 
 pub stop-at-spec : {M : Type 1} → statement M
 stop-at-spec =

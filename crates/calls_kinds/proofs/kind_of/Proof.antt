@@ -1,0 +1,45 @@
+-- `kind_of` meets its contract: an arm has one code, or codes that have one kind. Assumes nothing.
+use mathlib.Core.Path.{refl}
+use Prim.Native.Nat.{zero-le}
+use Rattle.calls_kinds.specs.Kinds.{table, kindIn, kindOf}
+use Rattle.calls_kinds.proofs.Tables.{whole, kindOf-from, beyond, below-or}
+use Rattle.calls_kinds.proofs.kind_of.Statement.{statement}
+use Rattle.calls_kinds.proofs.kind_of.Tie as tie
+
+pub kind-of-spec : {M : Type 1} → statement M
+unfolding kindOf kindIn table whole
+kind-of-spec =
+    tie.close
+    (tie.spec
+    (λ c. rw (c .match .keys1))
+    (λ c. rw (c .match .keys2))
+    (λ c. rw (c .match .keys3))
+    (λ c. rw (c .match .keys4))
+    (λ c. rw (c .match .keys5))
+    (λ c. rw (c .match .keys6))
+    (λ c. rw (c .match .keys7))
+    (λ c. rw (c .match .keys8))
+    (λ c. rw (c .match .keys9))
+    (λ c. rw (c .match .keys10))
+    (λ c. rw (c .match .keys11))
+    (λ c.
+    let m = c .before .before in
+    kindOf-from 2 8 (m .before .args .code) refl (beyond (c .before .if1 .left) (m .match .rest .0 .0 .0 .0 .0 .0 .0 .0 .0 .0 .1)) (c .if2 .taken))
+    (λ c. kindOf-from 8 14 (c .before .before .before .before .args .code) refl (c .before .if2 .left) (c .if3 .taken))
+    (λ c.
+    let m = c .before .before .before .before in
+    let r = m .match .rest in
+    let a = beyond (beyond (c .before .if3 .left) (r .0 .0 .0 .0 .0 .0 .0 .0 .0 .1)) (r .0 .0 .0 .0 .0 .0 .0 .0 .1) in
+    let b = beyond (beyond a (r .0 .0 .0 .0 .0 .0 .0 .1)) (r .0 .0 .0 .0 .0 .0 .1) in
+    let d = beyond (beyond b (r .0 .0 .0 .0 .0 .1)) (r .0 .0 .0 .0 .1) in
+    let e = beyond (beyond d (r .0 .0 .0 .1)) (r .0 .0 .1) in
+    kindOf-from 22 25 (m .before .args .code) refl e (c .if4 .taken))
+    (λ c. kindOf-from 32 41 (c .before .before .before .before .before .before .before .args .code) refl (c .before .if5 .left) (c .if6 .taken))
+    (λ c. kindOf-from 0 1 (c .before .before .args .code) refl zero-le (c .if1 .taken))
+    (λ c. kindOf-from 25 32 (c .before .before .before .before .before .before .args .code) refl (c .before .if4 .left) (c .if5 .taken))
+    (λ c.
+    let m = c .before .before .before .before .before .before in
+    let r = m .match .rest in
+    let k = m .before .args .code in
+    below-or 48 k (λ h. kindOf-from 41 48 k refl (c .if6 .left) h)
+    (λ h. kindOf-from 50 256 k refl (beyond (beyond h (r .0 .1)) (r .1)) (m .before .fits .code .fits))))
