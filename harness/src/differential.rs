@@ -1,7 +1,8 @@
 //! Runs the same calls through the library, the model and iprange, and compares every answer, every list and every word after every step.
+use crate::files::read_lines;
 use crate::layout::decode;
-use crate::model::apply;
-use crate::oracle::Oracle;
+use crate::model::{apply, read_line};
+use crate::oracle::{reading, Oracle};
 use crate::plan::{Dice, Plan};
 use crate::wire::*;
 use std::collections::{BTreeMap, BTreeSet};
@@ -38,6 +39,14 @@ pub fn script(case: &Case) -> Result<Script, String> {
             if let Some(what) = differs.or_else(|| o.differs(st)) {
                 return Err(format!("call {i} {c:?}: model {a:?}, {what}"));
             }
+        }
+        let lines = match c.code {
+            READ_LINE => vec![&c.tail[..]],
+            LINES => read_lines(&c.tail),
+            _ => vec![],
+        };
+        if let Some(what) = lines.iter().find_map(|l| reading(l, read_line(l))) {
+            return Err(format!("call {i} {c:?}: model {a:?}, {what}"));
         }
         s.push(i, c.clone(), a);
         let all = Call { b: case.words as u32, ..Call::new(READ_WORDS) };

@@ -1,4 +1,4 @@
-//! What each call has to answer and to leave, by document 01 and docs/CALLS.md: refusals, room, limits, shares, reports, files, text, damaged memory.
+//! What each call has to answer and to leave, by document 01, request M-101 and docs/CALLS.md: refusals, room, limits, shares, reports, files, text, damaged memory.
 use crate::files::{file, read_file, read_lines};
 use crate::layout::{decode, encode, header, held, room, State};
 use crate::lists::{self, cleared, width, List, Member};
@@ -195,21 +195,36 @@ fn next(s: &State, c: &Call) -> Answer {
     answered(no, || found(s.family, lists::next(&s.sets[c.a as usize].list, if c.b == 0 { None } else { Some(member(&c.net)) })))
 }
 
-fn decimal(s: &str, digits: usize, most: u32) -> Option<u32> {
-    if s.is_empty() || s.len() > digits || !s.bytes().all(|b| b.is_ascii_digit()) {
-        return None;
-    }
-    s.parse().ok().filter(|&n| n <= most)
+/// `dec-octet` of RFC 3986, section 3.2.2, alternative by alternative.
+fn dec_octet(s: &[u8]) -> bool {
+    matches!(
+        s,
+        [b'0'..=b'9']
+            | [b'1'..=b'9', b'0'..=b'9']
+            | [b'1', b'0'..=b'9', b'0'..=b'9']
+            | [b'2', b'0'..=b'4', b'0'..=b'9']
+            | [b'2', b'5', b'0'..=b'5']
+    )
+}
+
+/// The length: 0 to 32, and 0 alone begins with 0.
+fn size(s: &[u8]) -> bool {
+    matches!(s, [b'0'..=b'9'] | [b'1' | b'2', b'0'..=b'9'] | [b'3', b'0'..=b'2'])
+}
+
+/// The number of digits that follow the rule.
+fn number_of(s: &str, rule: fn(&[u8]) -> bool) -> Option<u64> {
+    if rule(s.as_bytes()) { s.parse().ok() } else { None }
 }
 
 pub fn read_line(line: &[u8]) -> Option<Net> {
     let (a, n) = std::str::from_utf8(line).ok()?.split_once('/')?;
-    let parts: Vec<u32> = a.split('.').map(|p| decimal(p, 3, 255)).collect::<Option<_>>()?;
+    let parts: Vec<u64> = a.split('.').map(|p| number_of(p, dec_octet)).collect::<Option<_>>()?;
     if parts.len() != 4 {
         return None;
     }
-    let lo = parts.iter().fold(0, |x, &p| x * 256 + p as u64);
-    Some(Net { family: 4, hi: 0, lo, len: decimal(n, 2, 32)? as u8 })
+    let lo = parts.iter().fold(0, |x, &p| x * 256 + p);
+    Some(Net { family: 4, hi: 0, lo, len: number_of(n, size)? as u8 })
 }
 
 fn save(s: &State, c: &Call) -> Answer {

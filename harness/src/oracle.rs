@@ -31,6 +31,14 @@ impl Numbers for Ipv6Net {
     }
 }
 
+/// What ipnet says of a line, where that is another than what was read. It reads numbers with a leading zero too: only there it may read more.
+pub fn reading(line: &[u8], read: Option<Net>) -> Option<String> {
+    let ipnet = std::str::from_utf8(line).ok().and_then(|s| s.parse::<Ipv4Net>().ok()).map(|n| n.member());
+    let ours = read.map(|n| (n.len, address(&n)));
+    let zeros = line.split(|b| !b.is_ascii_digit()).any(|n| n.len() > 1 && n[0] == b'0');
+    (ours != ipnet && !(ours.is_none() && zeros)).then(|| format!("ipnet reads {ipnet:?}"))
+}
+
 /// The members one after the other; `collect` would simplify.
 pub fn ranges<N: Numbers + Clone>(l: &List) -> IpRange<N> {
     let mut r = IpRange::new();

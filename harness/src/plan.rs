@@ -36,6 +36,20 @@ pub enum Universe {
 
 const EDGES: [u8; 11] = [0, 1, 2, 31, 32, 33, 63, 64, 65, 127, 128];
 
+/// Six lines with a leading zero, and four without one.
+const ZEROS: [&str; 10] = [
+    "010.0.0.0/8",
+    "10.0.0.00/8",
+    "10.0.0.0/08",
+    "10.0.0.0/00",
+    "000.0.0.0/0",
+    "1.2.3.04/32",
+    "0.0.0.0/0",
+    "10.0.0.0/8",
+    "255.255.255.255/32",
+    "100.200.0.9/10",
+];
+
 #[derive(Clone)]
 pub struct Plan {
     pub family: u8,
@@ -128,11 +142,21 @@ impl Plan {
     }
 
     fn line(&self, d: &mut Dice) -> Vec<u8> {
-        let n = |d: &mut Dice| d.pick(&[0u64, 1, 9, 10, 99, 100, 199, 255, 256, 300, 1000]);
-        let mut s = format!("{}.{}.{}.{}/{}", n(d), n(d), n(d), n(d), d.below(40)).into_bytes();
         if d.one_in(3) {
-            s = format!("{}.{}.{}.{}/{}", d.below(256), d.below(256), d.below(256), d.below(256), d.below(33)).into_bytes();
+            return d.pick(&ZEROS).into();
         }
+        let n = |d: &mut Dice| d.pick(&[0u64, 1, 9, 10, 99, 100, 199, 255, 256, 300, 1000]);
+        let mut numbers = [n(d), n(d), n(d), n(d), d.below(40)].map(|n| n.to_string());
+        if d.one_in(2) {
+            numbers = [256, 256, 256, 256, 33].map(|k| d.below(k).to_string());
+        }
+        if d.one_in(3) {
+            // leading zeros in one of the numbers, the length among them
+            let k = d.below(5) as usize;
+            numbers[k] = format!("{}{}", d.pick(&["0", "0", "00"]), numbers[k]);
+        }
+        let [a, b, c, e, len] = numbers;
+        let mut s = format!("{a}.{b}.{c}.{e}/{len}").into_bytes();
         if d.one_in(6) {
             let at = d.below(s.len() as u64) as usize;
             s[at] = d.pick(b"0/. \r\n-+9x\xff");

@@ -17,8 +17,8 @@ use shrinking::shrink;
 ghost use Rattle.change.specs.Calls.{Added, Removed};
 ghost use Rattle.change.specs.Simplified.{Simplifies};
 
-pub mod calling;
-pub mod shrinking;
+mod calling;
+mod shrinking;
 
 // Adds a network to a set: where no member contains it, the members inside it go and it joins. Answers the nodes of the set.
 pub fn add(pool: &mut [u32], set: u32, net: Net) -> Answer

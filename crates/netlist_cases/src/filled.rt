@@ -31,13 +31,13 @@ pub fn lines(line: &[u8; 16], at: usize) -> [u8; BYTES]
     buf
 }
 
-// The rows of 0.0.0.1/32, 1.0.0.1/32 and so on, 38 of them.
+// The rows of 100.10.10.10/32, 101.10.10.10/32 and so on, 38 of them.
 pub fn hosts() -> [u64; 114]
     ensures { λ r. ⌜ 114 ≡ length r ⌝ }
 {
     let mut rows = [0u64; 114];
     for i in 0..38 {
-        rows[3 * i + 1] = (i as u64) * 0x0100_0000 + 1;
+        rows[3 * i + 1] = (i as u64) * 0x0100_0000 + 0x640a_0a0a;
         rows[3 * i + 2] = 32;
     }
     rows

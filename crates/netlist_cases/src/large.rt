@@ -7,23 +7,23 @@ use crate::reading::WORDS;
 use test_counts::Tally;
 ghost use Prim.Native.Nat.{_<_};
 
-// The 39th of the networks 0.0.0.1/32, 1.0.0.1/32 and so on is the first that has more than 1,000 nodes with those before it: they have 992.
+// The 39th of the networks 100.10.10.10/32, 101.10.10.10/32 and so on is the first that has more than 1,000 nodes with those before it: they have 995.
 pub fn over_limit(t: Tally) -> Tally {
-    let buf = filled::lines(b"000.00.00.01/32\n", 1);
+    let buf = filled::lines(b"100.10.10.10/32\n", 1);
     let nets = filled::hosts();
-    expect::reads(t, &buf, 39, 9, &nets, 992)
+    expect::reads(t, &buf, 39, 9, &nets, 995)
 }
 
-// The networks that hold 10.0.0.0 to 10.0.0.39, eight addresses each, over and over: so many buffers of them, in pieces of this size.
+// The networks that hold 10.10.10.100 to 10.10.10.139, eight addresses each, over and over: so many buffers of them, in pieces of this size.
 fn over_and_over(t: Tally, times: u32, size: usize, number: u64) -> Tally
     requires { ⌜ 0 < size ⌝ }
 {
-    let buf = filled::lines(b"10.00.00.000/29\n", 10);
+    let buf = filled::lines(b"10.10.10.100/29\n", 10);
     let mut pool = [0u32; WORDS];
     reading::lay(&mut pool);
     let r = reading::feed_times(&mut pool, lines::start(), &buf, size, times);
-    let nets = [0, 0x0a00_0000, 27, 0, 0x0a00_0020, 29];
-    expect::ends(t, &mut pool, r, number, 0, &nets, 31)
+    let nets = [0, 0x0a0a_0a60, 27, 0, 0x0a0a_0a80, 28];
+    expect::ends(t, &mut pool, r, number, 0, &nets, 32)
 }
 
 // 1 MB of lines, and 100,000 lines.

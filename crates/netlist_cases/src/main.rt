@@ -11,6 +11,7 @@ fn main() {
     let mut t = small::accepted(test_counts::none());
     t = small::joined(t);
     t = small::refused(t);
+    t = small::zeros(t);
     t = small::unfit(t);
     t = small::longest(t);
     t = large::over_limit(t);

@@ -7,7 +7,7 @@ pub fn accepted(t: Tally) -> Tally {
     let mut t = expect::reads(t, b"", 1, 0, &[], 0);
     t = expect::reads(t, b"10.9.8.7/8\n", 2, 0, &[0, 0x0a00_0000, 8], 9);
     t = expect::reads(t, b"10.9.8.7/8", 2, 0, &[0, 0x0a00_0000, 8], 9);
-    t = expect::reads(t, b"001.002.003.004/08\n", 2, 0, &[0, 0x0100_0000, 8], 9);
+    t = expect::reads(t, b"100.200.0.9/10\n0.0.0.0/0\n", 3, 0, &[0, 0, 0], 1);
     document(t)
 }
 
@@ -73,6 +73,16 @@ pub fn refused(t: Tally) -> Tally {
         9,
     );
     expect::reads(t, b"10.0.0.0/8\n11.0.0.0/", 2, 4, &[0, 0x0a00_0000, 8], 9)
+}
+
+// Numbers of two or more digits that begin with 0.
+pub fn zeros(t: Tally) -> Tally {
+    let mut t = expect::reads(t, b"010.0.0.0/8\n", 1, 4, &[], 0);
+    t = expect::reads(t, b"10.0.0.00/8\n", 1, 4, &[], 0);
+    t = expect::reads(t, b"10.0.0.0/08\n", 1, 4, &[], 0);
+    t = expect::reads(t, b"10.0.0.0/00\n", 1, 4, &[], 0);
+    t = expect::reads(t, b"000.0.0.0/0\n", 1, 4, &[], 0);
+    expect::reads(t, b"0.0.0.0/1\n1.2.3.04/32\n", 2, 4, &[0, 0, 1], 2)
 }
 
 // Empty lines, also behind the last line feed but one, and carriage returns.

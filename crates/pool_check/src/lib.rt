@@ -75,7 +75,7 @@ pub fn most_levels(family: u32) -> u32
 }
 
 // The number after the trie of set s, where i is the next number that is not placed, or 0 where the set is damaged.
-pub fn set_end(w: &[u32], b: usize, n: u32, fuel: u32, s: usize, i: u32) -> u32
+fn set_end(w: &[u32], b: usize, n: u32, fuel: u32, s: usize, i: u32) -> u32
     requires { ⌜ Room (now w) b n ⌝ }
     requires { ⌜ (1 ≤ i) × (fuel ≤ 129) ⌝ }
     requires { ⌜ (s < 64) × (base (s + 1) ≤ length (now w)) ⌝ }
@@ -92,7 +92,7 @@ pub fn set_end(w: &[u32], b: usize, n: u32, fuel: u32, s: usize, i: u32) -> u32
 }
 
 // The share and the nodes of set s are at most its limit.
-pub fn in_limit(w: &[u32], s: usize, nodes: u32) -> bool
+fn in_limit(w: &[u32], s: usize, nodes: u32) -> bool
     requires { ⌜ (s < 64) × (base (s + 1) ≤ length (now w)) ⌝ }
     ensures { λ r. ⌜ r ≡ (leb (shareIn (now (w .entry)) s) (limitIn (now (w .entry)) s) && leb nodes (limitIn (now (w .entry)) s)) ⌝ }
 {
@@ -105,7 +105,7 @@ pub fn in_limit(w: &[u32], s: usize, nodes: u32) -> bool
 }
 
 // What set s claims of the pool: the larger of its share and its nodes.
-pub fn claim_at(w: &[u32], s: usize, nodes: u32) -> u32
+fn claim_at(w: &[u32], s: usize, nodes: u32) -> u32
     requires { ⌜ (s < 64) × (base (s + 1) ≤ length (now w)) ⌝ }
     ensures { λ r. ⌜ r ≡ max (shareIn (now (w .entry)) s) nodes ⌝ }
 {

@@ -6,7 +6,7 @@ use Prim.Native.Nat.{ℕ}
 use Prim.Native.String.{String}
 use lib.ListN.{replicate}
 use Rattle.nets.specs.declared.Net.{Net}
-use Rattle.text.specs.Decimal.{isDigit, allDigits, decimalFrom, isNumber, leading, behind, readNumber, digitsOf}
+use Rattle.text.specs.Decimal.{isDigit, allDigits, decimalFrom, plain, isNumber, leading, behind, readNumber, digitsOf}
 use Rattle.text.specs.Ipv4.{address, ipv4, joined, readNext, readQuad, badText, readLine, lineOf}
 
 abbrev bytes : String → List ℕ
@@ -20,15 +20,22 @@ read s = readLine (bytes s)
 abbrev net : ℕ → ℕ → ℕ → ℕ → ℕ → Net
 net a b c d n = ipv4 (address a b c d) n
 
-pub lines-read : map read ("10.9.8.7/8" ∷ "010.0.0.0/8" ∷ "0.0.0.0/0" ∷ "255.255.255.255/32" ∷ "1.2.3.4/08" ∷ [])
-    ≡ (0, net 10 9 8 7 8) ∷ (0, net 10 0 0 0 8) ∷ (0, net 0 0 0 0 0) ∷ (0, net 255 255 255 255 32) ∷ (0, net 1 2 3 4 8) ∷ []
-unfolding isDigit allDigits decimalFrom isNumber leading behind readNumber readNext readQuad readLine
+pub lines-read : map read ("10.9.8.7/8" ∷ "0.0.0.0/0" ∷ "10.0.0.0/8" ∷ "255.255.255.255/32" ∷ "100.200.0.9/10" ∷ [])
+    ≡ (0, net 10 9 8 7 8) ∷ (0, net 0 0 0 0 0) ∷ (0, net 10 0 0 0 8) ∷ (0, net 255 255 255 255 32) ∷ (0, net 100 200 0 9 10) ∷ []
+unfolding isDigit allDigits decimalFrom plain isNumber leading behind readNumber readNext readQuad readLine
 lines-read = refl
 
-pub lines-refused : map read ("256.0.0.0/8" ∷ "1.2.3.4/33" ∷ "1.2.3/8" ∷ "1.2.3.4/" ∷ "" ∷ " 1.2.3.4/8" ∷ "0001.2.3.4/8" ∷ "1.2.3.4/008" ∷ "1.2.3.4/8 " ∷ "1..3.4/8" ∷ []) ≡ replicate 10 badText
-unfolding isDigit allDigits decimalFrom isNumber leading behind readNumber readNext readQuad readLine
+pub lines-refused : map read ("256.0.0.0/8" ∷ "1.2.3.4/33" ∷ "1.2.3/8" ∷ "1.2.3.4/" ∷ "" ∷ " 1.2.3.4/8" ∷ "1.2.3.4/8 " ∷ "1..3.4/8" ∷ []) ≡ replicate 8 badText
+unfolding isDigit allDigits decimalFrom plain isNumber leading behind readNumber readNext readQuad readLine
 lines-refused = refl
 
-pub lines-written : map lineOf (net 10 9 8 7 8 ∷ net 0 0 0 0 0 ∷ net 192 168 100 255 32 ∷ []) ≡ map bytes ("10.9.8.7/8" ∷ "0.0.0.0/0" ∷ "192.168.100.255/32" ∷ [])
+-- leading zeros
+pub zeros-refused : map read ("010.0.0.0/8" ∷ "10.0.0.00/8" ∷ "10.0.0.0/08" ∷ "10.0.0.0/00" ∷ "000.0.0.0/0" ∷ "1.2.3.04/32" ∷ "0001.2.3.4/8" ∷ [])
+    ≡ replicate 7 badText
+unfolding isDigit allDigits decimalFrom plain isNumber leading behind readNumber readNext readQuad readLine
+zeros-refused = refl
+
+pub lines-written : map lineOf (net 10 9 8 7 8 ∷ net 0 0 0 0 0 ∷ net 192 168 100 255 32 ∷ [])
+    ≡ map bytes ("10.9.8.7/8" ∷ "0.0.0.0/0" ∷ "192.168.100.255/32" ∷ [])
 unfolding digitsOf joined lineOf
 lines-written = refl

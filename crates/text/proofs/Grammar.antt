@@ -12,17 +12,19 @@ use Rattle.nets.specs.declared.Net.{Net}
 use Rattle.text.specs.Decimal.{isDigit, decimal, isNumber, Parsed, parsed, nothing, andThen, readNumber}
 use Rattle.text.specs.Ipv4.{dot, slash, address, ipv4, joined, IsLine, endedBy, readNext, readQuad, badText, withLength, withAddress, readLine}
 use Rattle.text.specs.Places.{startsDigit}
-use Rattle.text.proofs.Numbers.{isNumber-is, readNumber-append, readNumber-is}
+use Rattle.text.proofs.Numbers.{readNumber-append, readNumber-is}
 use Rattle.text.proofs.Writing.{length-joined}
+use Rattle.text.proofs.Digits.{length-number, length-number-two}
+use Rattle.text.proofs.DecOctet.{octet-number, number-octet}
 
 -- A line of the grammar is read.
-readNext-append : (e v : ℕ) (s t : List ℕ) → isDigit e ≡ false → isNumber 3 255 s ≡ true → readNext e (parsed v (s ++ (e ∷ t))) ≡ parsed (v * 256 + decimal s) t
+readNext-append : (e v : ℕ) (s t : List ℕ) → isDigit e ≡ false → isNumber 255 s ≡ true → readNext e (parsed v (s ++ (e ∷ t))) ≡ parsed (v * 256 + decimal s) t
 unfolding readNext startsDigit
-readNext-append e v s t d h = rw (readNumber-append 3 255 s (e ∷ t) h d, eq-eqb e e refl)
+readNext-append e v s t d h = rw (readNumber-append 255 s (e ∷ t) h d, eq-eqb e e refl)
 
-readNumber-all : (k m : ℕ) (s : List ℕ) → isNumber k m s ≡ true → readNumber k m s ≡ parsed (decimal s) []
+readNumber-all : (m : ℕ) (s : List ℕ) → isNumber m s ≡ true → readNumber m s ≡ parsed (decimal s) []
 unfolding startsDigit
-readNumber-all k m s h = rw (append-nil s) at (readNumber-append k m s [] h refl)
+readNumber-all m s h = rw (append-nil s) at (readNumber-append m s [] h refl)
 
 is-readLine : (s : List ℕ) (n : Net) → IsLine s n → readLine s ≡ (0, n)
 unfolding readLine readQuad joined isDigit
@@ -33,12 +35,12 @@ is-readLine s n l =
     rw (
       l .bytes,
       l .network,
-      readNext-append dot 0 (l .a) (l .b ++ (dot ∷ u)) refl (l .a-number),
+      readNext-append dot 0 (l .a) (l .b ++ (dot ∷ u)) refl (octet-number (l .a) (l .a-rule)),
       z,
-      readNext-append dot (decimal (l .a)) (l .b) u refl (l .b-number),
-      readNext-append dot (decimal (l .a) * 256 + decimal (l .b)) (l .c) t refl (l .c-number),
-      readNext-append slash ((decimal (l .a) * 256 + decimal (l .b)) * 256 + decimal (l .c)) (l .d) (l .len) refl (l .d-number),
-      readNumber-all 2 32 (l .len) (l .len-number),
+      readNext-append dot (decimal (l .a)) (l .b) u refl (octet-number (l .b) (l .b-rule)),
+      readNext-append dot (decimal (l .a) * 256 + decimal (l .b)) (l .c) t refl (octet-number (l .c) (l .c-rule)),
+      readNext-append slash ((decimal (l .a) * 256 + decimal (l .b)) * 256 + decimal (l .c)) (l .d) (l .len) refl (octet-number (l .d) (l .d-rule)),
+      readNumber-all 32 (l .len) (l .len-rule),
     )
 
 -- What is read is a line of the grammar.
@@ -61,30 +63,30 @@ record ReadNext (e : ℕ) (p : Parsed) (w : ℕ) (t : List ℕ) : Type 0 where
   rest : List ℕ
   digits : List ℕ
   before : p ≡ parsed value rest
-  rule : isNumber 3 255 digits ≡ true
+  rule : isNumber 255 digits ≡ true
   number : value * 256 + decimal digits ≡ w
   bytes : rest ≡ digits ++ (e ∷ t)
 
 readNext-is : (e : ℕ) (p : Parsed) (w : ℕ) (t : List ℕ) → readNext e p ≡ parsed w t → ReadNext e p w t
 unfolding readNext
 readNext-is e nothing w t h = absurd (parsed-some w t h)
-readNext-is e (parsed v s) w t h = go (readNumber 3 255 s) refl h
+readNext-is e (parsed v s) w t h = go (readNumber 255 s) refl h
   where
-    go : (r : Parsed) → readNumber 3 255 s ≡ r → andThen r (λ x u. endedBy e (v * 256 + x) u) ≡ parsed w t → ReadNext e (parsed v s) w t
+    go : (r : Parsed) → readNumber 255 s ≡ r → andThen r (λ x u. endedBy e (v * 256 + x) u) ≡ parsed w t → ReadNext e (parsed v s) w t
     go nothing k g = absurd (parsed-some w t g)
     go (parsed x u) k g =
-        let n = readNumber-is 3 255 s x u k in
+        let n = readNumber-is 255 s x u k in
         let b = endedBy-is e (v * 256 + x) u w t g in
         record { value = v; rest = s; digits = n .digits; before = refl; rule = n .rule; number = rw (n .value) at (b .0); bytes = n .bytes ∙ ap (λ y. n .digits ++ y) (b .1) }
 
-readQuad-line : (s : List ℕ) (v : ℕ) (t : List ℕ) (k : ℕ) → readQuad s ≡ parsed v t → readNumber 2 32 t ≡ parsed k [] → IsLine s (ipv4 v k)
+readQuad-line : (s : List ℕ) (v : ℕ) (t : List ℕ) (k : ℕ) → readQuad s ≡ parsed v t → readNumber 32 t ≡ parsed k [] → IsLine s (ipv4 v k)
 unfolding readQuad joined
 readQuad-line s v t k h g =
     let q = readNext-is slash (readNext dot (readNext dot (readNext dot (parsed 0 s)))) v t h in
     let r = readNext-is dot (readNext dot (readNext dot (parsed 0 s))) (q .value) (q .rest) (q .before) in
     let o = readNext-is dot (readNext dot (parsed 0 s)) (r .value) (r .rest) (r .before) in
     let p = readNext-is dot (parsed 0 s) (o .value) (o .rest) (o .before) in
-    let m = readNumber-is 2 32 t k [] g in
+    let m = readNumber-is 32 t k [] g in
     let z = parsed-one 0 (p .value) s (p .rest) (p .before) in
     let e : v ≡ address (decimal (p .digits)) (decimal (o .digits)) (decimal (r .digits)) (decimal (q .digits)) = omega arith in
     let f : t ≡ m .digits = m .bytes ∙ append-nil (m .digits) in
@@ -94,29 +96,29 @@ readQuad-line s v t k h g =
       c = r .digits;
       d = q .digits;
       len = m .digits;
-      a-number = p .rule;
-      b-number = o .rule;
-      c-number = r .rule;
-      d-number = q .rule;
-      len-number = m .rule;
+      a-rule = number-octet (p .digits) (p .rule);
+      b-rule = number-octet (o .digits) (o .rule);
+      c-rule = number-octet (r .digits) (r .rule);
+      d-rule = number-octet (q .digits) (q .rule);
+      len-rule = m .rule;
       bytes = cc;
       network = cc;
     }
 
-badText-some : (n : Net) → badText ≡ (0, n) → ⊥
+pub badText-some : (n : Net) → badText ≡ (0, n) → ⊥
 badText-some n e = let z : _≡_ {A = ℕ} 4 0 = ap (λ p. p .0) e in absurd (omega arith)
 
 readLine-is : (s : List ℕ) (n : Net) → readLine s ≡ (0, n) → IsLine s n
 unfolding readLine
 readLine-is s n e = go (readQuad s) refl e
   where
-    length-read : (v : ℕ) (t : List ℕ) → readQuad s ≡ parsed v t → (r : Parsed) → readNumber 2 32 t ≡ r → withLength v r ≡ (0, n) → IsLine s n
+    length-read : (v : ℕ) (t : List ℕ) → readQuad s ≡ parsed v t → (r : Parsed) → readNumber 32 t ≡ r → withLength v r ≡ (0, n) → IsLine s n
     length-read v t h (parsed k []) g e = rw (← ap (λ p. p .1) e) (readQuad-line s v t k h g)
     length-read v t h (parsed k (c ∷ u)) g e = absurd (badText-some n e)
     length-read v t h nothing g e = absurd (badText-some n e)
 
     go : (q : Parsed) → readQuad s ≡ q → withAddress q ≡ (0, n) → IsLine s n
-    go (parsed v t) h e = length-read v t h (readNumber 2 32 t) refl e
+    go (parsed v t) h e = length-read v t h (readNumber 32 t) refl e
     go nothing h e = absurd (badText-some n e)
 
 -- A line is accepted exactly if it is one of the grammar, with the network of the grammar, and refused otherwise.
@@ -129,7 +131,7 @@ withLength-answers v (parsed k (c ∷ u)) = inl refl
 withLength-answers v nothing = inl refl
 
 withAddress-answers : (q : Parsed) → (withAddress q ≡ badText) ⊎ ((n : Net) × (withAddress q ≡ (0, n)))
-withAddress-answers (parsed v t) = withLength-answers v (readNumber 2 32 t)
+withAddress-answers (parsed v t) = withLength-answers v (readNumber 32 t)
 withAddress-answers nothing = inl refl
 
 pub readLine-refuses : (s : List ℕ) → ((n : Net) → IsLine s n → ⊥) → readLine s ≡ badText
@@ -143,11 +145,11 @@ isLine-short s n l =
     omega (
       arith,
       length-joined (l .a) (l .b) (l .c) (l .d) (l .len),
-      isNumber-is 3 255 (l .a) (l .a-number) .few,
-      isNumber-is 3 255 (l .b) (l .b-number) .few,
-      isNumber-is 3 255 (l .c) (l .c-number) .few,
-      isNumber-is 3 255 (l .d) (l .d-number) .few,
-      isNumber-is 2 32 (l .len) (l .len-number) .few,
+      length-number 255 (l .a) (omega arith) (octet-number (l .a) (l .a-rule)),
+      length-number 255 (l .b) (omega arith) (octet-number (l .b) (l .b-rule)),
+      length-number 255 (l .c) (omega arith) (octet-number (l .c) (l .c-rule)),
+      length-number 255 (l .d) (omega arith) (octet-number (l .d) (l .d-rule)),
+      length-number-two 32 (l .len) (omega arith) (l .len-rule),
     )
     )
 

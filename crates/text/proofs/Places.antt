@@ -1,14 +1,15 @@
 -- What stands at a place: a test of the first byte says that the place is within the bytes. Assumes nothing.
 use mathlib.Core.Bool.{Bool, true, false, false≢true}
-use mathlib.Core.List.{List, []}
+use mathlib.Core.List.{List, [], _∷_}
 use mathlib.Core.Path.{_≡_, refl, sym, _∙_}
-use Prim.Native.Nat.{ℕ, _≤_, _<_}
-use lib.Dec.{ltb}
+use Prim.Native.Nat.{ℕ, _+_, _≤_, _<_}
+use native.Mathlib.Numerals.{add-one}
+use lib.Dec.{eqb, ltb}
 use lib.ListN.{length, drop, getD, drop-of-length-le}
 use lib.Seq.{drop-cons}
 use borrow.Author.Tests.{ltb-true, ltb-false}
 use Rattle.text.specs.Decimal.{isDigit}
-use Rattle.text.specs.Places.{startsDigit}
+use Rattle.text.specs.Places.{startsDigit, startsByte, startsZero}
 use Rattle.text.proofs.Numbers.{isDigit-is}
 
 -- A test that fails where there is no byte.
@@ -36,3 +37,16 @@ startsDigit-is s at e =
     let d : isDigit (getD s at 0) ≡ true = rw (drop-cons s at 0 h) at e in
     let b = isDigit-is (getD s at 0) d in
     record { within = h; test = d; least = b .0; most = b .1 }
+
+-- A 0 with a digit behind it.
+pub startsZero-other : (s : List ℕ) → startsByte 48 s ≡ false → startsZero s ≡ false
+unfolding startsByte startsZero
+startsZero-other [] e = refl
+startsZero-other (c ∷ s) e = rw e
+
+pub startsZero-behind : (s : List ℕ) (at : ℕ) → startsByte 48 (drop at s) ≡ true → startsDigit (drop (at + 1) s) ≡ startsZero (drop at s)
+unfolding startsByte startsZero
+startsZero-behind s at e =
+    let d = drop-cons s at 0 (starts-within (startsByte 48) refl s at e) in
+    let k : eqb (getD s at 0) 48 ≡ true = rw d at e in
+    rw (add-one at, d, k)

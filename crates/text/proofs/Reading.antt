@@ -31,15 +31,15 @@ endedBy-at e v s at h =
     rw (d, k, add-one at)
 
 -- One more number.
-pub readNext-nothing : (e v : ℕ) (u : List ℕ) → nothing ≡ readNumber 3 255 u → nothing ≡ readNext e (parsed v u)
+pub readNext-nothing : (e v : ℕ) (u : List ℕ) → nothing ≡ readNumber 255 u → nothing ≡ readNext e (parsed v u)
 unfolding readNext
 readNext-nothing e v u h = rw (← h)
 
-pub readNext-other : (e v x : ℕ) (s : List ℕ) (at : ℕ) (u : List ℕ) → parsed x (drop at s) ≡ readNumber 3 255 u → startsByte e (drop at s) ≡ false → nothing ≡ readNext e (parsed v u)
+pub readNext-other : (e v x : ℕ) (s : List ℕ) (at : ℕ) (u : List ℕ) → parsed x (drop at s) ≡ readNumber 255 u → startsByte e (drop at s) ≡ false → nothing ≡ readNext e (parsed v u)
 unfolding readNext
 readNext-other e v x s at u h k = rw (← h) (sym (endedBy-other e (v * 256 + x) (drop at s) k))
 
-pub readNext-ended : (e v x : ℕ) (s : List ℕ) (at : ℕ) (u : List ℕ) → parsed x (drop at s) ≡ readNumber 3 255 u → startsByte e (drop at s) ≡ true
+pub readNext-ended : (e v x : ℕ) (s : List ℕ) (at : ℕ) (u : List ℕ) → parsed x (drop at s) ≡ readNumber 255 u → startsByte e (drop at s) ≡ true
     → parsed (v * 256 + x) (drop (at + 1) s) ≡ readNext e (parsed v u)
 unfolding readNext
 readNext-ended e v x s at u h k = rw (← h) (sym (endedBy-at e (v * 256 + x) s at k))
@@ -49,14 +49,14 @@ pub readLine-nothing : (s : List ℕ) → nothing ≡ readQuad s → badText ≡
 unfolding readLine
 readLine-nothing s h = rw (← h)
 
-pub readLine-unread : (s : List ℕ) (a : ℕ) (t : List ℕ) → parsed a t ≡ readQuad s → nothing ≡ readNumber 2 32 t → badText ≡ readLine s
+pub readLine-unread : (s : List ℕ) (a : ℕ) (t : List ℕ) → parsed a t ≡ readQuad s → nothing ≡ readNumber 32 t → badText ≡ readLine s
 unfolding readLine
-readLine-unread s a t h k = let g : withLength a (readNumber 2 32 t) ≡ readLine s = rw (← h) in rw (← k) at g
+readLine-unread s a t h k = let g : withLength a (readNumber 32 t) ≡ readLine s = rw (← h) in rw (← k) at g
 
-pub readLine-more : (s : List ℕ) (a : ℕ) (t : List ℕ) (n at : ℕ) → parsed a t ≡ readQuad s → parsed n (drop at s) ≡ readNumber 2 32 t → at < length s → badText ≡ readLine s
+pub readLine-more : (s : List ℕ) (a : ℕ) (t : List ℕ) (n at : ℕ) → parsed a t ≡ readQuad s → parsed n (drop at s) ≡ readNumber 32 t → at < length s → badText ≡ readLine s
 unfolding readLine
-readLine-more s a t n at h k l = let g : withLength a (readNumber 2 32 t) ≡ readLine s = rw (← h) in rw (← k, drop-cons s at 0 l) at g
+readLine-more s a t n at h k l = let g : withLength a (readNumber 32 t) ≡ readLine s = rw (← h) in rw (← k, drop-cons s at 0 l) at g
 
-pub readLine-whole : (s : List ℕ) (a : ℕ) (t : List ℕ) (n at : ℕ) → parsed a t ≡ readQuad s → parsed n (drop at s) ≡ readNumber 2 32 t → length s ≤ at → (0, ipv4 a n) ≡ readLine s
+pub readLine-whole : (s : List ℕ) (a : ℕ) (t : List ℕ) (n at : ℕ) → parsed a t ≡ readQuad s → parsed n (drop at s) ≡ readNumber 32 t → length s ≤ at → (0, ipv4 a n) ≡ readLine s
 unfolding readLine
-readLine-whole s a t n at h k l = let g : withLength a (readNumber 2 32 t) ≡ readLine s = rw (← h) in rw (← k, drop-of-length-le s l) at g
+readLine-whole s a t n at h k l = let g : withLength a (readNumber 32 t) ≡ readLine s = rw (← h) in rw (← k, drop-of-length-le s l) at g

@@ -1,25 +1,30 @@
--- What is written reads back to the same network, and of all lines of a network it is the one whose numbers have no leading zeros: digits without
--- leading zeros are known by their number. Assumes nothing.
+-- What is written reads back to the same network, and no other line reads as that network: each of its numbers is known by its value. So of all lines of the
+-- addresses that a network stands for, the written one alone has no bit past the length. Assumes nothing.
 use mathlib.Core.Bool.{Bool, true, false, cond, _&&_}
-use mathlib.Core.List.{List, [], _∷_}
+use mathlib.Core.List.{List}
+use mathlib.Core.Logic.{_↔_}
 use mathlib.Core.Path.{_≡_, refl, ap, sym, _∙_}
 use Prim.Native.Nat.{ℕ, _+_, _-_, _*_, _/_, _%_, _^_, _≤_, _<_}
 use native.Mathlib.Omega.{arith}
 use lib.Dec.{eqb, leb, ltb}
 use lib.ListN.{length, take, drop}
 use lib.Seq.{take-append-seam}
-use borrow.Author.Tests.{leb-true, ltb-true, eqb-true, le-leb, lt-ltb, eqb-false, not-true}
+use borrow.Author.Tests.{leb-true, ltb-true, eqb-true, le-leb, lt-ltb}
 use Rattle.nets.proofs.Answers.{answered-granted}
+use Rattle.nets.proofs.Numbers.{netBits-cleared, refusalOf-cleared}
 use Rattle.nets.proofs.Strings.{and-left, and-right}
 use Rattle.nets.proofs.TwoWords.{inRange-4}
-use Rattle.nets.specs.Networks.{inRange, refusalOf}
+use Rattle.nets.specs.Networks.{inRange, refusalOf, netBits, netFrom, cleared}
 use Rattle.nets.specs.declared.Net.{Net}
-use Rattle.text.specs.Decimal.{isDigit, allDigits, decimal, decimalFrom, isNumber, plain, byteOf, digitsOf}
-use Rattle.text.specs.Ipv4.{address, ipv4, IsLine, IsPlain, readLine, octetOf, lineOf}
+use Rattle.text.specs.Decimal.{decimal, digitsOf}
+use Rattle.text.specs.DecOctet.{isDecOctet}
+use Rattle.text.specs.Ipv4.{address, ipv4, IsLine, readLine, octetOf, lineOf}
 use Rattle.text.specs.Answers.{lineRefusal, over, Wrote}
 use Rattle.text.specs.declared.Written.the-variants.{Bytes}
-use Rattle.text.proofs.Numbers.{isNumber-is, isDigit-is}
-use Rattle.text.proofs.Writing.{digitsOf-one, digitsOf-two, digitsOf-three, length-digitsOf, length-digitsOf-two, isNumber-digitsOf, decimal-digitsOf, plain-digitsOf, length-lineOf}
+use Rattle.text.proofs.Numbers.{isNumber-is}
+use Rattle.text.proofs.Writing.{length-digitsOf-two, isNumber-digitsOf, decimal-digitsOf, length-lineOf}
+use Rattle.text.proofs.Digits.{number-known}
+use Rattle.text.proofs.DecOctet.{octet-number, number-octet}
 use Rattle.text.proofs.Grammar.{readLine-accepts}
 use Rattle.text.proofs.Answers.{inRange-granted}
 
@@ -60,9 +65,12 @@ address-octets x h =
     join : (w z y x a b c d : ℕ) → a ≡ w → z ≡ w * 256 + b → y ≡ z * 256 + c → x ≡ y * 256 + d → x ≡ address a b c d
     join w z y x a b c d h i j k = omega arith
 
--- The written line is a line of its network, with no leading zeros.
-isNumber-octetOf : (a k : ℕ) → isNumber 3 255 (octetOf a k) ≡ true
-isNumber-octetOf a k = let x = a / 2 ^ (8 * k) % 256 in let h : x < 256 = omega arith in isNumber-digitsOf 3 255 x (omega arith) (omega arith) (length-digitsOf x)
+-- The written line is a line of its network.
+isDecOctet-octetOf : (a k : ℕ) → isDecOctet (octetOf a k) ≡ true
+isDecOctet-octetOf a k =
+    let x = a / 2 ^ (8 * k) % 256 in
+    let h : x < 256 = omega arith in
+    number-octet (octetOf a k) (isNumber-digitsOf 255 x (omega arith) (omega arith))
 
 pub lineOf-is : (n : Net) → n .family ≡ 4 → refusalOf n ≡ 0 → IsLine (lineOf n) n
 unfolding lineOf
@@ -74,24 +82,13 @@ lineOf-is n f e =
       c = octetOf (n .lo) 1;
       d = octetOf (n .lo) 0;
       len = digitsOf (n .len);
-      a-number = isNumber-octetOf (n .lo) 3;
-      b-number = isNumber-octetOf (n .lo) 2;
-      c-number = isNumber-octetOf (n .lo) 1;
-      d-number = isNumber-octetOf (n .lo) 0;
-      len-number = isNumber-digitsOf 2 32 (n .len) (omega (arith, i .len)) (i .len) (length-digitsOf-two (n .len) (omega (arith, i .len)));
+      a-rule = isDecOctet-octetOf (n .lo) 3;
+      b-rule = isDecOctet-octetOf (n .lo) 2;
+      c-rule = isDecOctet-octetOf (n .lo) 1;
+      d-rule = isDecOctet-octetOf (n .lo) 0;
+      len-rule = isNumber-digitsOf 32 (n .len) (omega (arith, i .len)) (i .len);
       bytes = refl;
       network = ipv4-known i (simp decimal-digitsOf (address-octets (n .lo) (i .lo))) (sym (decimal-digitsOf (n .len)));
-    }
-
-pub lineOf-plain : (n : Net) (f : n .family ≡ 4) (e : refusalOf n ≡ 0) → IsPlain (lineOf-is n f e)
-unfolding lineOf-is
-lineOf-plain n f e =
-    record {
-      a = plain-digitsOf (n .lo / 2 ^ 24 % 256);
-      b = plain-digitsOf (n .lo / 2 ^ 16 % 256);
-      c = plain-digitsOf (n .lo / 2 ^ 8 % 256);
-      d = plain-digitsOf (n .lo / 2 ^ 0 % 256);
-      len = plain-digitsOf (n .len);
     }
 
 pub readLine-lineOf : (n : Net) → n .family ≡ 4 → refusalOf n ≡ 0 → readLine (lineOf n) ≡ (0, n)
@@ -100,15 +97,18 @@ readLine-lineOf n f e = readLine-accepts (lineOf n) n .1 (lineOf-is n f e)
 pub lineOf-short : (n : Net) → n .family ≡ 4 → refusalOf n ≡ 0 → length (lineOf n) ≤ 18
 lineOf-short n f e = let l = ipv4-is n f e .len in omega (arith, length-lineOf n, length-digitsOf-two (n .len) (omega arith))
 
--- What is read can be written, and every line of one network is written alike.
+-- What is read can be written.
+octet-known : {s : List ℕ} → isDecOctet s ≡ true → (decimal s ≤ 255) × (s ≡ digitsOf (decimal s))
+octet-known {s} h = let n = octet-number s h in (isNumber-is 255 s n .most, number-known 255 s (omega arith) n)
+
 isLine-granted : (s : List ℕ) (n : Net) → IsLine s n → (n .family ≡ 4) × (refusalOf n ≡ 0)
 isLine-granted s n l =
-    let a = isNumber-is 3 255 (l .a) (l .a-number) .most in
-    let b = isNumber-is 3 255 (l .b) (l .b-number) .most in
-    let c = isNumber-is 3 255 (l .c) (l .c-number) .most in
-    let d = isNumber-is 3 255 (l .d) (l .d-number) .most in
+    let a = octet-known (l .a-rule) .0 in
+    let b = octet-known (l .b-rule) .0 in
+    let c = octet-known (l .c-rule) .0 in
+    let d = octet-known (l .d-rule) .0 in
     let v = address (decimal (l .a)) (decimal (l .b)) (decimal (l .c)) (decimal (l .d)) in
-    (ap (λ m. m .family) (l .network), rw (l .network) (refusalOf-ipv4 v (decimal (l .len)) (omega arith) (isNumber-is 2 32 (l .len) (l .len-number) .most)))
+    (ap (λ m. m .family) (l .network), rw (l .network) (refusalOf-ipv4 v (decimal (l .len)) (omega arith) (isNumber-is 32 (l .len) (l .len-rule) .most)))
 
 pub readLine-granted : (s : List ℕ) (n : Net) → readLine s ≡ (0, n) → (n .family ≡ 4) × (refusalOf n ≡ 0)
 readLine-granted s n e = isLine-granted s n (readLine-accepts s n .0 e)
@@ -133,53 +133,46 @@ written-reads n old new k w =
     let e : new ≡ over (lineOf n) old = rw (a .0) at (w .bytes) in
     rw (e, a .1, take-append-seam (lineOf n) (drop (length (lineOf n)) old)) (readLine-lineOf n (g .0) (g .1))
 
--- Digits without a leading zero are those that are written for their number.
-one-digit : (c x : ℕ) → (48 ≤ c) × (c ≤ 57) → x ≡ c - 48 → c ∷ [] ≡ digitsOf x
-one-digit c x h e = let k : c ≡ byteOf x = omega arith in rw (digitsOf-one x (omega arith)) (ap (λ y. y ∷ []) k)
-
-two-digits : (c d x : ℕ) → (48 ≤ c) × (c ≤ 57) → (48 ≤ d) × (d ≤ 57) → (c ≡ 48 → ⊥) → x ≡ (c - 48) * 10 + (d - 48) → c ∷ d ∷ [] ≡ digitsOf x
-two-digits c d x h g z e =
-    let k : c ≡ byteOf (x / 10) = omega arith in
-    let l : d ≡ byteOf (x % 10) = omega arith in
-    rw (digitsOf-two x (omega arith) (omega arith)) (cc)
-
-three-digits : (c d f x : ℕ) → (48 ≤ c) × (c ≤ 57) → (48 ≤ d) × (d ≤ 57) → (48 ≤ f) × (f ≤ 57) → (c ≡ 48 → ⊥) → x ≡ ((c - 48) * 10 + (d - 48)) * 10 + (f - 48)
-    → c ∷ d ∷ f ∷ [] ≡ digitsOf x
-three-digits c d f x h g i z e =
-    let k : c ≡ byteOf (x / 100) = omega arith in
-    let l : d ≡ byteOf (x / 10 % 10) = omega arith in
-    let m : f ≡ byteOf (x % 10) = omega arith in
-    rw (digitsOf-three x (omega arith)) (cc)
-
-plain-known : (s : List ℕ) → allDigits s ≡ true → 1 ≤ length s → length s ≤ 3 → plain s ≡ true → s ≡ digitsOf (decimal s)
-unfolding allDigits plain decimalFrom
-plain-known [] a h g p = absurd (omega arith)
-plain-known (c ∷ []) a h g p = one-digit c (decimal (c ∷ [])) (isDigit-is c (and-left (isDigit c) true a)) (omega arith)
-plain-known (c ∷ d ∷ []) a h g p =
-    let b = and-right (isDigit c) (isDigit d && true) a in
-    two-digits c d (decimal (c ∷ d ∷ [])) (isDigit-is c (and-left (isDigit c) (isDigit d && true) a)) (isDigit-is d (and-left (isDigit d) true b)) (eqb-false c 48 (not-true (eqb c 48) p)) (omega arith)
-plain-known (c ∷ d ∷ f ∷ []) a h g p =
-    let b = and-right (isDigit c) (isDigit d && (isDigit f && true)) a in
-    let e = and-right (isDigit d) (isDigit f && true) b in
-    three-digits c d f (decimal (c ∷ d ∷ f ∷ [])) (isDigit-is c (and-left (isDigit c) (isDigit d && (isDigit f && true)) a)) (isDigit-is d (and-left (isDigit d) (isDigit f && true) b))
-    (isDigit-is f (and-left (isDigit f) true e)) (eqb-false c 48 (not-true (eqb c 48) p)) (omega arith)
-plain-known (c ∷ d ∷ f ∷ e ∷ s) a h g p = absurd (omega arith)
-
-number-known : (k m : ℕ) (s : List ℕ) → k ≤ 3 → isNumber k m s ≡ true → plain s ≡ true → (decimal s ≤ m) × (s ≡ digitsOf (decimal s))
-number-known k m s h r p = let n = isNumber-is k m s r in (n .most, plain-known s (n .digits) (n .some) (omega (arith, n .few)) p)
-
--- the four bytes of an address
+-- No other line reads as the network: the four bytes of its address are known.
 octets-address : (a b c d : ℕ) → a ≤ 255 → b ≤ 255 → c ≤ 255 → d ≤ 255
     → let x = address a b c d in (x / 2 ^ 24 % 256 ≡ a) × (x / 2 ^ 16 % 256 ≡ b) × (x / 2 ^ 8 % 256 ≡ c) × (x / 2 ^ 0 % 256 ≡ d)
 octets-address a b c d h g f e = (omega arith, omega arith, omega arith, omega arith)
 
-pub lineOf-only : (s : List ℕ) (n : Net) (l : IsLine s n) → IsPlain l → s ≡ lineOf n
+isLine-lineOf : (s : List ℕ) (n : Net) → IsLine s n → s ≡ lineOf n
 unfolding lineOf
-lineOf-only s n l p =
-    let a = number-known 3 255 (l .a) (omega arith) (l .a-number) (p .a) in
-    let b = number-known 3 255 (l .b) (omega arith) (l .b-number) (p .b) in
-    let c = number-known 3 255 (l .c) (omega arith) (l .c-number) (p .c) in
-    let d = number-known 3 255 (l .d) (omega arith) (l .d-number) (p .d) in
-    let k = number-known 2 32 (l .len) (omega arith) (l .len-number) (p .len) in
+isLine-lineOf s n l =
+    let a = octet-known (l .a-rule) in
+    let b = octet-known (l .b-rule) in
+    let c = octet-known (l .c-rule) in
+    let d = octet-known (l .d-rule) in
+    let k = number-known 32 (l .len) (omega arith) (l .len-rule) in
     let o = octets-address (decimal (l .a)) (decimal (l .b)) (decimal (l .c)) (decimal (l .d)) (a .0) (b .0) (c .0) (d .0) in
-    l .bytes ∙ rw (l .network, o .0, o .1, o .2, o .3, ← a .1, ← b .1, ← c .1, ← d .1, ← k .1)
+    l .bytes ∙ rw (l .network, o .0, o .1, o .2, o .3, ← a .1, ← b .1, ← c .1, ← d .1, ← k)
+
+pub lineOf-only : (s : List ℕ) (n : Net) → readLine s ≡ (0, n) → s ≡ lineOf n
+lineOf-only s n e = isLine-lineOf s n (readLine-accepts s n .0 e)
+
+-- A line of a network, whatever its bits past the length: with none there, it is the written line.
+pub record ReadsClear (s : List ℕ) (n : Net) : Type 0 where
+  pub read : Net
+  pub reads : readLine s ≡ (0, read)
+  pub network : netBits read ≡ netBits n
+  pub clear : cleared read ≡ read
+
+cleared-one : (m n : Net) → m .family ≡ n .family → netBits m ≡ netBits n → cleared m ≡ cleared n
+unfolding cleared
+cleared-one m n f e = cc
+
+pub lineOf-clear : (s : List ℕ) (n : Net) → n .family ≡ 4 → refusalOf n ≡ 0 → ReadsClear s n ↔ (s ≡ lineOf (cleared n))
+unfolding cleared netFrom
+lineOf-clear s n f e = (only, written)
+  where
+    only : ReadsClear s n → s ≡ lineOf (cleared n)
+    only r =
+        let g = readLine-granted s (r .read) (r .reads) .0 ∙ sym f in
+        lineOf-only s (r .read) (r .reads) ∙ ap lineOf (sym (r .clear) ∙ cleared-one (r .read) n g (r .network))
+
+    written : s ≡ lineOf (cleared n) → ReadsClear s n
+    written h =
+        let b = netBits-cleared n e in
+        record { read = cleared n; reads = rw h (readLine-lineOf (cleared n) f (refusalOf-cleared n e)); network = b; clear = cleared-one (cleared n) n refl b }

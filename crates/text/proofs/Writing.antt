@@ -8,12 +8,12 @@ use native.Mathlib.Omega.{arith}
 use lib.Dec.{ltb}
 use lib.ListN.{length, set, length-append}
 use lib.Seq.{sets}
-use borrow.Author.Tests.{ltb-true, ltb-false, lt-ltb, le-ltb, le-leb, ne-eqb}
+use borrow.Author.Tests.{ltb-true, ltb-false, lt-ltb, le-ltb, ne-eqb}
 use Rattle.nets.specs.declared.Net.{Net}
 use Rattle.text.specs.Decimal.{isDigit, allDigits, decimal, decimalFrom, isNumber, plain, byteOf, digitsOf}
 use Rattle.text.specs.Ipv4.{dot, slash, joined, octetOf, lineOf}
 use Rattle.text.specs.Places.{Stored}
-use Rattle.text.proofs.Numbers.{is-isNumber}
+use Rattle.text.proofs.Numbers.{is-isDigit, is-isNumber}
 
 -- The digits of a number.
 pub digitsOf-one : (x : ℕ) → x < 10 → digitsOf x ≡ byteOf x ∷ []
@@ -28,7 +28,7 @@ pub digitsOf-three : (x : ℕ) → 100 ≤ x → digitsOf x ≡ byteOf (x / 100)
 unfolding digitsOf
 digitsOf-three x h = rw (le-ltb x 10 (omega arith), le-ltb x 100 h)
 
-digitsOf-cases : (P : List ℕ → Type 0) (x : ℕ)
+pub digitsOf-cases : (P : List ℕ → Type 0) (x : ℕ)
     → (x < 10 → P (byteOf x ∷ []))
     → (10 ≤ x → x < 100 → P (byteOf (x / 10) ∷ byteOf (x % 10) ∷ []))
     → (100 ≤ x → P (byteOf (x / 100) ∷ byteOf (x / 10 % 10) ∷ byteOf (x % 10) ∷ []))
@@ -47,8 +47,7 @@ pub length-digitsOf-two : (x : ℕ) → x < 100 → length (digitsOf x) ≤ 2
 length-digitsOf-two x g = digitsOf-cases (λ s. length s ≤ 2) x (λ h. omega arith) (λ h k. omega arith) (λ h. absurd (omega arith))
 
 isDigit-byteOf : (d : ℕ) → d < 10 → isDigit (byteOf d) ≡ true
-unfolding isDigit
-isDigit-byteOf d h = rw (le-leb 48 (byteOf d) (omega arith), le-leb (byteOf d) 57 (omega arith))
+isDigit-byteOf d h = is-isDigit (byteOf d) (omega arith) (omega arith)
 
 allDigits-digitsOf : (x : ℕ) → x < 1000 → allDigits (digitsOf x) ≡ true
 unfolding allDigits
@@ -61,7 +60,7 @@ pub decimal-digitsOf : (x : ℕ) → decimal (digitsOf x) ≡ x
 unfolding decimalFrom
 decimal-digitsOf x = digitsOf-cases (λ s. decimal s ≡ x) x (λ h. omega arith) (λ h k. omega arith) (λ h. omega arith)
 
-pub plain-digitsOf : (x : ℕ) → plain (digitsOf x) ≡ true
+plain-digitsOf : (x : ℕ) → plain (digitsOf x) ≡ true
 unfolding plain
 plain-digitsOf x =
     digitsOf-cases (λ s. plain s ≡ true) x (λ h. refl)
@@ -69,10 +68,15 @@ plain-digitsOf x =
     (λ h. rw (ne-eqb (byteOf (x / 100)) 48 (omega arith)))
 
 -- a number within its limit is written as a number of the grammar
-pub isNumber-digitsOf : (k m x : ℕ) → x < 1000 → x ≤ m → length (digitsOf x) ≤ k → isNumber k m (digitsOf x) ≡ true
-isNumber-digitsOf k m x g h l =
-    is-isNumber k m (digitsOf x)
-    (record { digits = allDigits-digitsOf x g; some = digitsOf-cases (λ s. 1 ≤ length s) x (λ h. omega arith) (λ h k. omega arith) (λ h. omega arith); few = l; most = rw (decimal-digitsOf x) h })
+pub isNumber-digitsOf : (m x : ℕ) → x < 1000 → x ≤ m → isNumber m (digitsOf x) ≡ true
+isNumber-digitsOf m x g h =
+    is-isNumber m (digitsOf x)
+    (record {
+      digits = allDigits-digitsOf x g;
+      some = digitsOf-cases (λ s. 1 ≤ length s) x (λ h. omega arith) (λ h k. omega arith) (λ h. omega arith);
+      plain = plain-digitsOf x;
+      most = rw (decimal-digitsOf x) h;
+    })
 
 -- Stores behind stores.
 sets-append : (w : List ℕ) (p : ℕ) (s t : List ℕ) → sets (sets w p s) (p + length s) t ≡ sets w p (s ++ t)

@@ -2,10 +2,10 @@
 --
 --   isDigit c          c is one of the bytes 0 to 9
 --   decimal s          the number that the digits s write;  decimalFrom v s: behind digits that write v
---   isNumber k m s     s is a number of one to k digits, at most m: the one rule for a number
 --   plain s            s has no leading zero: 0 stands first only where it stands alone
+--   isNumber m s       s is a number, at most m, without a leading zero: the one rule for a number
 --   leading s          the digits that s begins with;  behind s: what follows them
---   readNumber k m s   the number that s begins with, taken as far as its digits go
+--   readNumber m s     the number that s begins with, taken as far as its digits go
 --   digitsOf x         the digits of x, a number below 1000, without leading zeros
 use mathlib.Core.Bool.{Bool, true, not, cond, _&&_}
 use mathlib.Core.List.{List, [], _∷_}
@@ -27,13 +27,13 @@ decimalFrom v (c ∷ s) = decimalFrom (v * 10 + (c - 48)) s
 abbrev pub decimal : List ℕ → ℕ
 decimal s = decimalFrom 0 s
 
-unfoldable pub isNumber : ℕ → ℕ → List ℕ → Bool
-isNumber k m s = allDigits s && (leb 1 (length s) && (leb (length s) k && leb (decimal s) m))
-
 unfoldable pub plain : List ℕ → Bool
 plain [] = true
 plain (c ∷ []) = true
 plain (c ∷ d ∷ s) = not (eqb c 48)
+
+unfoldable pub isNumber : ℕ → List ℕ → Bool
+isNumber m s = allDigits s && (leb 1 (length s) && (plain s && leb (decimal s) m))
 
 unfoldable pub leading : List ℕ → List ℕ
 leading [] = []
@@ -52,8 +52,8 @@ abbrev pub andThen : Parsed → (ℕ → List ℕ → Parsed) → Parsed
 andThen (parsed v s) f = f v s
 andThen nothing f = nothing
 
-unfoldable pub readNumber : ℕ → ℕ → List ℕ → Parsed
-readNumber k m s = cond (isNumber k m (leading s)) (parsed (decimal (leading s)) (behind s)) nothing
+unfoldable pub readNumber : ℕ → List ℕ → Parsed
+readNumber m s = cond (isNumber m (leading s)) (parsed (decimal (leading s)) (behind s)) nothing
 
 -- the byte of a digit
 abbrev pub byteOf : ℕ → ℕ

@@ -1,13 +1,14 @@
--- The line of an IPv4 network: four decimal numbers of one to three digits, at most 255, joined by dots, then a slash and one or two digits, at most 32.
+-- The line of an IPv4 network: four numbers, each a dec-octet of RFC 3986, joined by dots, then a slash and a length, a number up to 32. 0 alone is the only
+-- number that begins with 0.
 --
 --   joined a b c d n   four numbers and a length, as a line joins their digits
---   IsLine s n         s is a line of the network n: the grammar, as the sentence above has it
---   IsPlain l          no number of the line l has a leading zero
+--   Line o k s n       s is a line of the network n, where o is the rule for one of the four numbers and k that for the length
+--   IsLine s n         s is a line of the network n by the rules above: the grammar
 --   readNext e p       what p has read with one more of the four numbers behind it, and the byte e that ends that number
 --   readQuad s         the address that the four numbers write, the last of them ended by the slash
 --   readLine s         the network of the line s, or the refusal of bytes that are none
---   lineOf n           the line that is written for n, with no leading zeros
-use mathlib.Core.Bool.{true, cond}
+--   lineOf n           the line that is written for n
+use mathlib.Core.Bool.{Bool, true, cond}
 use mathlib.Core.List.{List, [], _∷_, _++_}
 use mathlib.Core.Path.{_≡_}
 use Prim.Native.Nat.{ℕ, _+_, _*_, _/_, _%_, _^_}
@@ -16,7 +17,8 @@ use Rattle.nets.specs.Networks.{netWords, noNet}
 use Rattle.nets.specs.Refusals.{number}
 use Rattle.nets.specs.declared.Net.{Net}
 use Rattle.nets.specs.declared.Refusal.the-variants.{BadText}
-use Rattle.text.specs.Decimal.{Parsed, parsed, nothing, andThen, decimal, isNumber, plain, readNumber, digitsOf}
+use Rattle.text.specs.Decimal.{Parsed, parsed, nothing, andThen, decimal, isNumber, readNumber, digitsOf}
+use Rattle.text.specs.DecOctet.{isDecOctet}
 
 abbrev pub dot : ℕ
 dot = 46
@@ -34,33 +36,29 @@ ipv4 a n = netWords 4 0 a n
 unfoldable pub joined : List ℕ → List ℕ → List ℕ → List ℕ → List ℕ → List ℕ
 joined a b c d n = a ++ (dot ∷ (b ++ (dot ∷ (c ++ (dot ∷ (d ++ (slash ∷ n)))))))
 
-pub record IsLine (s : List ℕ) (n : Net) : Type 0 where
+pub record Line (octet size : List ℕ → Bool) (s : List ℕ) (n : Net) : Type 0 where
   pub a : List ℕ
   pub b : List ℕ
   pub c : List ℕ
   pub d : List ℕ
   pub len : List ℕ
-  pub a-number : isNumber 3 255 a ≡ true
-  pub b-number : isNumber 3 255 b ≡ true
-  pub c-number : isNumber 3 255 c ≡ true
-  pub d-number : isNumber 3 255 d ≡ true
-  pub len-number : isNumber 2 32 len ≡ true
+  pub a-rule : octet a ≡ true
+  pub b-rule : octet b ≡ true
+  pub c-rule : octet c ≡ true
+  pub d-rule : octet d ≡ true
+  pub len-rule : size len ≡ true
   pub bytes : s ≡ joined a b c d len
   pub network : n ≡ ipv4 (address (decimal a) (decimal b) (decimal c) (decimal d)) (decimal len)
 
-pub record IsPlain {s : List ℕ} {n : Net} (l : IsLine s n) : Type 0 where
-  pub a : plain (l .a) ≡ true
-  pub b : plain (l .b) ≡ true
-  pub c : plain (l .c) ≡ true
-  pub d : plain (l .d) ≡ true
-  pub len : plain (l .len) ≡ true
+abbrev pub IsLine : List ℕ → Net → Type 0
+IsLine s n = Line isDecOctet (isNumber 32) s n
 
 abbrev pub endedBy : ℕ → ℕ → List ℕ → Parsed
 endedBy e v [] = nothing
 endedBy e v (c ∷ s) = cond (eqb c e) (parsed v s) nothing
 
 unfoldable pub readNext : ℕ → Parsed → Parsed
-readNext e p = andThen p (λ v s. andThen (readNumber 3 255 s) (λ x t. endedBy e (v * 256 + x) t))
+readNext e p = andThen p (λ v s. andThen (readNumber 255 s) (λ x t. endedBy e (v * 256 + x) t))
 
 unfoldable pub readQuad : List ℕ → Parsed
 readQuad s = readNext slash (readNext dot (readNext dot (readNext dot (parsed 0 s))))
@@ -75,7 +73,7 @@ withLength a (parsed n (c ∷ s)) = badText
 withLength a nothing = badText
 
 abbrev pub withAddress : Parsed → ℕ × Net
-withAddress (parsed a s) = withLength a (readNumber 2 32 s)
+withAddress (parsed a s) = withLength a (readNumber 32 s)
 withAddress nothing = badText
 
 unfoldable pub readLine : List ℕ → ℕ × Net

@@ -1,7 +1,7 @@
 // Places in a line, and what stands there.
 ghost use mathlib.Core.Path.{_≡_};
 ghost use lib.ListN.{drop};
-ghost use Rattle.text.specs.Places.{startsDigit, startsByte};
+ghost use Rattle.text.specs.Places.{startsDigit, startsByte, startsZero};
 
 pub struct Cursor {
     pub at: usize,
@@ -32,4 +32,11 @@ pub fn byte_at(s: &[u8], at: usize, b: u8) -> bool
         return false;
     }
     s[at] == b
+}
+
+// Whether a 0 stands at the place, and a digit behind it.
+pub fn zero_leads(s: &[u8], at: usize) -> bool
+    ensures { λ r. ⌜ r ≡ startsZero (drop at (now (s .entry))) ⌝ }
+{
+    byte_at(s, at, b'0') && digit_at(s, at + 1)
 }

@@ -8,16 +8,19 @@ use crate::cursor;
 use crate::cursor::Cursor;
 use crate::cursor::Read;
 
-// The number at the cursor, as far as its digits go: one to `digits` of them, and at most `most`.
-pub fn number(s: &[u8], c: Cursor, digits: usize, most: u8) -> Read
-    ensures { λ r. ⌜ readAs (now (s .entry)) r ≡ readNumber digits most (drop (c .at) (now (s .entry))) ⌝ }
+// The number at the cursor, as far as its digits go: at most `most`, and 0 stands first only where it stands alone.
+pub fn number(s: &[u8], c: Cursor, most: u8) -> Read
+    ensures { λ r. ⌜ readAs (now (s .entry)) r ≡ readNumber most (drop (c .at) (now (s .entry))) ⌝ }
 {
     let start = c.at;
+    if cursor::zero_leads(s, start) {
+        return Read::Nothing;
+    }
     let mut at = start;
     let mut value: u32 = 0;
     while cursor::digit_at(s, at) {
         value = value * 10 + (s[at] - 48) as u32;
-        if at - start == digits || (most as u32) < value {
+        if (most as u32) < value {
             return Read::Nothing;
         }
         at += 1;

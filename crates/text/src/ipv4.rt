@@ -23,7 +23,7 @@ fn next(s: &[u8], read: Read, end: u8) -> Read
     let Read::Number(high, c) = read else {
         return Read::Nothing;
     };
-    let r = decimal::number(s, c, 3, 255);
+    let r = decimal::number(s, c, 255);
     let Read::Number(low, behind) = r else {
         return Read::Nothing;
     };
@@ -52,7 +52,7 @@ pub fn read(line: &[u8]) -> Taken
     let Read::Number(address, next) = r else {
         return Taken::Refused(Refusal::BadText);
     };
-    let r = decimal::number(line, next, 2, 32);
+    let r = decimal::number(line, next, 32);
     let Read::Number(len, end) = r else {
         return Taken::Refused(Refusal::BadText);
     };

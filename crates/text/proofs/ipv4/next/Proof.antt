@@ -17,7 +17,7 @@ use Rattle.text.proofs.ipv4.next.Tie as tie
 
 -- the number that was read
 found : (c : tie.After-known-told2) → let t = c .before .before .before .before .before in let s = t .before .before .before .args .s .now in
-    parsed (c .before .r .given .0 .0) (drop (c .before .r .given .0 .1 .0 .at) s) ≡ readNumber 3 255 (drop (t .read .given .0 .1 .0 .at) s)
+    parsed (c .before .r .given .0 .0) (drop (c .before .r .given .0 .1 .0 .at) s) ≡ readNumber 255 (drop (t .read .given .0 .1 .0 .at) s)
 found c =
     readAs-is (c .before .before .before .before .before .before .before .before .args .s .now) (c .before .r .given .1) (c .before .before .before .number .ensures)
 
@@ -32,7 +32,7 @@ small c =
     let t = c .before .before in
     let r = t .before .before .before .before .before in
     let s = r .before .before .before .args .s .now in
-    (rw (r .read .given .1) at (r .before .before .before .pre), readNumber-most 3 255 (drop (r .read .given .0 .1 .0 .at) s) (t .before .r .given .0 .0) (drop (t .before .r .given .0 .1 .0 .at) s) (found t))
+    (rw (r .read .given .1) at (r .before .before .before .pre), readNumber-most 255 (drop (r .read .given .0 .1 .0 .at) s) (t .before .r .given .0 .0) (drop (t .before .r .given .0 .1 .0 .at) s) (found t))
 
 pub next-spec : {M : Type 1} → statement M
 unfolding readNext startsByte

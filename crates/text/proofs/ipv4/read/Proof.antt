@@ -16,7 +16,7 @@ address : (c : tie.After-known-told) → let s = c .before .before .before .befo
 address c = readAs-is (c .before .before .before .before .before .args .line .now) (c .before .r .given .1) (c .before .before .before .quad .ensures)
 
 len : (c : tie.After-known-told2) → let r = c .before .before .before .before .before in let s = r .before .before .before .before .args .line .now in
-    parsed (c .before .r2 .given .0 .0) (drop (c .before .r2 .given .0 .1 .0 .at) s) ≡ readNumber 2 32 (drop (r .r .given .0 .1 .0 .at) s)
+    parsed (c .before .r2 .given .0 .0) (drop (c .before .r2 .given .0 .1 .0 .at) s) ≡ readNumber 32 (drop (r .r .given .0 .1 .0 .at) s)
 len c =
     readAs-is (c .before .before .before .before .before .before .before .before .before .args .line .now) (c .before .r2 .given .1) (c .before .before .before .number .ensures)
 
@@ -51,7 +51,7 @@ read-spec =
     let t = u .before .before .before .before in
     let s = t .before .before .before .before .before .args .line .now in
     let n = u .before .r2 .given .0 in
-    omega (arith, readNumber-most 2 32 (drop (t .before .r .given .0 .1 .0 .at) s) (n .0) (drop (n .1 .0 .at) s) (len u)))
+    omega (arith, readNumber-most 32 (drop (t .before .r .given .0 .1 .0 .at) s) (n .0) (drop (n .1 .0 .at) s) (len u)))
     (λ c.
     let u = c .before .before in
     let t = u .before .before .before .before in

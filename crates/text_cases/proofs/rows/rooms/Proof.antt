@@ -1,15 +1,15 @@
--- `cases::rooms` is safe and ends. Assumes nothing.
+-- `rows::rooms` is safe and ends. Assumes nothing.
 use Prim.Native.Nat.{_-_, _≤_}
 use native.Mathlib.Omega.{arith}
 use borrow.Author.Needs.{needs}
-use Rattle.text_cases.proofs.cases.rooms.Statement.{statement}
-use Rattle.text_cases.proofs.cases.rooms.Tie as tie
+use Rattle.text_cases.proofs.rows.rooms.Statement.{statement}
+use Rattle.text_cases.proofs.rows.rooms.Tie as tie
 
 abbrev Inv-loop : tie.InvT-loop
-Inv-loop t₀ room₀ t room = room ≤ 18
+Inv-loop line entry net t₀ room₀ t room = room ≤ 25
 
 abbrev μ-loop : tie.MeasureT-loop
-μ-loop t₀ room₀ t room = 18 - room
+μ-loop line entry net t₀ room₀ t room = 25 - room
 
 pub rooms-spec : {M : Type 1} → statement M
 rooms-spec =
@@ -18,10 +18,10 @@ rooms-spec =
     Inv-loop
     μ-loop
     (λ c. omega arith)
-    (λ c κs. search needs)
+    (λ c. omega arith)
+    (λ c κs. omega arith)
     (λ c κs. search needs)
     (λ c. omega arith)
     (λ c. omega arith)
     (λ c. omega arith)
-    (λ c κs. search needs)
     (λ c. search needs))
