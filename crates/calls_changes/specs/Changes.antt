@@ -10,10 +10,10 @@ use Rattle.nets.specs.Bits.{Bits}
 use Rattle.nets.specs.Lists.{mergeL, intersectL, excludeL}
 use Rattle.nodes.specs.Words.{put}
 use Rattle.pool_state.specs.Rules.{layoutNo, laid}
-use Rattle.pool_state.specs.Changes.{listAt, netNo}
+use Rattle.pool_state.specs.Changes.{listAt, netRules}
 use Rattle.change.specs.Calls.{listWith, listWithout}
 use Rattle.change.specs.Simplified.{listSimple, noArgs}
-use Rattle.combine.specs.Rules.{combineNo}
+use Rattle.combine.specs.Rules.{combineRules}
 use Rattle.calls_bytes.specs.Tails.{numbersFrom}
 use Rattle.calls_bytes.specs.declared.Call.{Call}
 use Rattle.calls_bytes.specs.declared.Reply.{Reply}
@@ -21,12 +21,12 @@ use Rattle.calls_replies.specs.Replies.{noReply, changed}
 
 -- the list that a call makes of sets b and c goes to set a
 abbrev pub combined : (List Bits → List Bits → List Bits) → List ℕ → Call → Reply × List ℕ
-combined L w c = changed w (c .a) (combineNo (c .a) (c .b) (c .c)) (λ S. L (listAt S (c .b)) (listAt S (c .c)))
+combined L w c = changed w (c .a) (combineRules (c .a) (c .b) (c .c)) (λ S. L (listAt S (c .b)) (listAt S (c .c)))
 
 unfoldable pub changeOf : List ℕ → Call → Reply × List ℕ
 changeOf w c =
-    cond (eqb (c .code) 8) (changed w (c .a) (netNo (c .net)) (listWith (c .a) (c .net)))
-    (cond (eqb (c .code) 9) (changed w (c .a) (netNo (c .net)) (listWithout (c .a) (c .net)))
+    cond (eqb (c .code) 8) (changed w (c .a) (netRules (c .net)) (listWith (c .a) (c .net)))
+    (cond (eqb (c .code) 9) (changed w (c .a) (netRules (c .net)) (listWithout (c .a) (c .net)))
     (cond (eqb (c .code) 10) (changed w (c .a) noArgs (listSimple (c .a)))
     (cond (eqb (c .code) 11) (combined mergeL w c)
     (cond (eqb (c .code) 12) (combined intersectL w c)

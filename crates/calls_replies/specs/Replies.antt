@@ -10,6 +10,7 @@ use mathlib.Core.List.{List}
 use Prim.Native.Nat.{ℕ}
 use Rattle.nets.specs.Bits.{Bits}
 use Rattle.nets.specs.Networks.{netWords, noNet}
+use Rattle.nets.specs.Refusals.{Rule}
 use Rattle.nets.specs.declared.Net.{Net}
 use Rattle.nets.specs.declared.PrefixBits.{PrefixBits}
 use Rattle.pool_state.specs.States.{State}
@@ -55,5 +56,5 @@ bitReply a = reply (a .0) (a .1 .0) (cond (a .1 .1 .0) 1 0) 0 (leftNet (a .1 .1 
 abbrev pub toldReply : Told → Reply
 toldReply t = flagReply (toldAs t)
 
-unfoldable pub changed : List ℕ → ℕ → (State → ℕ) → (State → List Bits) → Reply × List ℕ
+unfoldable pub changed : List ℕ → ℕ → (State → List Rule) → (State → List Bits) → Reply × List ℕ
 changed w k a f = (oneReply (changeRule (decode w) k a f), wordsAfter w (decode w) k a f)

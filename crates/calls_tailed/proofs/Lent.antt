@@ -14,13 +14,14 @@ use Rattle.nets.specs.Networks.{inRange}
 use Rattle.nets.specs.declared.Net.{Net}
 use Rattle.nodes.specs.Words.{put}
 use Rattle.nodes.proofs.Put.{length-put}
-use Rattle.pool_state.specs.Decode.{Decoded, damaged, sound, decode}
+use Rattle.pool_state.specs.Decode.{Decoded, decode}
 use Rattle.pool_state.specs.Rules.{answerAs}
 use Rattle.pool_state.specs.declared.Answer.{Answer}
 use Rattle.pool_state.specs.Changes.{listAt}
 use Rattle.trie_paths.specs.Rows as listing
-use Rattle.listing.specs.Calls.{listNo, rowsAfter, Listed}
-use Rattle.setfile.specs.Calls.{fileAt, saveNo, bytesAfter, Saved}
+use Rattle.pool_state.proofs.Answered.{leftOn-either}
+use Rattle.listing.specs.Calls.{listRules, rowsAfter, Listed}
+use Rattle.setfile.specs.Calls.{fileAt, saveRules, bytesAfter, Saved}
 use Rattle.text.specs.Ipv4.{lineOf}
 use Rattle.text.specs.Answers.{writtenAs, lineRefusal, over, Wrote}
 use Rattle.text.specs.declared.Written.{Written}
@@ -67,14 +68,9 @@ wordsFrom-take w p zero h = refl
 wordsFrom-take w p (suc n) h =
     rw (drop-cons w p 0 (omega arith)) (ap (λ (l : List ℕ). getD w p 0 ∷ l) (wordsFrom-take w (p + 1) n (omega arith) ∙ rw add-one))
 
-length-either : (t : Bool) (v xs : List ℕ) → length (cond t (put v 0 xs) v) ≡ length v
-length-either true v xs = length-put v 0 xs
-length-either false v xs = refl
-
 length-rowsAfter : (v : List ℕ) (d : Decoded) (k : ℕ) → length (rowsAfter v d k) ≡ length v
 unfolding rowsAfter
-length-rowsAfter v damaged k = refl
-length-rowsAfter v (sound S) k = length-either (eqb (listNo S k (length v)) 0) v (listing.rowsOf (S .family) (listAt S k))
+length-rowsAfter v d k = leftOn-either (λ u. length u ≡ length v) (listRules k (length v)) v _ d refl (λ S. length-put v 0 (listing.rowsOf (S .family) (listAt S k)))
 
 -- the rows of a list
 module _ (w v : List ℕ) (c : Call) (o : List ℕ) (at : ℕ) (fits : c .b ≤ length v) where
@@ -140,8 +136,7 @@ length-line true s old h = let i = h refl in simp (length-append, length-drop) (
 
 length-bytesAfter : (v : List ℕ) (d : Decoded) (k : ℕ) → length (bytesAfter v d k) ≡ length v
 unfolding bytesAfter
-length-bytesAfter v damaged k = refl
-length-bytesAfter v (sound S) k = length-either (eqb (saveNo S k (length v)) 0) v (fileAt S k)
+length-bytesAfter v d k = leftOn-either (λ u. length u ≡ length v) (saveRules k (length v)) v _ d refl (λ S. length-put v 0 (fileAt S k))
 
 pub length-saveBytes : (w : List ℕ) (c : Call) → length (saveBytes w c) ≡ c .b
 unfolding saveBytes

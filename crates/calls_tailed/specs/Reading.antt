@@ -10,7 +10,7 @@ use mathlib.Core.Path.{_≡_}
 use Prim.Native.Nat.{ℕ, _-_, _%_, _≤_}
 use lib.ListN.{length, take, drop}
 use Rattle.setfile_format.specs.Files.{readFile}
-use Rattle.setfile.specs.Loading.{loadNo, fileList}
+use Rattle.setfile.specs.Loading.{loadRules, fileList}
 use Rattle.lines.specs.Reading.{allRead}
 use Rattle.lines.specs.declared.Reader.{Reader}
 use Rattle.calls_bytes.specs.declared.Call.{Call}
@@ -21,7 +21,7 @@ abbrev pub tailOf : List ℕ → List ℕ
 tailOf s = drop 35 s
 
 unfoldable pub loadOf : List ℕ → Call → List ℕ → Reply × List ℕ
-loadOf w c s = let x = readFile (tailOf s) in changed w (c .a) (loadNo x (c .a)) (λ S. fileList x)
+loadOf w c s = let x = readFile (tailOf s) in changed w (c .a) (loadRules x (c .a)) (λ S. fileList x)
 
 abbrev pub piecesOf : Call → List ℕ → List (List ℕ)
 piecesOf c s = take (c .b) (tailOf s) ∷ drop (c .b) (tailOf s) ∷ []

@@ -10,8 +10,8 @@ use Rattle.nets.specs.Bits.{Bits}
 use Rattle.nets.specs.Lists.{addL, removeL}
 use Rattle.nets.specs.Tries.{Trie, size, listOf, insertT}
 use Rattle.nets.specs.TrieOps.{removeT}
-use Rattle.nets.specs.Refusals.{number, answered}
-use Rattle.nets.specs.Networks.{netBits, refusalOf, bitsLeft, startOf, noBits, prefixAs}
+use Rattle.nets.specs.Refusals.{number, answered, firstNo}
+use Rattle.nets.specs.Networks.{isFamily, netBits, refusalOf, bitsLeft, startOf, noBits, prefixAs}
 use Rattle.nets.specs.declared.Net.{Net}
 use Rattle.nets.specs.declared.Refusal.{Refusal}
 use Rattle.nets.specs.declared.Refusal.the-variants.{Damaged, NoSet, WrongFamily}
@@ -27,12 +27,13 @@ use Rattle.nodes.specs.Segments.{Segment, Spliced}
 use Rattle.pool_state.specs.States.{State, roomOf}
 use Rattle.pool_state.specs.Decode.{base, sound, decode}
 use Rattle.pool_state.specs.Rules.{surveyOf}
-use Rattle.pool_state.specs.Changes.{listAt, netNo}
+use Rattle.pool_state.specs.Changes.{listAt, netRules}
 use Rattle.pool_state.specs.declared.Survey.{Survey}
-use Rattle.pool_state.proofs.Decoded.{decode-header}
-use Rattle.pool_state.proofs.Seen.{Seen, behind, survey-sound, survey-seen, seen, seen-figures, trieAt, seen-list, seen-size, seen-segment}
+use Rattle.pool_state.proofs.Claims.{isState-family}
+use Rattle.pool_state.proofs.Decoded.{decode-header, decode-state}
+use Rattle.pool_state.proofs.Seen.{Seen, behind, survey-sound, refuses-damaged, refuses-noset, survey-seen, seen, seen-figures, trieAt, seen-list, seen-size, seen-segment}
 use Rattle.pool_state.proofs.Changed.{withTrie, gap-asks}
-use Rattle.pool_state.proofs.Returns.{Result, change-damaged, change-noset, change-args, changed, netNo-own, netNo-other}
+use Rattle.pool_state.proofs.Returns.{Result, change-seat, change-args, changed, netRules-own, netRules-other}
 use Rattle.change.specs.Steps.{Ready, Asks, seatOf}
 use Rattle.change.specs.declared.calling.Asked.the-variants.{Go, Refused}
 use Rattle.change.specs.declared.calling.Seat.{Seat}
@@ -42,30 +43,30 @@ use Rattle.trie_remove.proofs.Remains.{size-removeT}
 -- What `ask` finds.
 module _ {w : List ℕ} {k : ℕ} {v : Survey} (n : Net) (e : v ≡ surveyOf (decode w) k) where
   pub ask-damaged : v .sound ≡ false → Asks w k n (Refused Damaged)
-  ask-damaged q f = changed (change-damaged (netNo n) f w k v e q)
+  ask-damaged q f = changed (change-seat (netRules n) f w k (refuses-damaged w k v e q))
 
   pub ask-noset : v .sound ≡ true → getD w 2 0 ≤ k → Asks w k n (Refused NoSet)
-  ask-noset q le f = changed (change-noset (netNo n) f w k v e q le)
+  ask-noset q le f = changed (change-seat (netRules n) f w k (refuses-noset w k v e q le))
 
   module _ (q : v .sound ≡ true) (lt : k < getD w 2 0) where
-    ask-args : (x : Refusal) → ((S : State) → getD w 1 0 ≡ S .family → netNo n S ≡ number x) → Asks w k n (Refused x)
+    ask-args : (x : Refusal) → ((S : State) → isFamily (S .family) ≡ true → getD w 1 0 ≡ S .family → firstNo (netRules n S) ≡ number x) → Asks w k n (Refused x)
     ask-args x h f =
         let y = survey-sound w k v e q in
-        changed (change-args (netNo n) f (survey-seen w k v e (y .0) (y .1) lt) (h (y .0) (decode-header w (y .0) (y .1) .family)) (number-some x))
+        changed (change-args (netRules n) f (survey-seen w k v e (y .0) (y .1) lt) (h (y .0) (isState-family (y .0) (decode-state w (y .0) (y .1))) (decode-header w (y .0) (y .1) .family)) (number-some x))
 
     pub ask-family : (n .family ≡ getD w 1 0 → ⊥) → Asks w k n (Refused WrongFamily)
-    ask-family ne = ask-args WrongFamily (λ S o. netNo-other n S (λ z. ne (z ∙ sym o)))
+    ask-family ne = ask-args WrongFamily (λ S f o. netRules-other n S (λ z. ne (z ∙ sym o)))
 
     module _ (own : n .family ≡ getD w 1 0) (p : Prefix) (g : prefixAs p ≡ answered (refusalOf n) noBits (startOf n)) where
       pub ask-network : (x : Refusal) → p ≡ prefix.Refused x → Asks w k n (Refused x)
-      ask-network x h = ask-args x (λ S o. netNo-own n S (own ∙ o) ∙ prefix-refused n p x g h)
+      ask-network x h = ask-args x (λ S f o. netRules-own n S f (own ∙ o) ∙ prefix-refused n p x g h)
 
       pub ask-go : (s : PrefixBits) → p ≡ prefix.Bits s → Asks w k n (Go v s)
       ask-go s h =
           let y = prefix-bits n p s g h in
           record {
             surveyed = record { found = e; sound = q; known = lt };
-            right = λ S d. netNo-own n S (own ∙ decode-header w S d .family) ∙ y .0;
+            right = λ S d. netRules-own n S (isState-family S (decode-state w S d)) (own ∙ decode-header w S d .family) ∙ y .0;
             bits = rw (y .1) (bitsLeft-start n (y .0));
             few = rw (y .1) (startOf-few n (y .0));
           }
@@ -127,7 +128,7 @@ module _ {T : Bits → Trie → Trie} {L : List Bits → Bits → List Bits} {w 
   counted : size new ≡ m
   counted = sym (h .counts old (behind S k) (t .used) result-stands)
 
-  pub result : Result w S k v (netNo n) after new m
+  pub result : Result w S k v (netRules n) after new m
   result =
       record { seen = sees; right = h .ready .right S (sees .decoded); list = rw (h .works .list (bitsLeft s) old, seen-list sees, h .ready .bits); size = counted }
 

@@ -8,12 +8,12 @@ use Rattle.nets.proofs.TrieOf.{isList-add}
 use Rattle.nets.proofs.Laws.{isList-remove}
 use Rattle.pool_state.specs.States.{State}
 use Rattle.pool_state.specs.Decode.{sound, decode}
-use Rattle.pool_state.specs.Changes.{listAt, netNo}
+use Rattle.pool_state.specs.Changes.{listAt, netRules}
 use Rattle.pool_state.specs.declared.Answer.{Answer}
 use Rattle.pool_state.proofs.Claims.{isList-listAt}
 use Rattle.pool_state.proofs.Decoded.{decode-state}
 use Rattle.pool_state.proofs.Determined.{changed-one}
-use Rattle.pool_state.proofs.Leaves.{Leaves, changed-leaves, netNo-within}
+use Rattle.pool_state.proofs.Leaves.{Leaves, changed-leaves, netRules-within}
 use Rattle.change.specs.Calls.{listWith, listWithout, Added, Removed}
 
 -- One outcome.
@@ -25,8 +25,8 @@ remove-one n h g = changed-one h g
 
 -- What is left of a sound pool.
 module _ {w v : List ℕ} {S : State} {k : ℕ} {r : Answer} (n : Net) (d : decode w ≡ sound S) where
-  pub add-leaves : Added w k n r v → Leaves S k (netNo n S) (listWith k n S) r v
-  add-leaves c = changed-leaves d (λ z. isList-add (width (S .family)) (listAt S k) (netBits n) (isList-listAt S k (decode-state w S d)) (netNo-within n S z)) c
+  pub add-leaves : Added w k n r v → Leaves S k (netRules n S) (listWith k n S) r v
+  add-leaves c = changed-leaves d (λ z. isList-add (width (S .family)) (listAt S k) (netBits n) (isList-listAt S k (decode-state w S d)) (netRules-within n S z)) c
 
-  pub remove-leaves : Removed w k n r v → Leaves S k (netNo n S) (listWithout k n S) r v
-  remove-leaves c = changed-leaves d (λ z. isList-remove (width (S .family)) (listAt S k) (netBits n) (isList-listAt S k (decode-state w S d)) (netNo-within n S z)) c
+  pub remove-leaves : Removed w k n r v → Leaves S k (netRules n S) (listWithout k n S) r v
+  remove-leaves c = changed-leaves d (λ z. isList-remove (width (S .family)) (listAt S k) (netBits n) (isList-listAt S k (decode-state w S d)) (netRules-within n S z)) c

@@ -2,14 +2,15 @@
 -- where the set stands, and the sets behind it close up. Assumes nothing.
 use mathlib.Core.Path.{_≡_, refl, sym, ap, _∙_}
 use mathlib.Core.Bool.{true, false}
-use mathlib.Core.List.{List, _++_}
+use mathlib.Core.List.{List, [], _++_}
 use Prim.Native.Nat.{ℕ, suc, _+_, _-_, _≤_, _<_}
 use native.Mathlib.Omega.{arith}
 use lib.ListN.{length, getD}
-use borrow.Author.Tests.{lt-ltb, le-leb}
+use borrow.Author.Tests.{le-ltb}
 use Rattle.nets.specs.Lists.{nodesL, simplifyL}
 use Rattle.nets.specs.Tries.{Trie, size, simplifyT}
 use Rattle.nets.specs.Networks.{width}
+use Rattle.nets.specs.Refusals.{firstNo}
 use Rattle.nets.specs.declared.Refusal.the-variants.{Damaged, NoSet}
 use Rattle.nets.proofs.Nodes.{nodesL-listOf}
 use Rattle.nets.proofs.TrieOf.{isList-within}
@@ -25,8 +26,8 @@ use Rattle.trie_emit.proofs.Answers.{end-is, full-size, settled}
 use Rattle.trie_emit.proofs.Simplify.{size-simplify}
 use Rattle.pool_state.specs.States.{State, held, roomOf}
 use Rattle.pool_state.specs.Decode.{base, sound, decode}
-use Rattle.pool_state.specs.Rules.{answerAs, surveyOf}
-use Rattle.pool_state.specs.Changes.{setAt, listAt, withList, changeNo, changeRule}
+use Rattle.pool_state.specs.Rules.{answerOn, answerAs, surveyOf}
+use Rattle.pool_state.specs.Changes.{setAt, listAt, withList, grantRules, changeNo, changeRule}
 use Rattle.pool_state.specs.Steps.{behindAt, Gap, relinked, Relink}
 use Rattle.pool_state.specs.declared.Answer.{Answer}
 use Rattle.pool_state.specs.declared.Answer.the-variants as answer
@@ -37,9 +38,10 @@ use Rattle.pool_state.proofs.WithList.{claim-roomOf}
 use Rattle.pool_state.proofs.Claims.{isList-listAt, held-limit}
 use Rattle.pool_state.proofs.Holds.{set-size}
 use Rattle.pool_state.proofs.Decoded.{decode-state, decode-set}
-use Rattle.pool_state.proofs.Seen.{Seen, behind, seen-header, seen-figures, trieAt, seen-segment}
+use Rattle.pool_state.proofs.Judged.{changeNo-known}
+use Rattle.pool_state.proofs.Seen.{Seen, behind, refuses-damaged, refuses-noset, seen-header, seen-figures, trieAt, seen-segment}
 use Rattle.pool_state.proofs.Changed.{withTrie, behind-last, relink-asks, gap-asks}
-use Rattle.pool_state.proofs.Returns.{change-damaged, change-noset, change-granted, changed}
+use Rattle.pool_state.proofs.Returns.{change-seat, change-granted, changed}
 use Rattle.change.specs.Simplified.{listSimple, noArgs, Simplifies, Shrunk}
 
 -- The trie is simplified where it stands, and a leaf that the emission left is written.
@@ -81,19 +83,21 @@ module _ (w : List ℕ) (S : State) (k : ℕ) (d : decode w ≡ sound S) (lt : k
   in-room = omega (arith, fewer, claim-roomOf S k (decode-state w S d) lt)
 
   -- never refused for the limit or the room
-  pub changeNo-simplify : changeNo S k 0 (simplifyL (listAt S k)) ≡ 0
-  unfolding changeNo
-  changeNo-simplify =
+  grant-simplify : firstNo (grantRules S k (listSimple k S)) ≡ 0
+  grant-simplify =
       let n = nodesL-simplify S k in
-      rw (lt-ltb k (length (S .sets)) lt, le-leb (nodesL (listSimple k S)) (setAt S k .limit) (omega (arith, in-limit)), le-leb (nodesL (listSimple k S)) (roomOf S k) (omega (arith, in-room)))
+      rw (le-ltb (setAt S k .limit) (nodesL (listSimple k S)) (omega (arith, in-limit)), le-ltb (roomOf S k) (nodesL (listSimple k S)) (omega (arith, in-room)))
+
+  pub changeNo-simplify : changeNo S k [] (simplifyL (listAt S k)) ≡ 0
+  changeNo-simplify = changeNo-known S k [] (simplifyL (listAt S k)) lt ∙ grant-simplify
 
 -- The returns of the call.
 module _ {w : List ℕ} {k : ℕ} {v : Survey} (e : v ≡ surveyOf (decode w) k) where
   pub return-damaged : v .sound ≡ false → Simplifies w k (answer.Refused Damaged) w
-  return-damaged q = changed (change-damaged noArgs (listSimple k) w k v e q)
+  return-damaged q = changed (change-seat noArgs (listSimple k) w k (refuses-damaged w k v e q))
 
   pub return-noset : v .sound ≡ true → getD w 2 0 ≤ k → Simplifies w k (answer.Refused NoSet) w
-  return-noset q le = changed (change-noset noArgs (listSimple k) w k v e q le)
+  return-noset q le = changed (change-seat noArgs (listSimple k) w k (refuses-noset w k v e q le))
 
 module _ {w : List ℕ} {S : State} {k : ℕ} {v : Survey} (h : Seen w S k v) where
   pub seen-source : {fuel : ℕ} → fuel ≡ suc (width (getD w 1 0)) → Source w (base (getD w 2 0)) (v .at) (v .at + v .held) (v .at) fuel (trieAt S k)
@@ -124,7 +128,7 @@ module _ {w : List ℕ} {S : State} {k : ℕ} {v : Survey} (h : Seen w S k v) wh
       pub return-granted : {a : Answer} {y : List ℕ} → (answerAs a ≡ (0, n)) × (y ≡ relinked x k (v .at) (v .held) n) → Simplifies w k a y
       unfolding simplifyL
       return-granted q =
-          changed (rw (q .0) (change-granted noArgs (listSimple k) h refl (sym (changeNo-simplify w S k (h .decoded) (h .known))) (simpleAt S k) refl refl (sym (s .nodes)) closed (q .1)))
+          changed (rw (q .0) (change-granted noArgs (listSimple k) h refl (sym (grant-simplify w S k (h .decoded) (h .known))) (simpleAt S k) refl refl (sym (s .nodes)) closed (q .1)))
 
 -- One outcome.
 pub simplify-one : {w v u : List ℕ} {k : ℕ} {r s : Answer} → Simplifies w k r v → Simplifies w k s u → (r ≡ s) × (v ≡ u)
@@ -134,10 +138,10 @@ simplify-one g h = changed-one g h
 module _ {w v : List ℕ} {k : ℕ} {r : Answer} (h : Simplifies w k r v) where
   module _ (S : State) (d : decode w ≡ sound S) where
     pub simplify-granted : k < length (S .sets) → r ≡ answer.Granted (nodesL (simplifyL (listAt S k)))
-    unfolding changeRule
+    unfolding changeRule answerOn
     simplify-granted lt = answerAs-one r (answer.Granted (nodesL (simplifyL (listAt S k)))) (h .answer ∙ rw (d, changeNo-simplify w S k d lt))
 
-    pub simplify-leaves : Leaves S k 0 (simplifyL (listAt S k)) r v
+    pub simplify-leaves : Leaves S k [] (simplifyL (listAt S k)) r v
     simplify-leaves =
         let f = width (S .family) in
         changed-leaves d (λ z. isList-simplify f (listAt S k) (isList-within f (listAt S k) (isList-listAt S k (decode-state w S d)))) h

@@ -9,7 +9,7 @@ use Rattle.nets.specs.Lists.{addL, removeL}
 use Rattle.nets.specs.Networks.{netBits}
 use Rattle.nets.specs.declared.Net.{Net}
 use Rattle.pool_state.specs.States.{State}
-use Rattle.pool_state.specs.Changes.{listAt, Changed, netNo}
+use Rattle.pool_state.specs.Changes.{listAt, Changed, netRules}
 use Rattle.pool_state.specs.declared.Answer.{Answer}
 
 abbrev pub listWith : ℕ → Net → State → List Bits
@@ -19,7 +19,7 @@ abbrev pub listWithout : ℕ → Net → State → List Bits
 listWithout k n S = removeL (listAt S k) (netBits n)
 
 abbrev pub Added : List ℕ → ℕ → Net → Answer → List ℕ → Type 0
-Added w k n r v = Changed w k (netNo n) (listWith k n) r v
+Added w k n r v = Changed w k (netRules n) (listWith k n) r v
 
 abbrev pub Removed : List ℕ → ℕ → Net → Answer → List ℕ → Type 0
-Removed w k n r v = Changed w k (netNo n) (listWithout k n) r v
+Removed w k n r v = Changed w k (netRules n) (listWithout k n) r v

@@ -2,23 +2,24 @@
 --
 --   Simplifies w k r v      from the words w the call on set k answers r and leaves the words v
 --   Shrunk w v b i t n      the trie t, which stands from node i on, is simplified there: v is w with the n nodes of the result
-use mathlib.Core.List.{List}
+use mathlib.Core.List.{List, []}
 use mathlib.Core.Path.{_≡_}
 use Prim.Native.Nat.{ℕ}
 use Rattle.nets.specs.Bits.{Bits}
 use Rattle.nets.specs.Lists.{simplifyL}
+use Rattle.nets.specs.Refusals.{Rule}
 use Rattle.nets.specs.Tries.{Trie, size, simplifyT}
 use Rattle.nodes.specs.Words.{put, place, enc}
 use Rattle.pool_state.specs.States.{State}
 use Rattle.pool_state.specs.Changes.{listAt, Changed}
 use Rattle.pool_state.specs.declared.Answer.{Answer}
 
--- the list of set k, simplified; and no argument but the set, so none is wrong
+-- the list of set k, simplified; and no argument but the set, so no rule for any
 abbrev pub listSimple : ℕ → State → List Bits
 listSimple k S = simplifyL (listAt S k)
 
-abbrev pub noArgs : State → ℕ
-noArgs S = 0
+abbrev pub noArgs : State → List Rule
+noArgs S = []
 
 abbrev pub Simplifies : List ℕ → ℕ → Answer → List ℕ → Type 0
 Simplifies w k r v = Changed w k noArgs (listSimple k) r v

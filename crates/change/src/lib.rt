@@ -5,7 +5,6 @@ use calling::seat_of;
 use nets::Net;
 use nets::Refusal;
 use pool_change::judging::judge;
-use pool_change::judging::too_many;
 use pool_change::relinking::granted;
 use pool_change::relinking::shift_behind;
 use pool_check::HEAD;
@@ -13,6 +12,7 @@ use pool_check::RECORD;
 use pool_check::most_levels;
 use pool_check::survey;
 use pool_state::Answer;
+use pool_state::Verdict;
 use shrinking::shrink;
 ghost use Rattle.change.specs.Calls.{Added, Removed};
 ghost use Rattle.change.specs.Simplified.{Simplifies};
@@ -30,12 +30,14 @@ pub fn add(pool: &mut [u32], set: u32, net: Net) -> Answer
         Asked::Go(found, s) => {
             let at = seat_of(pool, found);
             let n = trie_insert::insert_size(pool, at.base, at.first, at.end, s) as u32;
-            let no = judge(pool, set, found, n);
-            if no != 0 {
-                return too_many(no);
+            let verdict = judge(pool, set, found, n);
+            match verdict {
+                Verdict::No(no) => Answer::Refused(no),
+                Verdict::Fits => {
+                    trie_insert::insert(pool, at.base, at.first, at.end, at.used, s);
+                    granted(pool, set, found, n)
+                }
             }
-            trie_insert::insert(pool, at.base, at.first, at.end, at.used, s);
-            granted(pool, set, found, n)
         }
     }
 }
@@ -50,12 +52,14 @@ pub fn remove(pool: &mut [u32], set: u32, net: Net) -> Answer
         Asked::Go(found, s) => {
             let at = seat_of(pool, found);
             let n = trie_remove::remove_size(pool, at.base, at.first, at.end, s) as u32;
-            let no = judge(pool, set, found, n);
-            if no != 0 {
-                return too_many(no);
+            let verdict = judge(pool, set, found, n);
+            match verdict {
+                Verdict::No(no) => Answer::Refused(no),
+                Verdict::Fits => {
+                    trie_remove::remove(pool, at.base, at.first, at.first, at.end, at.used, s);
+                    granted(pool, set, found, n)
+                }
             }
-            trie_remove::remove(pool, at.base, at.first, at.first, at.end, at.used, s);
-            granted(pool, set, found, n)
         }
     }
 }

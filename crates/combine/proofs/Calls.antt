@@ -1,17 +1,17 @@
 -- A combination: what `ask` finds, a law for each return, what the sources mean, and then the result, counted and written (`Result` of pool's proofs/Returns.antt says what
 -- becomes of it). An operation on lists is done on tries, so one law serves all three. Assumes nothing.
 use mathlib.Core.Bool.{Bool, true, false, cond}
-use mathlib.Core.List.{List, [], _∷_}
+use mathlib.Core.List.{List, []}
 use mathlib.Core.Path.{_≡_, refl, sym, ap, _∙_}
 use Prim.Native.Nat.{ℕ, suc, _+_, _*_, _≤_, _<_}
 use native.Mathlib.Omega.{arith}
 use lib.Dec.{eqb}
 use lib.ListN.{length, getD}
-use borrow.Author.Tests.{lt-ltb, le-ltb}
+use borrow.Author.Tests.{le-leb, lt-leb}
 use Rattle.nets.specs.Bits.{Bits}
 use Rattle.nets.specs.Tries.{Trie, size, levels, listOf}
 use Rattle.nets.specs.Networks.{width}
-use Rattle.nets.specs.Refusals.{number}
+use Rattle.nets.specs.Refusals.{number, firstNo}
 use Rattle.nets.specs.declared.Refusal.{Refusal}
 use Rattle.nets.specs.declared.Refusal.the-variants.{Damaged, NoSet, Occupied}
 use Rattle.nets.proofs.Answers.{number-some}
@@ -23,67 +23,63 @@ use Rattle.trie_emit.proofs.Combine.{opOn-union, opOn-common, opOn-except, size
 use Rattle.pool_state.specs.States.{State, roomOf}
 use Rattle.pool_state.specs.Decode.{recordAt, sound, decode}
 use Rattle.pool_state.specs.Rules.{surveyOf}
-use Rattle.pool_state.specs.Changes.{listAt, isEmpty}
+use Rattle.pool_state.specs.Changes.{listAt}
 use Rattle.pool_state.specs.declared.Survey.{Survey}
 use Rattle.pool_state.proofs.Decoded.{decode-header}
-use Rattle.pool_state.proofs.Seen.{Seen, trieAt, survey-sound, survey-seen, seen, seen-figures, seen-empty, seen-some}
+use Rattle.pool_state.proofs.Seen.{Seen, trieAt, survey-sound, refuses-damaged, refuses-noset, survey-seen, seen, seen-figures, seen-empty, seen-some}
 use Rattle.pool_state.proofs.Changed.{withTrie, behind-first, gap-asks}
-use Rattle.pool_state.proofs.Returns.{Result, change-damaged, change-noset, change-args, changed}
-use Rattle.combine.specs.Rules.{combineNo}
+use Rattle.pool_state.proofs.Returns.{Result, isEmpty-some, change-seat, change-args, changed}
+use Rattle.combine.specs.Rules.{combineRules}
 use Rattle.combine.specs.Steps.{Operation, merging, intersecting, excluding, combineL, Ready, Asks, sourcesOf, Reads, Writable, written}
 use Rattle.combine.specs.declared.asking.Asked.the-variants.{Go, Refused}
 use Rattle.combine.specs.declared.asking.Sources.{Sources}
 use Rattle.combine.proofs.Sources.{Source, source}
 
 -- The number that the three sets get.
-isEmpty-some : (l : List Bits) → (l ≡ [] → ⊥) → isEmpty l ≡ false
-isEmpty-some [] ne = absurd (ne refl)
-isEmpty-some (p ∷ l) ne = refl
-
 module _ (to first second : ℕ) (S : State) where
-  combineNo-first : length (S .sets) ≤ first → combineNo to first second S ≡ 3
-  unfolding combineNo
-  combineNo-first le = rw (le-ltb first (length (S .sets)) le)
+  no-first : length (S .sets) ≤ first → firstNo (combineRules to first second S) ≡ 3
+  unfolding combineRules
+  no-first le = rw (le-leb (length (S .sets)) first le)
 
   module _ (lt : first < length (S .sets)) where
-    combineNo-second : length (S .sets) ≤ second → combineNo to first second S ≡ 3
-    unfolding combineNo
-    combineNo-second le = rw (lt-ltb first (length (S .sets)) lt, le-ltb second (length (S .sets)) le)
+    no-second : length (S .sets) ≤ second → firstNo (combineRules to first second S) ≡ 3
+    unfolding combineRules
+    no-second le = rw (lt-leb (length (S .sets)) first lt, le-leb (length (S .sets)) second le)
 
     module _ (ls : second < length (S .sets)) where
-      combineNo-occupied : (listAt S to ≡ [] → ⊥) → combineNo to first second S ≡ 8
-      unfolding combineNo
-      combineNo-occupied ne = rw (lt-ltb first (length (S .sets)) lt, lt-ltb second (length (S .sets)) ls, isEmpty-some (listAt S to) ne)
+      no-empty : (listAt S to ≡ [] → ⊥) → firstNo (combineRules to first second S) ≡ 8
+      unfolding combineRules
+      no-empty ne = rw (lt-leb (length (S .sets)) first lt, lt-leb (length (S .sets)) second ls, isEmpty-some (listAt S to) ne)
 
-      combineNo-right : listAt S to ≡ [] → combineNo to first second S ≡ 0
-      unfolding combineNo
-      combineNo-right e = rw (lt-ltb first (length (S .sets)) lt, lt-ltb second (length (S .sets)) ls, e)
+      all-right : listAt S to ≡ [] → firstNo (combineRules to first second S) ≡ 0
+      unfolding combineRules
+      all-right e = rw (lt-leb (length (S .sets)) first lt, lt-leb (length (S .sets)) second ls, e)
 
 -- What `ask` finds.
 module _ {w : List ℕ} {to : ℕ} {v : Survey} (first second : ℕ) (e : v ≡ surveyOf (decode w) to) where
   pub ask-damaged : v .sound ≡ false → Asks w to first second (Refused Damaged)
-  ask-damaged q f = changed (change-damaged (combineNo to first second) f w to v e q)
+  ask-damaged q f = changed (change-seat (combineRules to first second) f w to (refuses-damaged w to v e q))
 
   pub ask-noset : v .sound ≡ true → getD w 2 0 ≤ to → Asks w to first second (Refused NoSet)
-  ask-noset q le f = changed (change-noset (combineNo to first second) f w to v e q le)
+  ask-noset q le f = changed (change-seat (combineRules to first second) f w to (refuses-noset w to v e q le))
 
   module _ (q : v .sound ≡ true) (lt : to < getD w 2 0) where
-    ask-args : (x : Refusal) → ((S : State) → Seen w S to v → getD w 2 0 ≡ length (S .sets) → combineNo to first second S ≡ number x) → Asks w to first second (Refused x)
+    ask-args : (x : Refusal) → ((S : State) → Seen w S to v → getD w 2 0 ≡ length (S .sets) → firstNo (combineRules to first second S) ≡ number x) → Asks w to first second (Refused x)
     ask-args x h f =
         let y = survey-sound w to v e q in
         let g = survey-seen w to v e (y .0) (y .1) lt in
-        changed (change-args (combineNo to first second) f g (h (y .0) g (decode-header w (y .0) (y .1) .sets)) (number-some x))
+        changed (change-args (combineRules to first second) f g (h (y .0) g (decode-header w (y .0) (y .1) .sets)) (number-some x))
 
     pub ask-first : getD w 2 0 ≤ first → Asks w to first second (Refused NoSet)
-    ask-first le = ask-args NoSet (λ S g n. combineNo-first to first second S (omega arith))
+    ask-first le = ask-args NoSet (λ S g n. no-first to first second S (omega arith))
 
     module _ (lf : first < getD w 2 0) where
       pub ask-second : getD w 2 0 ≤ second → Asks w to first second (Refused NoSet)
-      ask-second le = ask-args NoSet (λ S g n. combineNo-second to first second S (omega arith) (omega arith))
+      ask-second le = ask-args NoSet (λ S g n. no-second to first second S (omega arith) (omega arith))
 
       module _ (ls : second < getD w 2 0) where
         pub ask-occupied : (v .held ≡ 0 → ⊥) → Asks w to first second (Refused Occupied)
-        ask-occupied ne = ask-args Occupied (λ S g n. combineNo-occupied to first second S (omega arith) (omega arith) (seen-some g ne))
+        ask-occupied ne = ask-args Occupied (λ S g n. no-empty to first second S (omega arith) (omega arith) (seen-some g ne))
 
         pub ask-go : v .held ≡ 0 → Asks w to first second (Go v)
         ask-go z = record { surveyed = record { found = e; sound = q; known = lt }; known = (lf, ls); empty = z }
@@ -119,10 +115,10 @@ module _ {w : List ℕ} {to first second : ℕ} {v : Survey} (h : Ready w to fir
   two : Source w state v second
   two = source here second (h .known .1)
 
-  right : combineNo to first second state ≡ 0
+  right : firstNo (combineRules to first second state) ≡ 0
   right =
       let n = decode-header w state (here .decoded) .sets in
-      combineNo-right to first second state (omega arith) (omega arith) (seen-empty here (h .empty))
+      all-right to first second state (omega arith) (omega arith) (seen-empty here (h .empty))
 
   pub ready-records : (recordAt first < length w) × (recordAt second < length w)
   ready-records = let f = seen-figures here in (omega arith, omega arith)
@@ -160,7 +156,7 @@ module _ {op : ℕ} {w : List ℕ} {to first second : ℕ} {v : Survey} {s : Sou
   made-size : size made ≡ m
   made-size = sym (rw (c .sources) at (c .count (trieAt S first) (trieAt S second) (ready-reads (c .ready) (c .sources))))
 
-  pub result : Result w S to v (combineNo to first second) after made m
+  pub result : Result w S to v (combineRules to first second) after made m
   result =
       let a = one (c .ready) in
       let b = two (c .ready) in

@@ -1,26 +1,27 @@
 -- What the calls come to. Each has one outcome; from a sound pool a combination leaves a sound one, of the state by its rule (`Leaves`); where it is granted, the destination
 -- was empty. Assumes nothing.
-use mathlib.Core.Bool.{Bool, true, false, cond}
+use mathlib.Core.Bool.{true, false, not, true≢false}
 use mathlib.Core.List.{List, [], _∷_}
-use mathlib.Core.Path.{_≡_, refl, sym, _∙_}
+use mathlib.Core.Path.{_≡_, refl}
 use Prim.Native.Nat.{ℕ}
-use native.Mathlib.Omega.{arith}
 use Rattle.nets.specs.Bits.{Bits}
 use Rattle.nets.specs.Lists.{isList, mergeL, intersectL, excludeL}
 use Rattle.nets.specs.Networks.{width}
+use Rattle.nets.specs.Refusals.{firstNo}
+use Rattle.nets.proofs.Refused.{firstNo-zero}
 use Rattle.nets.proofs.Combining.{isList-merge, isList-intersect}
 use Rattle.nets.proofs.Laws.{isList-exclude}
 use Rattle.nets.proofs.TrieOf.{isList-within}
 use Rattle.pool_state.specs.States.{State}
 use Rattle.pool_state.specs.Decode.{sound, decode}
-use Rattle.pool_state.specs.Changes.{listAt, areKnown, changeNo, isEmpty}
+use Rattle.pool_state.specs.Changes.{listAt, changeNo, isEmpty}
 use Rattle.pool_state.specs.declared.Answer.{Answer}
 use Rattle.pool_state.proofs.Claims.{isList-listAt}
 use Rattle.pool_state.proofs.Decoded.{decode-state}
 use Rattle.pool_state.proofs.Judged.{changeNo-granted}
 use Rattle.pool_state.proofs.Determined.{changed-one}
 use Rattle.pool_state.proofs.Leaves.{Leaves, changed-leaves}
-use Rattle.combine.specs.Rules.{combineNo, Combined, Merged, Intersected, Excluded}
+use Rattle.combine.specs.Rules.{combineRules, Combined, Merged, Intersected, Excluded}
 
 -- One outcome.
 module _ (w : List ℕ) (to first second : ℕ) {r s : Answer} {u v : List ℕ} where
@@ -39,32 +40,31 @@ Keeps L = (w : ℕ) (l m : List Bits) → isList w l ≡ true → isList w m ≡
 
 module _ {w v : List ℕ} {S : State} {to : ℕ} {r : Answer} (first second : ℕ) (d : decode w ≡ sound S) where
   combined-leaves : (L : List Bits → List Bits → List Bits) → Keeps L → Combined L w to first second r v
-      → Leaves S to (combineNo to first second S) (L (listAt S first) (listAt S second)) r v
+      → Leaves S to (combineRules to first second S) (L (listAt S first) (listAt S second)) r v
   combined-leaves L keeps c =
       let e = decode-state w S d in
       changed-leaves d (λ z. keeps (width (S .family)) (listAt S first) (listAt S second) (isList-listAt S first e) (isList-listAt S second e)) c
 
-  pub merge-leaves : Merged w to first second r v → Leaves S to (combineNo to first second S) (mergeL (listAt S first) (listAt S second)) r v
+  pub merge-leaves : Merged w to first second r v → Leaves S to (combineRules to first second S) (mergeL (listAt S first) (listAt S second)) r v
   merge-leaves = combined-leaves mergeL (λ w l m h k. isList-merge w l m (isList-within w l h) (isList-within w m k))
 
-  pub intersect-leaves : Intersected w to first second r v → Leaves S to (combineNo to first second S) (intersectL (listAt S first) (listAt S second)) r v
+  pub intersect-leaves : Intersected w to first second r v → Leaves S to (combineRules to first second S) (intersectL (listAt S first) (listAt S second)) r v
   intersect-leaves = combined-leaves intersectL (λ w l m h k. isList-intersect w l m (isList-within w l h) (isList-within w m k))
 
-  pub exclude-leaves : Excluded w to first second r v → Leaves S to (combineNo to first second S) (excludeL (listAt S first) (listAt S second)) r v
+  pub exclude-leaves : Excluded w to first second r v → Leaves S to (combineRules to first second S) (excludeL (listAt S first) (listAt S second)) r v
   exclude-leaves = combined-leaves excludeL isList-exclude
 
 -- A source that is the destination reads as empty: where a call is granted, that is.
-pub combineNo-empty : (to first second : ℕ) (S : State) → combineNo to first second S ≡ 0 → listAt S to ≡ []
-unfolding combineNo
-combineNo-empty to first second S e = go (areKnown S first second) (listAt S to) e
-  where
-    go : (b : Bool) (l : List Bits) → _≡_ {A = ℕ} (cond b (cond (isEmpty l) 0 8) 3) 0 → l ≡ []
-    go true [] q = refl
-    go true (p ∷ l) q = absurd (omega arith)
-    go false l q = absurd (omega arith)
+isEmpty-is : (l : List Bits) → not (isEmpty l) ≡ false → l ≡ []
+isEmpty-is [] e = refl
+isEmpty-is (p ∷ l) e = absurd (true≢false e)
 
-pub granted-empty : (to first second : ℕ) (S : State) (l : List Bits) → changeNo S to (combineNo to first second S) l ≡ 0 → listAt S to ≡ []
-granted-empty to first second S l z = combineNo-empty to first second S (changeNo-granted S to (combineNo to first second S) l (sym z) .1)
+pub combineRules-empty : (to first second : ℕ) (S : State) → firstNo (combineRules to first second S) ≡ 0 → listAt S to ≡ []
+unfolding combineRules
+combineRules-empty to first second S e = isEmpty-is (listAt S to) (firstNo-zero (combineRules to first second S) e .1 .1 .0)
+
+pub granted-empty : (to first second : ℕ) (S : State) (l : List Bits) → changeNo S to (combineRules to first second S) l ≡ 0 → listAt S to ≡ []
+granted-empty to first second S l z = combineRules-empty to first second S (changeNo-granted S to (combineRules to first second S) l z .1)
 
 -- A clone: what excluding an empty set leaves.
 pub exclude-empty : (l m : List Bits) → m ≡ [] → excludeL l m ≡ l

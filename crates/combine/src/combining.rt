@@ -7,11 +7,11 @@ use crate::copying::copy;
 use crate::copying::copy_size;
 use crate::copying::is_copy;
 use pool_change::judging::judge;
-use pool_change::judging::too_many;
 use pool_change::relinking::granted;
 use pool_change::relinking::shift_behind;
 use pool_state::Answer;
 use pool_state::Survey;
+use pool_state::Verdict;
 use trie_emit::combining::emit;
 use trie_emit::combining::op_size;
 use trie_emit::emitting::settle;
@@ -72,12 +72,14 @@ pub fn combine(pool: &mut [u32], op: usize, to: u32, first: u32, second: u32) ->
         Asked::Go(v) => {
             let s = sources_of(pool, first, second);
             let n = count(pool, op, s, v) as u32;
-            let no = judge(pool, to, v, n);
-            if no != 0 {
-                return too_many(no);
+            let verdict = judge(pool, to, v, n);
+            match verdict {
+                Verdict::No(no) => Answer::Refused(no),
+                Verdict::Fits => {
+                    write(pool, op, s, v, n);
+                    granted(pool, to, v, n)
+                }
             }
-            write(pool, op, s, v, n);
-            granted(pool, to, v, n)
         }
     }
 }

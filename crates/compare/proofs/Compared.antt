@@ -7,7 +7,7 @@ use Prim.Native.Nat.{ℕ, _+_, _*_, _≤_, _<_}
 use native.Mathlib.Omega.{arith}
 use lib.Dec.{eqb}
 use lib.ListN.{length, getD}
-use borrow.Author.Tests.{lt-ltb, le-ltb, eq-eqb, ne-eqb}
+use borrow.Author.Tests.{le-leb, lt-leb, eq-eqb, ne-eqb}
 use Rattle.nets.specs.Bits.{Bits, equal}
 use Rattle.nets.specs.Tries.{Trie, none, node, size, levels, isNone, listOf, trieOf}
 use Rattle.nets.proofs.Strings.{and-left, and-right, equal-refl, equal-is}
@@ -17,7 +17,7 @@ use Rattle.nodes.proofs.Tries.{some}
 use Rattle.nodes.proofs.Unique.{unique}
 use Rattle.pool_state.specs.States.{State}
 use Rattle.pool_state.specs.Decode.{recordAt, base, rootAt, decode}
-use Rattle.pool_state.specs.Rules.{startOf, surveyOf}
+use Rattle.pool_state.specs.Rules.{answerOn, startOf, surveyOf}
 use Rattle.pool_state.specs.Changes.{listAt}
 use Rattle.pool_state.specs.Steps.{Surveyed}
 use Rattle.pool_state.specs.declared.Survey.{Survey}
@@ -63,22 +63,22 @@ root-le i (node l r) = omega arith
 -- The refusals.
 module _ (w : List ℕ) (first second : ℕ) (v : Survey) (e : v ≡ surveyOf (decode w) first) where
   pub equal-damaged : v .sound ≡ false → (2, false) ≡ equalRule (decode w) first second
-  unfolding equalRule
+  unfolding equalRule answerOn
   equal-damaged q = rw (survey-damaged w first v e q)
 
   module _ (q : v .sound ≡ true) where
     pub equal-first : getD w 2 0 ≤ first → (3, false) ≡ equalRule (decode w) first second
-    unfolding equalRule
+    unfolding equalRule answerOn
     equal-first le =
         let x = survey-sound w first v e q in
-        rw (x .1, le-ltb first (length (x .0 .sets)) (omega (arith, decode-header w (x .0) (x .1) .sets)))
+        rw (x .1, le-leb (length (x .0 .sets)) first (omega (arith, decode-header w (x .0) (x .1) .sets)))
 
     pub equal-second : first < getD w 2 0 → getD w 2 0 ≤ second → (3, false) ≡ equalRule (decode w) first second
-    unfolding equalRule
+    unfolding equalRule answerOn
     equal-second lt le =
         let x = survey-sound w first v e q in
         let n = decode-header w (x .0) (x .1) .sets in
-        rw (x .1, lt-ltb first (length (x .0 .sets)) (omega arith), le-ltb second (length (x .0 .sets)) (omega arith))
+        rw (x .1, lt-leb (length (x .0 .sets)) first (omega arith), le-leb (length (x .0 .sets)) second (omega arith))
 
 -- Two sets that are there.
 module _ {w : List ℕ} {first second : ℕ} {v : Survey} (h : Surveyed w first v) (lt : second < getD w 2 0) where
@@ -102,8 +102,8 @@ module _ {w : List ℕ} {first second : ℕ} {v : Survey} (h : Surveyed w first 
   Agreed c = Agree w (place b (v .at)) (place b (getD w (recordAt second) 0)) (v .held) c
 
   told : (c : Bool) → sameList (listAt state first) (listAt state second) ≡ c → (0, c) ≡ equalRule (decode w) first second
-  unfolding equalRule
-  told c e = rw (one .decoded, lt-ltb first (length (state .sets)) (one .known), lt-ltb second (length (state .sets)) (other .known), e)
+  unfolding equalRule answerOn
+  told c e = rw (one .decoded, lt-leb (length (state .sets)) first (one .known), lt-leb (length (state .sets)) second (other .known), e)
 
   pub equal-places : (place b (v .at) + v .held ≤ length w) × (place b (getD w (recordAt second) 0) + v .held ≤ length w)
   equal-places =

@@ -3,14 +3,15 @@
 --   sameList l m             two lists are one
 --   equalRule d first second     the answer of equal: 2, 3, else whether the two lists are one
 --   Agree w p q n r          r says whether n words from p on are those from q on
-use mathlib.Core.Bool.{Bool, true, false, cond, _&&_}
+use mathlib.Core.Bool.{Bool, true, false, _&&_}
 use mathlib.Core.List.{List, [], _∷_}
 use mathlib.Core.Path.{_≡_}
 use Prim.Native.Nat.{ℕ, _+_, _<_}
 use lib.ListN.{getD}
 use Rattle.nets.specs.Bits.{Bits, equal}
-use Rattle.pool_state.specs.Decode.{Decoded, damaged, sound}
-use Rattle.pool_state.specs.Changes.{listAt, areKnown}
+use Rattle.pool_state.specs.Decode.{Decoded}
+use Rattle.pool_state.specs.Rules.{answerOn, unknown}
+use Rattle.pool_state.specs.Changes.{listAt}
 
 abbrev pub sameList : List Bits → List Bits → Bool
 sameList [] [] = true
@@ -19,8 +20,7 @@ sameList (p ∷ l) [] = false
 sameList (p ∷ l) (q ∷ m) = equal p q && sameList l m
 
 unfoldable pub equalRule : Decoded → ℕ → ℕ → ℕ × Bool
-equalRule damaged first second = (2, false)
-equalRule (sound S) first second = cond (areKnown S first second) (0, sameList (listAt S first) (listAt S second)) (3, false)
+equalRule d first second = answerOn d (λ S. unknown S first ∷ unknown S second ∷ []) false (λ S. sameList (listAt S first) (listAt S second))
 
 abbrev pub Agree : List ℕ → ℕ → ℕ → ℕ → Bool → Type 0
 Agree w p q n true = (k : ℕ) → k < n → getD w (p + k) 0 ≡ getD w (q + k) 0

@@ -8,7 +8,7 @@ use Prim.Native.Nat.{ℕ, _+_, _*_}
 use Rattle.pool_state.specs.Decode.{decode}
 use Rattle.pool_state.specs.Changes.{changeRule, wordsAfter}
 use Rattle.setfile_format.specs.Files.{readFile}
-use Rattle.setfile.specs.Loading.{loadNo, fileList}
+use Rattle.setfile.specs.Loading.{loadRules, fileList}
 
 abbrev pub packed : ℕ × ℕ → ℕ
 packed a = 4294967296 * a .0 + a .1
@@ -17,7 +17,7 @@ abbrev pub packedFlag : ℕ × Bool → ℕ
 packedFlag a = packed (a .0, cond (a .1) 1 0)
 
 abbrev pub loadRule : List ℕ → ℕ → List ℕ → ℕ × ℕ
-loadRule w k d = changeRule (decode w) k (loadNo (readFile d) k) (λ S. fileList (readFile d))
+loadRule w k d = changeRule (decode w) k (loadRules (readFile d) k) (λ S. fileList (readFile d))
 
 abbrev pub loadWords : List ℕ → ℕ → List ℕ → List ℕ
-loadWords w k d = wordsAfter w (decode w) k (loadNo (readFile d) k) (λ S. fileList (readFile d))
+loadWords w k d = wordsAfter w (decode w) k (loadRules (readFile d) k) (λ S. fileList (readFile d))

@@ -6,7 +6,7 @@ use mathlib.Core.List.{List, [], _∷_, map}
 use Prim.Native.Nat.{ℕ, _+_, _≤_, _<_}
 use native.Mathlib.Omega.{arith}
 use lib.ListN.{length}
-use borrow.Author.Tests.{le-leb, lt-leb, ne-eqb}
+use borrow.Author.Tests.{lt-ltb, le-ltb}
 use Rattle.nets.specs.Bits.{before, bits}
 use Rattle.nets.specs.Lists.{isList, nodesL, addL}
 use Rattle.nets.specs.Networks.{width, netBits, inRange, refusalOf}
@@ -14,11 +14,12 @@ use Rattle.nets.specs.declared.Net.{Net}
 use Rattle.nets.specs.declared.Refusal.{Refusal}
 use Rattle.nets.proofs.Answers.{number-some}
 use Rattle.pool_state.specs.States.{SetState, held, used, claimed, claimedBut, freeOf, roomOf, isState}
-use Rattle.pool_state.specs.Decode.{Decoded, damaged, sound, decode}
-use Rattle.pool_state.specs.Rules.{answerAs, layoutNo, freeRule}
-use Rattle.pool_state.specs.Changes.{setAt, listAt, withList, changeNo, netNo, changeRule, wordsAfter}
+use Rattle.pool_state.specs.Decode.{sound, decode}
+use Rattle.pool_state.specs.Rules.{answerOn, answerAs, layoutNo, freeRule}
+use Rattle.pool_state.specs.Changes.{setAt, listAt, withList, changeRules, netRules, changeRule, wordsAfter}
 use Rattle.pool_state.specs.declared.Answer.{Answer}
 use Rattle.pool_state.specs.declared.Answer.the-variants as answer
+use Rattle.pool_state.proofs.Answered.{leftOn-refused}
 use Rattle.pool_state.proofs.Claims.{isList-listAt, held-limit, freeOf-is}
 use Rattle.pool_state.proofs.Decoded.{decode-state, decode-laid}
 use Rattle.pool_state.proofs.Determined.{answerAs-one}
@@ -35,11 +36,7 @@ call-determined {r = r} {s = s} c h k = (answerAs-one r s (h .answer ∙ sym (k 
 -- "A refusal returns its number and zeros elsewhere, and no lent word changes."
 pub refused-same : {w v : List ℕ} {x : Refusal} (c : Call) → Outcome w c (answer.Refused x) v → v ≡ w
 unfolding changeRule wordsAfter
-refused-same {w} {x = x} c o = o .words ∙ go (decode w) (o .answer)
-  where
-    go : (D : Decoded) → answerAs (answer.Refused x) ≡ changeRule D (target c) (argsNo c) (resultOf c) → wordsAfter w D (target c) (argsNo c) (resultOf c) ≡ w
-    go damaged e = refl
-    go (sound S) e = rw (ne-eqb (callNo S c) 0 (λ q. number-some x (ap (λ a. a .0) e ∙ q)))
+refused-same {w} {x = x} c o = o .words ∙ leftOn-refused _ 0 _ w _ (decode w) (λ q. number-some x (ap (λ a. a .0) (o .answer) ∙ q))
 
 -- The state of a history.
 stateOf-numbers : (p : Setup) (cs : List Call) → (stateOf p cs .family ≡ p .family) × (stateOf p cs .nodes ≡ p .nodes)
@@ -74,7 +71,7 @@ module _ {p : Setup} {cs : List Call} {rs : List Answer} {v : List ℕ} (h : His
 
   -- "The free report equals the pool's nodes less the nodes of all lists."
   pub free-exact : (freeRule (decode v) ≡ (0, freeOf (stateOf p cs))) × (freeOf (stateOf p cs) + used (stateOf p cs .sets) ≡ p .nodes)
-  unfolding freeRule
+  unfolding freeRule answerOn
   free-exact = (rw (history-sound h), freeOf-is (stateOf p cs) history-state ∙ stateOf-numbers p cs .1)
 
 -- A further call.
@@ -97,7 +94,7 @@ module _ {p : Setup} {cs : List Call} {rs : List Answer} {w v : List ℕ} {r : A
       × (roomOf (stateOf p cs) (target c) < nodesL (resultOf c (stateOf p cs)) → answerAs r .0 ≡ 10)
   room-exact lt a le =
       let e = number-is ∙ callNo-room (stateOf p cs) c lt a le in
-      (λ k. rw (le-leb _ _ k) at e, λ k. rw (lt-leb _ _ k) at e)
+      (λ k. rw (le-ltb _ _ k) at e, λ k. rw (lt-ltb _ _ k) at e)
 
 -- "merge, intersect and exclude write a third set": every call writes one set; the list of no other changes, and no share and no limit.
 pub only-written : (p : Setup) (cs : List Call) (c : Call) (j : ℕ)
@@ -138,5 +135,5 @@ pub worked-pool : (answersOf pool100 (add 1 (net 59) ∷ []) ≡ (0, 60) ∷ [])
     × (answersOf pool100 (add 1 (net 80) ∷ []) ≡ (9, 0) ∷ [])
     × (answersOf pool100 (add 0 (net 39) ∷ add 1 (net 59) ∷ []) ≡ (0, 40) ∷ (0, 60) ∷ [])
     × (answersOf pool100 (add 0 (net 40) ∷ add 1 (net 59) ∷ []) ≡ (10, 0) ∷ (0, 60) ∷ [])
-unfolding stateOf answersOf stateAfter changeNo withList netNo refusalOf inRange width netBits bits addL nodesL before claimedBut claimed
+unfolding stateOf answersOf stateAfter changeRules withList netRules refusalOf inRange width netBits bits addL nodesL before claimedBut claimed
 worked-pool = (refl, refl, refl, refl, refl, refl)

@@ -17,10 +17,10 @@ use Rattle.nets.proofs.Answers.{number-some}
 use Rattle.nets.proofs.TrieOf.{isList-within}
 use Rattle.nets.proofs.MergeOrder.{merge-order, mergedL-same}
 use Rattle.pool_state.specs.States.{SetState, claimed, claimedBut}
-use Rattle.pool_state.specs.Changes.{listAt, withList, changeNo, netNo}
+use Rattle.pool_state.specs.Changes.{listAt, withList, changeRules, netRules}
 use Rattle.pool_state.specs.declared.Answer.{Answer}
 use Rattle.pool_state.specs.declared.Answer.the-variants as answer
-use Rattle.combine.specs.Rules.{combineNo}
+use Rattle.combine.specs.Rules.{combineRules}
 use Rattle.histories.specs.Calls.{Call, add, merge, target, resultOf, callNo, stateAfter, Outcome}
 use Rattle.histories.specs.Histories.{Setup, stateOf, answersOf, History, step}
 use Rattle.histories.specs.Merges.{MergedSince, since, merged, other, refused}
@@ -102,8 +102,8 @@ pub worked-merges : (answersOf pool5 through3 ≡ (0, 7) ∷ (0, 8) ∷ added)
     × (answersOf pool5 (merge 3 2 1 ∷ three) ≡ (9, 0) ∷ added)
     × (listAt (stateOf pool5 through3) 4 ≡ netBits (net 8 6) ∷ [])
     × (listAt (stateOf pool5 through4) 3 ≡ netBits (net 8 6) ∷ [])
-unfolding stateOf answersOf stateAfter changeNo withList netNo refusalOf inRange width netBits bits addL nodesL before claimedBut claimed
-    combineNo mergeL simplifyL listOf trieOf simplifyT insertT levels
+unfolding stateOf answersOf stateAfter changeRules withList netRules refusalOf inRange width netBits bits addL nodesL before claimedBut claimed
+    combineRules mergeL simplifyL listOf trieOf simplifyT insertT levels
 worked-merges = (refl, refl, refl, refl, refl)
 
 -- the same by the law, of all histories in which these merges are granted

@@ -5,16 +5,17 @@ use mathlib.Core.Bool.{Bool, true, false, cond}
 use mathlib.Core.List.{List, [], _∷_, map}
 use Prim.Native.Nat.{ℕ}
 use native.Mathlib.Omega.{arith}
-use lib.Dec.{eqb, ltb}
+use lib.Dec.{eqb}
 use lib.ListN.{length}
 use borrow.Author.Tests.{eqb-true, eqb-false}
 use Rattle.nets.specs.Lists.{nodesL}
+use Rattle.nets.specs.Refusals.{answered, firstNo}
 use Rattle.pool_state.specs.States.{SetState, State, isState}
 use Rattle.pool_state.specs.Decode.{decode}
-use Rattle.pool_state.specs.Rules.{answerAs, onSet}
+use Rattle.pool_state.specs.Rules.{answerOn, unknown, answerAs, onSet}
 use Rattle.pool_state.specs.Changes.{listAt, setWith}
 use Rattle.pool_state.specs.declared.Answer.{Answer}
-use Rattle.histories.specs.Calls.{Call, target, argsNo, resultOf, callNo, answerOf, stateAfter}
+use Rattle.histories.specs.Calls.{Call, target, rulesOf, resultOf, callNo, answerOf, stateAfter}
 use Rattle.histories.specs.Histories.{Setup, emptyState, stateOf, answersOf, History, begin, step, callsOn, answersOn, Alone, AllAlone}
 use Rattle.histories.proofs.Step.{SameAt, sameAt-list, call-same, changeNo-share, stateAfter-numbers, stateAfter-other, stateAfter-own, isState-after}
 use Rattle.histories.proofs.Histories.{answers-one, history-sound, history-state, history-answer}
@@ -31,17 +32,17 @@ sameAt-sym h = record { family = sym (h .family); sets = sym (h .sets); set = sy
 alone-same : (c : Call) {S T : State} → SameAt (target c) S T → Alone S c → Alone T c
 alone-same c {S} {T} h a =
     let (x, y) = call-same c S T (a .names) h in
-    record { names = a .names; fits = λ q. omega (arith, a .fits (x ∙ q), ap nodesL y, ap (λ (s : SetState). s .share) (h .set)) }
+    record { names = a .names; fits = λ q. omega (arith, a .fits (ap firstNo x ∙ q), ap nodesL y, ap (λ (s : SetState). s .share) (h .set)) }
 
 module _ (c : Call) {S T : State} (i : isState S ≡ true) (j : isState T ≡ true) (h : SameAt (target c) S T) (a : Alone T c) where
-  same : (argsNo c S ≡ argsNo c T) × (resultOf c S ≡ resultOf c T)
+  same : (rulesOf c S ≡ rulesOf c T) × (resultOf c S ≡ resultOf c T)
   same = call-same c S T (a .names) h
 
   callNo-alone : callNo S c ≡ callNo T c
   callNo-alone =
       rw (
-        changeNo-share S (target c) (argsNo c S) (resultOf c S) i (alone-same c (sameAt-sym h) a .fits),
-        changeNo-share T (target c) (argsNo c T) (resultOf c T) j (a .fits),
+        changeNo-share S (target c) (rulesOf c S) (resultOf c S) i (alone-same c (sameAt-sym h) a .fits),
+        changeNo-share T (target c) (rulesOf c T) (resultOf c T) j (a .fits),
         same .0,
         same .1,
         h .sets,
@@ -131,7 +132,8 @@ module _ {p : Setup} {cs ds : List Call} {rs ss : List Answer} {u v : List ℕ} 
 
   -- "The free report is excepted." Every report that depends on the family and on the set's list, share and limit is the same.
   pub two-reports : {A : Type 0} (z : A) (f : ℕ → SetState → A) → onSet (decode u) k z (λ S s. f (S .family) s) ≡ onSet (decode v) k z (λ S s. f (S .family) s)
+  unfolding answerOn
   two-reports z f =
       let x = sameAt-two in
       rw (history-sound h, history-sound g, x .sets, x .family)
-      (ap (λ s. cond (ltb k (length (stateOf p ds .sets))) (0, f (stateOf p ds .family) s) (3, z)) (x .set))
+      (ap (λ s. answered (firstNo (unknown (stateOf p ds) k ∷ [])) z (f (stateOf p ds .family) s)) (x .set))

@@ -1,26 +1,27 @@
--- The calls that change a set. Four things say what a call is: the set that it writes, whether it names another, the number that its arguments get, and the list that is its
+-- The calls that change a set. Four things say what a call is: the set that it writes, whether it names another, the rules of its arguments, and the list that is its
 -- result. All else is said once for every call, so a further call is one more case of each.
 --
 --   target c, namesOne c      the set that c writes;  c names no other set
---   argsNo c S, resultOf c S  the number that the arguments of c get in the state S, 0 where they are right;  the list that c makes of the lists of S
+--   rulesOf c S, resultOf c S  the rules of the arguments of c in the state S;  the list that c makes of the lists of S
+--   argsNo c S                the number that the arguments get, 0 where they are right
 --   callNo S c, answerOf S c  the number of the answer, and the answer whole
 --   stateAfter S c            the state that c leaves
 --   Outcome w c r v           what the contracts allow: from the words w the call c answers r and leaves the words v
 use mathlib.Core.Bool.{Bool, true, cond, _&&_}
-use mathlib.Core.List.{List}
+use mathlib.Core.List.{List, []}
 use Prim.Native.Nat.{ℕ}
 use lib.Dec.{eqb}
 use Rattle.nets.specs.Bits.{Bits}
 use Rattle.nets.specs.Lists.{nodesL, addL, removeL, simplifyL, mergeL, intersectL, excludeL}
 use Rattle.nets.specs.Networks.{netBits}
-use Rattle.nets.specs.Refusals.{answered}
+use Rattle.nets.specs.Refusals.{answered, Rule, firstNo}
 use Rattle.nets.specs.declared.Net.{Net}
 use Rattle.pool_state.specs.States.{State}
-use Rattle.pool_state.specs.Changes.{listAt, withList, changeNo, Changed, netNo}
+use Rattle.pool_state.specs.Changes.{listAt, withList, changeNo, Changed, netRules}
 use Rattle.pool_state.specs.declared.Answer.{Answer}
-use Rattle.combine.specs.Rules.{combineNo}
+use Rattle.combine.specs.Rules.{combineRules}
 use Rattle.setfile_format.specs.Files.{readFile}
-use Rattle.setfile.specs.Loading.{loadNo, fileList}
+use Rattle.setfile.specs.Loading.{loadRules, fileList}
 
 -- a set and a network; a set; the set to write and the two to read; a set and the bytes of a file
 pub data Call : Type 0 where
@@ -47,14 +48,17 @@ namesOne (intersect to a b) = eqb a to && eqb b to
 namesOne (exclude to a b) = eqb a to && eqb b to
 namesOne (load k d) = true
 
+abbrev pub rulesOf : Call → State → List Rule
+rulesOf (add k n) = netRules n
+rulesOf (remove k n) = netRules n
+rulesOf (simplify k) = λ S. []
+rulesOf (merge to a b) = combineRules to a b
+rulesOf (intersect to a b) = combineRules to a b
+rulesOf (exclude to a b) = combineRules to a b
+rulesOf (load k d) = loadRules (readFile d) k
+
 abbrev pub argsNo : Call → State → ℕ
-argsNo (add k n) = netNo n
-argsNo (remove k n) = netNo n
-argsNo (simplify k) = λ S. 0
-argsNo (merge to a b) = combineNo to a b
-argsNo (intersect to a b) = combineNo to a b
-argsNo (exclude to a b) = combineNo to a b
-argsNo (load k d) = loadNo (readFile d) k
+argsNo c S = firstNo (rulesOf c S)
 
 abbrev pub resultOf : Call → State → List Bits
 resultOf (add k n) = λ S. addL (listAt S k) (netBits n)
@@ -66,7 +70,7 @@ resultOf (exclude to a b) = λ S. excludeL (listAt S a) (listAt S b)
 resultOf (load k d) = λ S. fileList (readFile d)
 
 abbrev pub callNo : State → Call → ℕ
-callNo S c = changeNo S (target c) (argsNo c S) (resultOf c S)
+callNo S c = changeNo S (target c) (rulesOf c S) (resultOf c S)
 
 abbrev pub answerOf : State → Call → ℕ × ℕ
 answerOf S c = answered (callNo S c) 0 (nodesL (resultOf c S))
@@ -75,4 +79,4 @@ unfoldable pub stateAfter : State → Call → State
 stateAfter S c = cond (eqb (callNo S c) 0) (withList S (target c) (resultOf c S)) S
 
 abbrev pub Outcome : List ℕ → Call → Answer → List ℕ → Type 0
-Outcome w c r v = Changed w (target c) (argsNo c) (resultOf c) r v
+Outcome w c r v = Changed w (target c) (rulesOf c) (resultOf c) r v

@@ -13,7 +13,8 @@ use Rattle.nets.specs.declared.Net.{Net}
 use Rattle.text.specs.Ipv4.{readLine}
 use Rattle.pool_state.specs.States.{State}
 use Rattle.pool_state.specs.Decode.{sound, decode}
-use Rattle.pool_state.specs.Changes.{listAt, withList, changeNo, changeRule, netNo}
+use Rattle.pool_state.specs.Changes.{listAt, withList, changeNo, changeRule, netRules}
+use Rattle.pool_state.specs.Rules.{answerOn}
 use Rattle.pool_state.specs.declared.Answer.the-variants.{Granted}
 use Rattle.pool_state.proofs.WithList.{length-withList, withList-list}
 use Rattle.change.specs.Calls.{listWith, Added}
@@ -22,12 +23,12 @@ use Rattle.lines.specs.Lines.{addNo, addWords, lineNo, wordsWith, taken,
 
 -- An added network.
 module _ (w : List ℕ) (S : State) (n : Net) (d : decode w ≡ sound S) (e : addNo w n ≡ 0) where
-  granted : changeNo S 0 (netNo n S) (listWith 0 n S) ≡ 0
-  unfolding changeRule
-  granted = sym (ap (λ D. changeRule D 0 (netNo n) (listWith 0 n) .0) d) ∙ e
+  granted : changeNo S 0 (netRules n S) (listWith 0 n S) ≡ 0
+  unfolding changeRule answerOn
+  granted = sym (ap (λ D. changeRule D 0 (netRules n) (listWith 0 n) .0) d) ∙ e
 
   added : Added w 0 n (Granted (nodesL (listWith 0 n S))) (addWords w n)
-  unfolding changeRule
+  unfolding changeRule answerOn
   added = record { answer = rw (d, granted); words = refl }
 
   decode-added : decode (addWords w n) ≡ sound (withList S 0 (listWith 0 n S))

@@ -12,12 +12,11 @@ use Rattle.nets.specs.declared.Net.{Net}
 use Rattle.nets.specs.declared.Refusal.{Refusal}
 use Rattle.nets.specs.declared.Taken.{Taken}
 use Rattle.nets.specs.declared.Taken.the-variants as taken
-use Rattle.nets.specs.Bits.{Bits}
-use Rattle.pool_state.specs.States.{State}
-use Rattle.pool_state.specs.Decode.{Decoded, damaged, sound, decode}
-use Rattle.pool_state.specs.Changes.{changeNo, changeRule, wordsAfter, netNo}
+use Rattle.pool_state.specs.Decode.{decode}
+use Rattle.pool_state.specs.Changes.{changeRule, wordsAfter, netRules}
 use Rattle.pool_state.specs.Rules.{answerAs}
 use Rattle.pool_state.specs.declared.Answer.{Answer}
+use Rattle.pool_state.proofs.Answered.{leftOn-refused}
 use Rattle.change.specs.Calls.{listWith, Added}
 use Rattle.text.specs.Ipv4.{readLine}
 use Rattle.lines.specs.Lines.{lineNo, wordsWith}
@@ -36,19 +35,14 @@ took-added {t} {n} {a} {no} w l v e h d k =
     rw q (k ∙ ap (λ p. p .0) (d .answer), d .words)
 
 -- A refused line leaves the words.
-wordsAfter-refused : (w : List ℕ) (D : Decoded) (k : ℕ) (a : State → ℕ) (f : State → List Bits) → (changeRule D k a f .0 ≡ 0 → ⊥) → wordsAfter w D k a f ≡ w
-unfolding changeRule wordsAfter
-wordsAfter-refused w damaged k a f ne = refl
-wordsAfter-refused w (sound S) k a f ne = rw (ne-eqb (changeNo S k (a S) (f S)) 0 ne)
-
 pub wordsWith-refused : (w l : List ℕ) → (lineNo w l ≡ 0 → ⊥) → wordsWith w l ≡ w
-unfolding lineNo wordsWith
+unfolding lineNo wordsWith changeRule wordsAfter
 wordsWith-refused w l ne = go (eqb (readLine l .0) 0) ne
   where
     n : Net
     n = readLine l .1
 
-    go : (b : Bool) → (cond b (changeRule (decode w) 0 (netNo n) (listWith 0 n) .0) (readLine l .0) ≡ 0 → ⊥)
-        → cond b (wordsAfter w (decode w) 0 (netNo n) (listWith 0 n)) w ≡ w
-    go true h = wordsAfter-refused w (decode w) 0 (netNo n) (listWith 0 n) h
+    go : (b : Bool) → (cond b (changeRule (decode w) 0 (netRules n) (listWith 0 n) .0) (readLine l .0) ≡ 0 → ⊥)
+        → cond b (wordsAfter w (decode w) 0 (netRules n) (listWith 0 n)) w ≡ w
+    go true h = leftOn-refused _ 0 _ w _ (decode w) h
     go false h = refl

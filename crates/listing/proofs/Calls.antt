@@ -5,12 +5,11 @@ use mathlib.Core.Bool.{Bool, true, false}
 use mathlib.Core.List.{List}
 use Prim.Native.Nat.{ℕ, _+_, _*_, _≤_, _<_}
 use native.Mathlib.Omega.{arith}
-use lib.Dec.{eqb}
 use lib.ListN.{length, getD}
-use borrow.Author.Tests.{lt-ltb, le-ltb, le-leb, lt-leb, ne-eqb}
+use borrow.Author.Tests.{lt-leb}
 use Rattle.nets.specs.Lists.{past, Found, found, missing, nextL}
-use Rattle.nets.specs.Networks.{refusalOf, startOf, noBits, prefixAs}
-use Rattle.nets.specs.Refusals.{number, answered}
+use Rattle.nets.specs.Networks.{isFamily, refusalOf, startOf, noBits, prefixAs}
+use Rattle.nets.specs.Refusals.{number, answered, firstNo}
 use Rattle.nets.specs.Tries.{Trie, listOf}
 use Rattle.nets.specs.declared.Net.{Net}
 use Rattle.nets.specs.declared.Prefix.{Prefix}
@@ -19,22 +18,26 @@ use Rattle.nets.specs.declared.PrefixBits.{PrefixBits}
 use Rattle.nets.specs.declared.Refusal.{Refusal}
 use Rattle.nets.specs.declared.Refusal.the-variants.{Damaged, NoSet, ShortBuffer}
 use Rattle.nets.proofs.Numbers.{bitsLeft-start, startOf-few, family-few}
-use Rattle.nets.proofs.Answers.{number-some, prefix-bits}
+use Rattle.nets.proofs.Answers.{number-some, prefix-bits, prefix-refused}
 use Rattle.nodes.specs.Words.{put}
 use Rattle.pool_state.specs.States.{State}
-use Rattle.pool_state.specs.Decode.{Decoded, damaged, sound, base, decode}
-use Rattle.pool_state.specs.Rules.{surveyOf}
+use Rattle.pool_state.specs.Decode.{Decoded, sound, base, decode}
+use Rattle.pool_state.specs.Rules.{answerAs, surveyOf}
 use Rattle.pool_state.specs.Changes.{listAt}
+use Rattle.pool_state.specs.Steps.{Refuses}
+use Rattle.pool_state.specs.declared.Answer.{Answer}
 use Rattle.pool_state.specs.declared.Answer.the-variants as answer
 use Rattle.pool_state.specs.declared.Survey.{Survey}
+use Rattle.pool_state.proofs.Answered.{owes-refused, owes-granted, owes-seat, firstNo-short, firstNo-fits}
+use Rattle.pool_state.proofs.Claims.{isState-family}
 use Rattle.pool_state.proofs.Header.{isHeader-header}
-use Rattle.pool_state.proofs.Decoded.{decode-header, decode-set}
-use Rattle.pool_state.proofs.Seen.{Seen, trieAt, behind, survey-sound, survey-damaged, survey-seen, seen-header, seen-segment, seen-list}
+use Rattle.pool_state.proofs.Decoded.{decode-header, decode-state, decode-set}
+use Rattle.pool_state.proofs.Seen.{Seen, trieAt, behind, refuses-damaged, refuses-noset, survey-seen, seen-header, seen-segment, seen-list}
 use Rattle.trie_paths.specs.Rows.{rowsOf}
 use Rattle.trie_paths.specs.Spans.{Holds}
-use Rattle.listing.specs.Seats.{seatAt, Sits, Refuses, Seats}
+use Rattle.listing.specs.Seats.{seatAt, Sits, Seats}
 use Rattle.trie_paths.specs.Laying.{rowForm, tallied, clear, Starts, Layable, laid}
-use Rattle.listing.specs.Calls.{listNo, listRule, rowsAfter, Listed, placeFrom, nothing, foundAs, nextNo, nextRule}
+use Rattle.listing.specs.Calls.{listRules, listRule, rowsAfter, Listed, fromRules, placeFrom, nothing, foundAs, nextRules, nextRule}
 use Rattle.trie_next.specs.Following.{placeOf, nextAs}
 use Rattle.listing.specs.Places.{Numbers, Right}
 use Rattle.listing.specs.declared.From.{From}
@@ -48,15 +51,15 @@ use Rattle.listing.specs.declared.seats.Seated.the-variants.{Refused}
 use Rattle.trie_paths.proofs.Reading.{spans-small}
 use Rattle.trie_paths.proofs.Counting.{listOf-size}
 use Rattle.trie_paths.proofs.RowForm.{rows-laid}
-use Rattle.pool_state.proofs.Returns.{netNo-own, netNo-other}
+use Rattle.pool_state.proofs.Returns.{netRules-own, netRules-other}
 
 -- Where the trie of a set stands.
 module _ (w : List ℕ) (k : ℕ) (v : Survey) (e : v ≡ surveyOf (decode w) k) where
   pub seat-damaged : v .sound ≡ false → Seats w k (Refused Damaged)
-  seat-damaged q = rw (survey-damaged w k v e q) refl
+  seat-damaged q = refuses-damaged w k v e q
 
   pub seat-noset : v .sound ≡ true → getD w 2 0 ≤ k → Seats w k (Refused NoSet)
-  seat-noset q le = let x = survey-sound w k v e q in rw (x .1) (omega (arith, decode-header w (x .0) (x .1) .sets), refl)
+  seat-noset q le = refuses-noset w k v e q le
 
 module _ {w : List ℕ} {S : State} {k : ℕ} {v : Survey} (h : Seen w S k v) where
   pub seat-family : getD w 1 0 ≤ 6
@@ -82,19 +85,12 @@ sits-at w S k d lt =
     rw (r .seat) at r
 
 -- The returns of list.
-listRule-refused : (d : Decoded) (k n x : ℕ) → Refuses d k x → (x, 0) ≡ listRule d k n
-unfolding listRule listNo
-listRule-refused damaged k n x e = ap (λ y. (y, 0)) e
-listRule-refused (sound S) k n x e = rw (e .1, le-ltb k (length (S .sets)) (e .0))
-
-rowsAfter-refused : (d : Decoded) (k x : ℕ) (v : List ℕ) → Refuses d k x → v ≡ rowsAfter v d k
-unfolding rowsAfter listNo
-rowsAfter-refused damaged k x v e = refl
-rowsAfter-refused (sound S) k x v e = rw (le-ltb k (length (S .sets)) (e .0))
+listed : {w v u : List ℕ} {k : ℕ} {r : Answer} → (answerAs r ≡ listRule (decode w) k (length v)) × (u ≡ rowsAfter v (decode w) k) → Listed w k v r u
+listed h = record { answer = h .0; rows = h .1 }
 
 pub list-refused : {w v : List ℕ} {k : ℕ} (x : Refusal) → Seats w k (Refused x) → Listed w k v (answer.Refused x) v
-list-refused {w} {v} {k} x e =
-    record { answer = listRule-refused (decode w) k (length v) (number x) e; rows = rowsAfter-refused (decode w) k (number x) v e }
+unfolding listRule rowsAfter listRules
+list-refused {w} {v} {k} x e = listed (owes-seat _ 0 _ v _ (decode w) k e)
 
 module _ {w : List ℕ} {k : ℕ} {S : State} {s : Seat} (h : Sits w k S s) {n : ℕ} (c : n ≡ length (listOf (trieAt S k))) where
   counted : n ≡ length (listAt S k)
@@ -108,47 +104,41 @@ module _ {w : List ℕ} {k : ℕ} {S : State} {s : Seat} (h : Sits w k S s) {n :
   list-layable e q le = record { holds = h .holds; starts = rw e at q; fits = omega arith }
 
   pub list-short : {v : List ℕ} → length v < 3 * n → Listed w k v (answer.Refused ShortBuffer) v
-  unfolding listRule rowsAfter listNo
-  list-short {v} lt =
-      let l = lt-ltb k (length (S .sets)) (h .known) in
-      let m = lt-leb (3 * length (listAt S k)) (length v) (rw counted at lt) in
-      record { answer = rw (h .decoded, l, m); rows = rw (h .decoded, l, m) }
+  unfolding listRule rowsAfter listRules
+  list-short {v} lt = listed (owes-refused _ 0 _ v _ (h .decoded) (firstNo-short S k (h .known) (rw counted at lt)) (number-some ShortBuffer))
 
   pub list-granted : {v u : List ℕ} → 3 * n ≤ length v → u ≡ laid (rowForm (s .family)) v (trieAt S k) → Listed w k v (answer.Granted n) u
-  unfolding listRule rowsAfter listNo
+  unfolding listRule rowsAfter listRules
   list-granted {v} {u} le f =
-      let l = lt-ltb k (length (S .sets)) (h .known) in
-      let m = le-leb (3 * length (listAt S k)) (length v) (rw counted at le) in
       let g : u ≡ put v 0 (rowsOf (S .family) (listAt S k)) = rw (h .list, h .family) at (f ∙ rows-laid (s .family) (trieAt S k) v) in
-      record { answer = rw (h .decoded, l, m) (ap (λ x. (0, x)) counted); rows = rw (h .decoded, l, m) g }
+      rw (counted, g) (listed (owes-granted _ 0 _ v _ (h .decoded) (firstNo-fits S k (h .known) (rw counted at le))))
 
 -- A place as an argument.
 pub place-start : {f : ℕ} {x : From} → x ≡ from.Start → Right f x place.Start
-place-start e = rw e (record { right = λ S q. refl; place = refl; short = omega arith })
+place-start e = rw e (record { right = λ S o q. refl; place = refl; short = omega arith })
 
 module _ {f : ℕ} {x : From} (n : Net) (e : x ≡ from.Past n) where
   pub place-family : (n .family ≡ f → ⊥) → Numbers f x 6
-  place-family ne S q = rw e (netNo-other n S (λ z. ne (z ∙ sym q)))
+  place-family ne S o q = rw e (netRules-other n S (λ z. ne (z ∙ sym q)))
 
   module _ (own : n .family ≡ f) (p : Prefix) (g : prefixAs p ≡ answered (refusalOf n) noBits (startOf n)) where
     pub place-refused : (r : Refusal) → p ≡ prefix.Refused r → Numbers f x (number r)
-    place-refused r h S q = rw e (netNo-own n S (own ∙ q) ∙ ap (λ y. y .0) (sym g ∙ ap prefixAs h))
+    place-refused r h S o q = rw e (netRules-own n S o (own ∙ q) ∙ prefix-refused n p r g h)
 
     pub place-past : (s : PrefixBits) → p ≡ prefix.Bits s → Right f x (place.Past s)
     place-past s h =
         let y = prefix-bits n p s g h in
         rw e
         (record {
-          right = λ S q. netNo-own n S (own ∙ q) ∙ y .0;
+          right = λ S o q. netRules-own n S o (own ∙ q) ∙ y .0;
           place = rw (y .1) (ap past (bitsLeft-start n (y .0)));
           short = rw (y .1) (startOf-few n (y .0));
         })
 
 -- The returns of next.
 pub next-refused : (d : Decoded) (k x : ℕ) (y : From) → Refuses d k x → (x, nothing) ≡ nextRule d k y
-unfolding nextRule nextNo
-next-refused damaged k x y e = ap (λ z. (z, nothing)) e
-next-refused (sound S) k x y e = rw (e .1, le-ltb k (length (S .sets)) (e .0))
+unfolding nextRule nextRules
+next-refused d k x y e = owes-seat _ nothing _ d (λ S. d) d k e .0
 
 -- what `next_after` found, as a value of the answer
 abbrev netIn : Next → Bool × Net
@@ -160,9 +150,19 @@ foundAs-next f (found p) = refl
 foundAs-next f missing = refl
 
 module _ {w : List ℕ} {k : ℕ} {S : State} {s : Seat} (h : Sits w k S s) (x : From) where
+  abbrev d : Decoded
+  d = decode w
+
+  family : isFamily (S .family) ≡ true
+  family = isState-family S (decode-state w S (h .decoded))
+
+  pub numbered : {n : ℕ} → firstNo (fromRules x S) ≡ n → firstNo (nextRules k x S) ≡ n
+  unfolding nextRules
+  numbered e = rw (lt-leb (length (S .sets)) k (h .known)) e
+
   pub next-misplaced : (r : Refusal) → Numbers (s .family) x (number r) → (number r, nothing) ≡ nextRule (decode w) k x
-  unfolding nextRule nextNo
-  next-misplaced r e = rw (h .decoded, lt-ltb k (length (S .sets)) (h .known), e S (h .family), ne-eqb (number r) 0 (number-some r))
+  unfolding nextRule
+  next-misplaced r e = owes-refused _ nothing _ d (λ T. d) (h .decoded) (numbered (e S family (h .family))) (number-some r) .0
 
   module _ {p : Place} (q : Right (s .family) x p) {z : Next}
       (g : (t : Trie) → Holds w (s .base) (s .first) (s .end) (s .family) t → z ≡ nextAs (s .family) (nextL (listOf t) (placeOf p))) where
@@ -170,8 +170,8 @@ module _ {w : List ℕ} {k : ℕ} {S : State} {s : Seat} (h : Sits w k S s) (x :
     nexts = rw (h .list, h .family, q .place) at (g (trieAt S k) (h .holds))
 
     granted : nextRule (decode w) k x ≡ (0, foundAs (S .family) (nextL (listAt S k) (placeFrom x)))
-    unfolding nextRule nextNo
-    granted = rw (h .decoded, lt-ltb k (length (S .sets)) (h .known), q .right S (h .family))
+    unfolding nextRule
+    granted = sym (owes-granted _ nothing _ d (λ T. d) (h .decoded) (numbered (q .right S family (h .family))) .0)
 
     sees : foundAs (S .family) (nextL (listAt S k) (placeFrom x)) ≡ netIn z
     sees = foundAs-next (S .family) (nextL (listAt S k) (placeFrom x)) ∙ ap netIn (sym nexts)

@@ -6,11 +6,10 @@ use Prim.Native.Nat.{ℕ, _*_, _≤_, _<_}
 use native.Mathlib.Nat.{zero-add}
 use native.Mathlib.Omega.{arith}
 use lib.ListN.{length, getD}
-use borrow.Author.Tests.{lt-ltb, le-ltb, le-leb, lt-leb, ne-eqb}
 use Rattle.nets.specs.Bits.{Bits}
 use Rattle.nets.specs.Lists.{found, missing, nextL}
 use Rattle.nets.specs.Networks.{netFrom}
-use Rattle.nets.specs.Refusals.{number}
+use Rattle.nets.specs.Refusals.{number, firstNo}
 use Rattle.nets.specs.declared.Refusal.{Refusal}
 use Rattle.nets.specs.declared.Refusal.the-variants.{Damaged, NoSet, ShortBuffer}
 use Rattle.nets.proofs.Answers.{number-one, number-some}
@@ -21,10 +20,12 @@ use Rattle.pool_state.specs.Decode.{damaged, sound, decode}
 use Rattle.pool_state.specs.Changes.{listAt}
 use Rattle.pool_state.specs.declared.Answer.{Answer}
 use Rattle.pool_state.specs.declared.Answer.the-variants as answer
-use Rattle.pool_state.proofs.Determined.{answerAs-one}
+use Rattle.pool_state.proofs.Answered.{owes-damaged, owes-refused, owes-granted, owes-seat, firstNo-short, firstNo-fits}
+use Rattle.pool_state.proofs.Determined.{answerAs-one, owed-one}
 use Rattle.trie_paths.specs.Rows.{rowsOf}
-use Rattle.listing.specs.Calls.{listNo, listRule, rowsAfter, Listed, fromNo, placeFrom, foundAs, followerAs, nextNo, nextRule}
+use Rattle.listing.specs.Calls.{listRules, listRule, rowsAfter, Listed, fromRules, placeFrom, nothing, foundAs, followerAs, nextRules, nextRule}
 use Rattle.trie_paths.proofs.RowForm.{length-rowsOf}
+use Rattle.listing.proofs.Calls.{sits-at, numbered, next-refused}
 use Rattle.listing.specs.declared.From.{From}
 use Rattle.listing.specs.declared.Follower.{Follower}
 use Rattle.listing.specs.declared.Follower.the-variants.{Network, End, Refused}
@@ -51,27 +52,21 @@ next-determined w k x r s e f = followerAs-one r s (e ∙ sym f)
 module _ {w v u : List ℕ} {k : ℕ} {r : Answer} (h : Listed w k v r u) where
   pub list-damaged : decode w ≡ damaged → (r ≡ answer.Refused Damaged) × (u ≡ v)
   unfolding listRule rowsAfter
-  list-damaged d = (answerAs-one r (answer.Refused Damaged) (h .answer ∙ rw d), h .rows ∙ rw d)
+  list-damaged d = owed-one r (answer.Refused Damaged) (h .answer, h .rows) (owes-damaged _ 0 _ v _ d)
 
   module _ (S : State) (d : decode w ≡ sound S) where
     pub list-noset : length (S .sets) ≤ k → (r ≡ answer.Refused NoSet) × (u ≡ v)
-    unfolding listRule rowsAfter listNo
-    list-noset le = let l = le-ltb k (length (S .sets)) le in (answerAs-one r (answer.Refused NoSet) (h .answer ∙ rw (d, l)), h .rows ∙ rw (d, l))
+    unfolding listRule rowsAfter listRules
+    list-noset le = owed-one r (answer.Refused NoSet) (h .answer, h .rows) (owes-seat _ 0 _ v _ (decode w) k (rw d (le, refl)))
 
     module _ (lt : k < length (S .sets)) where
       pub list-small : length v < 3 * length (listAt S k) → (r ≡ answer.Refused ShortBuffer) × (u ≡ v)
-      unfolding listRule rowsAfter listNo
-      list-small less =
-          let l = lt-ltb k (length (S .sets)) lt in
-          let m = lt-leb (3 * length (listAt S k)) (length v) less in
-          (answerAs-one r (answer.Refused ShortBuffer) (h .answer ∙ rw (d, l, m)), h .rows ∙ rw (d, l, m))
+      unfolding listRule rowsAfter listRules
+      list-small less = owed-one r (answer.Refused ShortBuffer) (h .answer, h .rows) (owes-refused _ 0 _ v _ d (firstNo-short S k lt less) (number-some ShortBuffer))
 
       pub list-rows : 3 * length (listAt S k) ≤ length v → (r ≡ answer.Granted (length (listAt S k))) × (u ≡ put v 0 (rowsOf (S .family) (listAt S k)))
-      unfolding listRule rowsAfter listNo
-      list-rows le =
-          let l = lt-ltb k (length (S .sets)) lt in
-          let m = le-leb (3 * length (listAt S k)) (length v) le in
-          (answerAs-one r (answer.Granted (length (listAt S k))) (h .answer ∙ rw (d, l, m)), h .rows ∙ rw (d, l, m))
+      unfolding listRule rowsAfter listRules
+      list-rows le = owed-one r (answer.Granted (length (listAt S k))) (h .answer, h .rows) (owes-granted _ 0 _ v _ d (firstNo-fits S k lt le))
 
       -- entry by entry: no row is lost, the rows of the list come first, and what is past them stays
       module _ (le : 3 * length (listAt S k) ≤ length v) where
@@ -92,22 +87,21 @@ module _ {w v u : List ℕ} {k : ℕ} {r : Answer} (h : Listed w k v r u) where
 module _ (w : List ℕ) (k : ℕ) (x : From) (r : Follower) (h : followerAs r ≡ nextRule (decode w) k x) where
   pub next-damaged : decode w ≡ damaged → r ≡ Refused Damaged
   unfolding nextRule
-  next-damaged d = followerAs-one r (Refused Damaged) (h ∙ rw d)
+  next-damaged d = followerAs-one r (Refused Damaged) (h ∙ sym (owes-damaged _ nothing _ w (λ T. w) d .0))
 
   module _ (S : State) (d : decode w ≡ sound S) where
     pub next-noset : length (S .sets) ≤ k → r ≡ Refused NoSet
-    unfolding nextRule nextNo
-    next-noset le = followerAs-one r (Refused NoSet) (h ∙ rw (d, le-ltb k (length (S .sets)) le))
+    next-noset le = followerAs-one r (Refused NoSet) (h ∙ sym (next-refused (decode w) k 3 x (rw d (le, refl))))
 
     module _ (lt : k < length (S .sets)) where
-      pub next-wrong : (y : Refusal) → fromNo x S ≡ number y → r ≡ Refused y
-      unfolding nextRule nextNo
-      next-wrong y e = followerAs-one r (Refused y) (h ∙ rw (d, lt-ltb k (length (S .sets)) lt, e, ne-eqb (number y) 0 (number-some y)))
+      pub next-wrong : (y : Refusal) → firstNo (fromRules x S) ≡ number y → r ≡ Refused y
+      unfolding nextRule
+      next-wrong y e = followerAs-one r (Refused y) (h ∙ sym (owes-refused _ nothing _ w (λ T. w) d (numbered (sits-at w S k d lt) x e) (number-some y) .0))
 
-      module _ (right : fromNo x S ≡ 0) where
+      module _ (right : firstNo (fromRules x S) ≡ 0) where
         granted : followerAs r ≡ (0, foundAs (S .family) (nextL (listAt S k) (placeFrom x)))
-        unfolding nextRule nextNo
-        granted = h ∙ rw (d, lt-ltb k (length (S .sets)) lt, right)
+        unfolding nextRule
+        granted = h ∙ sym (owes-granted _ nothing _ w (λ T. w) d (numbered (sits-at w S k d lt) x right) .0)
 
         pub next-is : (p : Bits) → nextL (listAt S k) (placeFrom x) ≡ found p → r ≡ Network (netFrom (S .family) p)
         next-is p e = followerAs-one r (Network (netFrom (S .family) p)) (granted ∙ rw e)

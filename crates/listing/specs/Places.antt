@@ -1,9 +1,11 @@
 -- A place as an argument: what `place_of` makes of it in a pool of the family f.
+use mathlib.Core.Bool.{true}
 use mathlib.Core.Path.{_≡_}
 use Prim.Native.Nat.{ℕ, _≤_}
-use Rattle.nets.specs.Refusals.{number}
+use Rattle.nets.specs.Refusals.{number, firstNo}
 use Rattle.pool_state.specs.States.{State}
-use Rattle.listing.specs.Calls.{fromNo, placeFrom}
+use Rattle.nets.specs.Networks.{isFamily}
+use Rattle.listing.specs.Calls.{fromRules, placeFrom}
 use Rattle.trie_next.specs.Following.{placeOf, lenOf}
 use Rattle.listing.specs.declared.From.{From}
 use Rattle.trie_next.specs.declared.following.Place.{Place}
@@ -12,7 +14,7 @@ use Rattle.listing.specs.declared.places.Placed.the-variants.{At, Refuse
 
 -- the number that it gets in every such pool
 abbrev pub Numbers : ℕ → From → ℕ → Type 0
-Numbers f x n = (S : State) → f ≡ S .family → fromNo x S ≡ n
+Numbers f x n = (S : State) → isFamily (S .family) ≡ true → f ≡ S .family → firstNo (fromRules x S) ≡ n
 
 pub record Right (f : ℕ) (x : From) (p : Place) : Type 0 where
   pub right : Numbers f x 0

@@ -2,18 +2,18 @@
 --
 --   seatAt S k        the seat of set k in the state S: behind the sets before it
 --   Sits w k S s      the words w hold the state S, and the trie of its set k stands in the seat s
---   Refuses d k x     x is the number of every call on set k: 2 damaged, 3 no such set
 --   Seats w k r       what `seat_of` finds
 use mathlib.Core.Path.{_≡_}
 use mathlib.Core.List.{List}
-use Prim.Native.Nat.{ℕ, _+_, _≤_, _<_}
+use Prim.Native.Nat.{ℕ, _+_, _<_}
 use lib.ListN.{length}
 use Rattle.nets.specs.Refusals.{number}
 use Rattle.nets.specs.Tries.{trieOf, listOf}
 use Rattle.pool_state.specs.States.{State, held}
-use Rattle.pool_state.specs.Decode.{Decoded, damaged, sound, base, decode}
+use Rattle.pool_state.specs.Decode.{sound, base, decode}
 use Rattle.pool_state.specs.Rules.{startOf}
 use Rattle.pool_state.specs.Changes.{setAt, listAt}
+use Rattle.pool_state.specs.Steps.{Refuses}
 use Rattle.trie_paths.specs.Spans.{Holds}
 use Rattle.nodes.specs.declared.seats.Seat.{Seat}
 use Rattle.listing.specs.declared.seats.Seated.{Seated}
@@ -29,10 +29,6 @@ pub record Sits (w : List ℕ) (k : ℕ) (S : State) (s : Seat) : Type 0 where
   pub family : s .family ≡ S .family
   pub list : listOf (trieOf (listAt S k)) ≡ listAt S k
   pub holds : Holds w (s .base) (s .first) (s .end) (s .family) (trieOf (listAt S k))
-
-abbrev pub Refuses : Decoded → ℕ → ℕ → Type 0
-Refuses damaged k x = x ≡ 2
-Refuses (sound S) k x = (length (S .sets) ≤ k) × (x ≡ 3)
 
 abbrev pub Seats : List ℕ → ℕ → Seated → Type 0
 Seats w k (At s) = (S : State) × Sits w k S s

@@ -1,7 +1,6 @@
 -- On sound words each lookup is the list's: the number by the state alone, and the member, the truth, the steps or the emptiness by the set's list. Assumes nothing.
-use mathlib.Core.Bool.{Bool, true, false, cond, _&&_, false≢true}
+use mathlib.Core.Bool.{Bool, true, false, not, cond, _&&_, false≢true}
 use mathlib.Core.List.{List, [], _∷_}
-use mathlib.Core.Logic.{_⊎_, inl, inr}
 use mathlib.Core.Path.{_≡_, refl, ap, sym, _∙_}
 use Prim.Native.Nat.{ℕ, suc, _+_, _≤_, _<_}
 use native.Mathlib.Nat.{zero-add}
@@ -10,12 +9,12 @@ use native.Mathlib.Omega.{arith}
 use lib.Dec.{eqb, leb, ltb}
 use lib.ListN.{length, getD, take}
 use lib.Seq.{take-take}
-use borrow.Author.Tests.{ltb-true, le-leb, eqb-true}
+use borrow.Author.Tests.{ltb-true, ltb-false, leb-false, le-leb, lt-leb, eqb-true}
 use Rattle.nets.specs.Bits.{Bits, leads, bits}
 use Rattle.nets.specs.Tries.{listOf, trieOf}
 use Rattle.nets.specs.Lists.{Found, found, missing, isFound, supernetL, containsL, stepsL}
 use Rattle.nets.specs.Refusals.{number, answered}
-use Rattle.nets.specs.Networks.{isFamily, width, address, netBits, netFrom, inRange, refusalOf, noNet, withLen, cleared}
+use Rattle.nets.specs.Networks.{width, address, netBits, netFrom, refusalOf, noNet, withLen, cleared}
 use Rattle.nets.specs.declared.Net.{Net}
 use Rattle.nets.specs.declared.Refusal.{Refusal}
 use Rattle.nets.specs.declared.Refusal.the-variants.{NoSet, WrongFamily, BadNetwork}
@@ -27,10 +26,10 @@ use Rattle.nets.proofs.Steps.{stepsT-listOf, stepsL-found}
 use Rattle.pool_state.specs.States.{State, held}
 use Rattle.pool_state.specs.Decode.{recordAt, base, decode, sound}
 use Rattle.pool_state.specs.Rules.{startOf}
-use Rattle.pool_state.specs.Changes.{setAt, listAt, netNo}
-use Rattle.pool_state.proofs.Claims.{isState-family, isList-listAt}
+use Rattle.pool_state.specs.Changes.{setAt, listAt, netRules}
+use Rattle.pool_state.proofs.Claims.{isList-listAt}
 use Rattle.pool_state.proofs.Encoded.{HeaderOf}
-use Rattle.pool_state.proofs.Decoded.{decode-header, decode-state, decode-set, decode-root, decode-at, decode-parts}
+use Rattle.pool_state.proofs.Decoded.{decode-header, decode-state, decode-root, decode-at, decode-parts}
 use Rattle.lookup.specs.Walks.{walkFrom}
 use Rattle.lookup.specs.Rules.{onRoot, query, lookup, memberOf, isMember, supernetRule, containsRule, emptyAt, emptyRule, setNo, lookupNo, foundAs}
 use Rattle.lookup.specs.declared.walking.Shown.{Shown}
@@ -50,22 +49,17 @@ cleared-cut n p e h =
     let le : length p ≤ n .len = omega (arith, leads-length p (netBits n) h, length-netBits n e) in
     ap (netFrom (n .family)) (sym (take-take (length p) (n .len) B le) ∙ take-leads p (netBits n) h)
 
--- In a pool's family a network is refused as 7 or not at all.
-refusalOf-known : (n : Net) → isFamily (n .family) ≡ true → (refusalOf n ≡ 0) ⊎ (refusalOf n ≡ 7)
-unfolding refusalOf
-refusalOf-known n e = go (inRange n) refl
-  where
-    go : (b : Bool) → inRange n ≡ b → (refusalOf n ≡ 0) ⊎ (refusalOf n ≡ 7)
-    go true h = inl (rw (e, h))
-    go false h = inr (rw (e, h))
-
 module _ (w : List ℕ) (S : State) (e : decode w ≡ sound S) (k : ℕ) where
   head : HeaderOf w S
   head = decode-header w S e
 
-  onRoot-sound : {A : Type 0} (refuse : Refusal → A) (f : ℕ → A) → onRoot w k refuse f ≡ cond (ltb k (length (S .sets))) (f (getD w (recordAt k) 0)) (refuse NoSet)
+  onRoot-sound : {A : Type 0} (refuse : Refusal → A) (f : ℕ → A) → onRoot w k refuse f ≡ cond (leb (length (S .sets)) k) (refuse NoSet) (f (getD w (recordAt k) 0))
   unfolding onRoot
-  onRoot-sound refuse f = rw (head .known, head .sets)
+  onRoot-sound refuse f = rw (head .known, head .sets) (go (ltb k (length (S .sets))) refl)
+    where
+      go : (b : Bool) → ltb k (length (S .sets)) ≡ b → cond b (f (getD w (recordAt k) 0)) (refuse NoSet) ≡ cond (leb (length (S .sets)) k) (refuse NoSet) (f (getD w (recordAt k) 0))
+      go true h = rw (lt-leb (length (S .sets)) k (ltb-true k (length (S .sets)) h))
+      go false h = rw (le-leb (length (S .sets)) k (ltb-false k (length (S .sets)) h))
 
   list-of : listOf (trieOf (listAt S k)) ≡ listAt S k
   list-of = listOf-trieOf (width (S .family)) (listAt S k) (isList-listAt S k (decode-state w S e))
@@ -88,38 +82,37 @@ module _ (w : List ℕ) (S : State) (e : decode w ≡ sound S) (k : ℕ) where
     root-sound : (getD w (recordAt k) 0 ≤ getD w 3 0) × (eqb (getD w (recordAt k) 0) 0 ≡ eqb (length (listAt S k)) 0)
     root-sound = rw (head .nodes, decode-root w S e k lt) (rootAt-node one (listAt S k) (decode-at w S e k lt))
 
-  -- What the path of a query shows, and the whole lookup: by whether there is the set, and whether the family is the pool's.
+  -- What the path of a query shows, and the whole lookup: by whether the set is unknown, whether the family is the pool's, and whether the query is a network.
   abbrev steps : Net → ℕ
   steps n = stepsL (listAt S k) (netBits n)
 
   abbrev path : Net → Shown
   path n = shown 0 (supernetL (listAt S k) (netBits n)) (steps n)
 
-  abbrev whole : Net → Bool → Bool → Shown
-  whole n a b = cond a (cond b (cond (eqb (refusalOf n) 0) (path n) (Refused BadNetwork)) (Refused WrongFamily)) (Refused NoSet)
+  abbrev whole : Net → Bool → Bool → Bool → Shown
+  whole n a b c = cond a (Refused NoSet) (cond b (cond c (path n) (Refused BadNetwork)) (Refused WrongFamily))
 
-  lookup-sound : (n : Net) → lookup w k n ≡ whole n (ltb k (length (S .sets))) (eqb (n .family) (S .family))
+  lookup-sound : (n : Net) → lookup w k n ≡ whole n (leb (length (S .sets)) k) (eqb (n .family) (S .family)) (eqb (refusalOf n) 0)
   unfolding lookup query
-  lookup-sound n = onRoot-sound Refused (query w n) ∙ go (ltb k (length (S .sets))) refl
+  lookup-sound n = onRoot-sound Refused (query w n) ∙ go (leb (length (S .sets)) k) refl
     where
-      go : (a : Bool) → ltb k (length (S .sets)) ≡ a → cond a (query w n (getD w (recordAt k) 0)) (Refused NoSet) ≡ whole n a (eqb (n .family) (S .family))
-      go true h = rw (head .family, walk-sound (ltb-true k (length (S .sets)) h) (netBits n))
-      go false h = refl
+      go : (a : Bool) → leb (length (S .sets)) k ≡ a → cond a (Refused NoSet) (query w n (getD w (recordAt k) 0)) ≡ whole n a (eqb (n .family) (S .family)) (eqb (refusalOf n) 0)
+      go true h = refl
+      go false h = rw (head .family, walk-sound (leb-false (length (S .sets)) k h) (netBits n))
 
   -- an answer by what is shown is an answer by the table
   module _ {A : Type 0} (n : Net) (z v : A) (F : Shown → ℕ × A) (no-value : (r : Refusal) → F (Refused r) ≡ (number r, z)) (value : n .family ≡ S .family → refusalOf n ≡ 0 → F (path n) ≡ (0, v)) where
     by-table : F (lookup w k n) ≡ answered (lookupNo S k n) z v
-    unfolding netNo
-    by-table = rw (lookup-sound n) (go (ltb k (length (S .sets))) (eqb (n .family) (S .family)) (eqb-true (n .family) (S .family)))
+    unfolding netRules
+    by-table =
+        rw (lookup-sound n)
+        (go (leb (length (S .sets)) k) (eqb (n .family) (S .family)) (eqb (refusalOf n) 0) (eqb-true (n .family) (S .family)) (eqb-true (refusalOf n) 0))
       where
-        known : n .family ≡ S .family → (refusalOf n ≡ 0) ⊎ (refusalOf n ≡ 7) → F (whole n true true) ≡ answered (refusalOf n) z v
-        known f (inl r) = rw r (value f r)
-        known f (inr r) = rw r (no-value BadNetwork)
-
-        go : (a b : Bool) → (b ≡ true → n .family ≡ S .family) → F (whole n a b) ≡ answered (cond a (cond b (refusalOf n) 6) 3) z v
-        go false b h = no-value NoSet
-        go true false h = no-value WrongFamily
-        go true true h = known (h refl) (refusalOf-known n (rw (h refl) (isState-family S (decode-state w S e))))
+        go : (a b c : Bool) → (b ≡ true → n .family ≡ S .family) → (c ≡ true → refusalOf n ≡ 0) → F (whole n a b c) ≡ answered (cond a 3 (cond (not b) 6 (cond (not c) 7 0))) z v
+        go true b c h g = no-value NoSet
+        go false false c h g = no-value WrongFamily
+        go false true false h g = no-value BadNetwork
+        go false true true h g = value (h refl) (g refl)
 
   pub supernetRule-sound : (n : Net) → supernetRule w k n
       ≡ answered (lookupNo S k n) (false, (noNet, 0)) (foundAs (S .family) (supernetL (listAt S k) (netBits n)) (stepsL (listAt S k) (netBits n)))
@@ -146,8 +139,8 @@ module _ (w : List ℕ) (S : State) (e : decode w ≡ sound S) (k : ℕ) where
 
   pub emptyRule-sound : emptyRule w k ≡ answered (setNo S k) false (eqb (length (listAt S k)) 0)
   unfolding emptyRule
-  emptyRule-sound = onRoot-sound (λ r. (number r, false)) (emptyAt (getD w 3 0)) ∙ go (ltb k (length (S .sets))) refl
+  emptyRule-sound = onRoot-sound (λ r. (number r, false)) (emptyAt (getD w 3 0)) ∙ go (leb (length (S .sets)) k) refl
     where
-      go : (a : Bool) → ltb k (length (S .sets)) ≡ a → cond a (emptyAt (getD w 3 0) (getD w (recordAt k) 0)) (3, false) ≡ answered (cond a 0 3) false (eqb (length (listAt S k)) 0)
-      go true h = let r = root-sound (ltb-true k (length (S .sets)) h) in rw (le-leb (getD w (recordAt k) 0) (getD w 3 0) (r .0), r .1)
-      go false h = refl
+      go : (a : Bool) → leb (length (S .sets)) k ≡ a → cond a (3, false) (emptyAt (getD w 3 0) (getD w (recordAt k) 0)) ≡ answered (cond a 3 0) false (eqb (length (listAt S k)) 0)
+      go true h = refl
+      go false h = let r = root-sound (leb-false (length (S .sets)) k h) in rw (le-leb (getD w (recordAt k) 0) (getD w 3 0) (r .0), r .1)

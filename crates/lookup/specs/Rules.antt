@@ -5,19 +5,20 @@
 --   supernetRule, containsRule, emptyRule      the number and the values of each answer
 --   setNo, lookupNo, foundAs                   the same of a sound pool, by its lists: proofs/OnLists.antt
 use mathlib.Core.Bool.{Bool, true, false, cond}
-use mathlib.Core.List.{List}
+use mathlib.Core.List.{List, [], _∷_}
 use Prim.Native.Nat.{ℕ, _+_}
 use lib.Dec.{eqb, leb, ltb}
-use lib.ListN.{length, getD}
+use lib.ListN.{getD}
 use Rattle.nets.specs.Lists.{Found, found, missing}
-use Rattle.nets.specs.Refusals.{number}
+use Rattle.nets.specs.Refusals.{number, firstNo}
 use Rattle.nets.specs.Networks.{netBits, netFrom, refusalOf, noNet, withLen, cleared}
 use Rattle.nets.specs.declared.Net.{Net}
 use Rattle.nets.specs.declared.Refusal.{Refusal}
 use Rattle.nets.specs.declared.Refusal.the-variants.{Damaged, NoSet, WrongFamily, BadNetwork}
 use Rattle.pool_state.specs.States.{State}
 use Rattle.pool_state.specs.Decode.{recordAt, base, isHeader}
-use Rattle.pool_state.specs.Changes.{netNo}
+use Rattle.pool_state.specs.Rules.{unknown}
+use Rattle.pool_state.specs.Changes.{netRules}
 use Rattle.lookup.specs.Walks.{walkFrom}
 use Rattle.lookup.specs.declared.walking.Shown.{Shown}
 use Rattle.lookup.specs.declared.walking.Shown.the-variants.{Member, Nothing, Refused}
@@ -75,10 +76,10 @@ emptyRule w k = onRoot w k (λ r. (number r, false)) (emptyAt (getD w 3 0))
 
 -- a sound pool: the numbers by its state, and the member that a list gives
 abbrev pub setNo : State → ℕ → ℕ
-setNo S k = cond (ltb k (length (S .sets))) 0 3
+setNo S k = firstNo (unknown S k ∷ [])
 
 abbrev pub lookupNo : State → ℕ → Net → ℕ
-lookupNo S k n = cond (ltb k (length (S .sets))) (netNo n S) 3
+lookupNo S k n = firstNo (unknown S k ∷ netRules n S)
 
 -- with the nodes that were read
 abbrev pub foundAs : ℕ → Found → ℕ → Bool × (Net × ℕ)

@@ -5,18 +5,19 @@ use mathlib.Core.List.{List, [], _∷_}
 use Prim.Native.Nat.{ℕ, zero, suc, _≤_, _<_}
 use native.Mathlib.Omega.{arith}
 use lib.ListN.{length, replicate, getD}
-use borrow.Author.Tests.{lt-ltb, le-ltb, le-leb, lt-leb}
 use Rattle.nets.specs.Bits.{Bits}
 use Rattle.nets.specs.Networks.{netFrom, noNet}
 use Rattle.nets.specs.declared.Net.{Net}
 use Rattle.nets.specs.declared.Refusal.the-variants.{Damaged, NoSet, ShortBuffer}
+use Rattle.nets.proofs.Answers.{number-some}
 use Rattle.pool_state.specs.States.{State}
 use Rattle.pool_state.specs.Decode.{damaged, sound, decode}
 use Rattle.pool_state.specs.Changes.{listAt}
 use Rattle.pool_state.specs.declared.Answer.{Answer}
 use Rattle.pool_state.specs.declared.Answer.the-variants.{Granted, Refused}
-use Rattle.pool_state.proofs.Determined.{answerAs-one}
-use Rattle.netrows.specs.Rows.{filled, rowNo, rowRule, rowAfter, blank, Listed}
+use Rattle.pool_state.proofs.Answered.{owes-damaged, owes-refused, owes-granted, owes-seat, firstNo-short, firstNo-fits}
+use Rattle.pool_state.proofs.Determined.{answerAs-one, owed-one}
+use Rattle.netrows.specs.Rows.{filled, rowRules, rowRule, rowAfter, blank, Listed}
 use Rattle.netrows.specs.declared.Page.{Page}
 
 pub list-determined : {w : List ℕ} {v u x : List Net} {k : ℕ} {r s : Answer} → Listed w k v r u → Listed w k v s x → (r ≡ s) × (u ≡ x)
@@ -43,28 +44,22 @@ filled-past f (p ∷ l) (x ∷ v) (suc i) h g = filled-past f l v i (omega arith
 module _ {w : List ℕ} {v u : List Net} {k : ℕ} {r : Answer} (h : Listed w k v r u) where
   pub list-damaged : decode w ≡ damaged → (r ≡ Refused Damaged) × (u ≡ v)
   unfolding rowRule rowAfter
-  list-damaged d = (answerAs-one r (Refused Damaged) (h .answer ∙ rw d), h .row ∙ rw d)
+  list-damaged d = owed-one r (Refused Damaged) (h .answer, h .row) (owes-damaged _ 0 _ v _ d)
 
   module _ (S : State) (d : decode w ≡ sound S) where
     pub list-noset : length (S .sets) ≤ k → (r ≡ Refused NoSet) × (u ≡ v)
-    unfolding rowRule rowAfter rowNo
-    list-noset le = let l = le-ltb k (length (S .sets)) le in (answerAs-one r (Refused NoSet) (h .answer ∙ rw (d, l)), h .row ∙ rw (d, l))
+    unfolding rowRule rowAfter rowRules
+    list-noset le = owed-one r (Refused NoSet) (h .answer, h .row) (owes-seat _ 0 _ v _ (decode w) k (rw d (le, refl)))
 
     module _ (lt : k < length (S .sets)) where
       pub list-short : length v < length (listAt S k) → (r ≡ Refused ShortBuffer) × (u ≡ v)
-      unfolding rowRule rowAfter rowNo
-      list-short less =
-          let l = lt-ltb k (length (S .sets)) lt in
-          let m = lt-leb (length (listAt S k)) (length v) less in
-          (answerAs-one r (Refused ShortBuffer) (h .answer ∙ rw (d, l, m)), h .row ∙ rw (d, l, m))
+      unfolding rowRule rowAfter rowRules
+      list-short less = owed-one r (Refused ShortBuffer) (h .answer, h .row) (owes-refused _ 0 _ v _ d (firstNo-short S k lt less) (number-some ShortBuffer))
 
       module _ (le : length (listAt S k) ≤ length v) where
         pub list-row : (r ≡ Granted (length (listAt S k))) × (u ≡ filled (S .family) (listAt S k) v)
-        unfolding rowRule rowAfter rowNo
-        list-row =
-            let l = lt-ltb k (length (S .sets)) lt in
-            let m = le-leb (length (listAt S k)) (length v) le in
-            (answerAs-one r (Granted (length (listAt S k))) (h .answer ∙ rw (d, l, m)), h .row ∙ rw (d, l, m))
+        unfolding rowRule rowAfter rowRules
+        list-row = owed-one r (Granted (length (listAt S k))) (h .answer, h .row) (owes-granted _ 0 _ v _ d (firstNo-fits S k lt le))
 
         pub list-length : length u ≡ length v
         list-length = ap length (list-row .1) ∙ filled-length (S .family) (listAt S k) v le

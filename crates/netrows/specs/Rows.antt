@@ -2,22 +2,20 @@
 --
 --   netsOf f l           the networks of a list, by their numbers in the family f
 --   filled f l v         the row v, with the networks of l in its first entries
---   rowNo, rowRule       the answer: 2 damaged, 3 no such set, 11 fewer entries than networks, else how many networks
+--   rowRules, rowRule    the answer: 3 no such set, 11 fewer entries than networks, else how many networks
 --   rowAfter             the row afterwards;  Listed: both, as the contract
 --   blank                a page: 16 entries of zeros
-use mathlib.Core.Bool.{cond}
-use mathlib.Core.List.{List, _++_, map}
+use mathlib.Core.List.{List, [], _∷_, _++_, map}
 use mathlib.Core.Path.{_≡_}
 use Prim.Native.Nat.{ℕ}
-use lib.Dec.{eqb, leb, ltb}
 use lib.ListN.{length, drop, replicate}
 use Rattle.nets.specs.Bits.{Bits}
 use Rattle.nets.specs.Networks.{netFrom, noNet}
-use Rattle.nets.specs.Refusals.{answered}
+use Rattle.nets.specs.Refusals.{Rule}
 use Rattle.nets.specs.declared.Net.{Net}
 use Rattle.pool_state.specs.States.{State}
-use Rattle.pool_state.specs.Decode.{Decoded, damaged, sound, decode}
-use Rattle.pool_state.specs.Rules.{answerAs}
+use Rattle.pool_state.specs.Decode.{Decoded, decode}
+use Rattle.pool_state.specs.Rules.{answerOn, leftOn, unknown, short, answerAs}
 use Rattle.pool_state.specs.Changes.{listAt}
 use Rattle.pool_state.specs.declared.Answer.{Answer}
 
@@ -27,16 +25,14 @@ netsOf f l = map (netFrom f) l
 abbrev pub filled : ℕ → List Bits → List Net → List Net
 filled f l v = netsOf f l ++ drop (length l) v
 
-unfoldable pub rowNo : State → ℕ → ℕ → ℕ
-rowNo S k n = cond (ltb k (length (S .sets))) (cond (leb (length (listAt S k)) n) 0 11) 3
+unfoldable pub rowRules : ℕ → ℕ → State → List Rule
+rowRules k n S = unknown S k ∷ short (length (listAt S k)) n ∷ []
 
 unfoldable pub rowRule : Decoded → ℕ → ℕ → ℕ × ℕ
-rowRule damaged k n = (2, 0)
-rowRule (sound S) k n = answered (rowNo S k n) 0 (length (listAt S k))
+rowRule d k n = answerOn d (rowRules k n) 0 (λ S. length (listAt S k))
 
 unfoldable pub rowAfter : List Net → Decoded → ℕ → List Net
-rowAfter v damaged k = v
-rowAfter v (sound S) k = cond (eqb (rowNo S k (length v)) 0) (filled (S .family) (listAt S k) v) v
+rowAfter v d k = leftOn d (rowRules k (length v)) v (λ S. filled (S .family) (listAt S k) v)
 
 -- from the words w and the row v list on set k answers r and leaves the row u
 pub record Listed (w : List ℕ) (k : ℕ) (v : List Net) (r : Answer) (u : List Net) : Type 0 where

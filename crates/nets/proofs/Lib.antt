@@ -24,5 +24,6 @@ pub mod TwoWords
 pub mod Numbers
 pub mod Handing
 pub mod Answers
+pub mod Refused
 pub mod Worked
 pub mod Overlapping

@@ -1,5 +1,6 @@
--- The scope document's table of refusals: the number of each, and what an answer says by it.
-use mathlib.Core.Bool.{cond}
+-- The scope document's table of refusals: the number of each, what an answer says by it, and the rules of a call in the order in which they are asked.
+use mathlib.Core.Bool.{Bool, cond}
+use mathlib.Core.List.{List, [], _∷_}
 use Prim.Native.Nat.{ℕ}
 use lib.Dec.{eqb}
 use Rattle.nets.specs.declared.Refusal.{Refusal}
@@ -21,3 +22,12 @@ number ShortBuffer = 11
 -- an answer by the table: its number, 0 where it is granted, and its value v, which is z where it is refused
 abbrev pub answered : {A : Type 0} → ℕ → A → A → ℕ × A
 answered k z v = (k, cond (eqb k 0) v z)
+
+-- a rule of a call: the condition under which it is refused, and the refusal
+abbrev pub Rule : Type 0
+Rule = Bool × Refusal
+
+-- the number of the first rule that applies, 0 where none does
+abbrev pub firstNo : List Rule → ℕ
+firstNo [] = 0
+firstNo (r ∷ rs) = cond (r .0) (number (r .1)) (firstNo rs)

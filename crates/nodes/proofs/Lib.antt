@@ -7,5 +7,7 @@ pub mod Unique
 pub mod Check
 pub mod Move
 pub mod Linked
+pub mod Chains
 pub mod Segments
+pub mod Views
 pub mod Zeros

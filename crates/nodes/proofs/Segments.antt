@@ -11,7 +11,7 @@ use Rattle.nodes.specs.Words.{put, Has, place, wordAt, link1, word, enc}
 use Rattle.nodes.specs.Links.{linked}
 use Rattle.nodes.proofs.Put.{put-behind-at, put-before-at}
 use Rattle.nodes.proofs.Has.{has-front, has-back, has-head, has-tail, has-at, has-seg, has-same}
-use Rattle.nodes.proofs.Tries.{length-enc, word-second, word-leaf}
+use Rattle.nodes.proofs.Tries.{length-enc, size-node, enc-leaf, word-second, word-leaf}
 use Rattle.nodes.proofs.Linked.{linked-is}
 use Rattle.nodes.specs.Segments.{Segment, Spliced, middleOf}
 
@@ -22,16 +22,11 @@ none-is (node l r) e = absurd (omega arith)
 
 -- Words of a trie with what stands behind it.
 pub leaf-words : (rest : List ℕ) → enc leaf ++ rest ≡ 0 ∷ rest
-unfolding enc word Rattle.nodes.specs.Words.link0 link1
-leaf-words rest = refl
+leaf-words rest = rw enc-leaf
 
 node-words : (l r : Trie) (rest : List ℕ) → enc (node l r) ++ rest ≡ word l r ∷ (enc l ++ (enc r ++ rest))
 unfolding enc
 node-words l r rest = rw (append-assoc (enc l) (enc r) rest)
-
-pub node-size : (l r : Trie) → size (node l r) ≡ 1 + size l + size r
-unfolding size
-node-size l r = refl
 
 middle-is : (l r : Trie) (i e : ℕ) → e ≡ i + 1 + size l + size r → middleOf (link1 l r) i e ≡ i + 1 + size l
 unfolding link1 size
@@ -77,7 +72,7 @@ module _ {w : List ℕ} {b i e u : ℕ} {l r : Trie} {rest : List ℕ} (g : Segm
   segment-place = omega (arith, words .fits)
 
   pub segment-middle : middleOf (wordAt w b i / 2) i e ≡ i + 1 + size l
-  segment-middle = rw (segment-word, word-second l r) (middle-is l r i e (omega (arith, g .end, node-size l r)))
+  segment-middle = rw (segment-word, word-second l r) (middle-is l r i e (omega (arith, g .end, size-node l r)))
 
   below : Has w (place b (i + 1)) (enc l ++ (enc r ++ rest))
   below = let one = g .one in has-at (omega arith) (has-tail words)
@@ -88,7 +83,7 @@ module _ {w : List ℕ} {b i e u : ℕ} {l r : Trie} {rest : List ℕ} (g : Segm
     has = below;
     one = omega arith;
     end = refl;
-    used = omega (arith, g .used, g .end, node-size l r, length-append (enc r) rest, length-enc r);
+    used = omega (arith, g .used, g .end, size-node l r, length-append (enc r) rest, length-enc r);
     few = g .few;
     low = g .low;
   }
@@ -97,7 +92,7 @@ module _ {w : List ℕ} {b i e u : ℕ} {l r : Trie} {rest : List ℕ} (g : Segm
   segment-right = record {
     has = has-at (omega (arith, g .one, length-enc l)) (has-back (enc l) (enc r ++ rest) below);
     one = omega arith;
-    end = omega (arith, g .end, node-size l r);
+    end = omega (arith, g .end, size-node l r);
     used = g .used;
     few = g .few;
     low = g .low;
@@ -110,7 +105,7 @@ module _ {w : List ℕ} {b i e u : ℕ} {l r : Trie} {rest : List ℕ} (g : Segm
       record {
         wrote = rw (node-words l′ r rest, e₂, d .wrote, linked-is l′ r i y z (d .end) ez)
             (put-before-at w (place b i) (place b (i + 1)) (_ ∷ []) (enc l′ ++ (enc r ++ rest)) (omega arith));
-        end = omega (arith, node-size l′ r, d .end);
+        end = omega (arith, size-node l′ r, d .end);
       }
 
   pub spliced-right : (r′ : Trie) (v₁ v₂ : List ℕ) (z : ℕ) → Spliced w v₁ b (i + 1 + size l) z r′ rest → v₂ ≡ put v₁ (place b i) (linked i (i + 1 + size l) z ∷ []) → Spliced w v₂ b i z (node l r′) rest
@@ -122,5 +117,5 @@ module _ {w : List ℕ} {b i e u : ℕ} {l r : Trie} {rest : List ℕ} (g : Segm
       record {
         wrote = rw (node-words l r′ rest, e₂, e₁, linked-is l r′ i (i + 1 + size l) z refl (d .end))
             (put-before-at w (place b i) (place b (i + 1)) (_ ∷ []) (enc l ++ (enc r′ ++ rest)) (omega arith));
-        end = omega (arith, node-size l r′, d .end);
+        end = omega (arith, size-node l r′, d .end);
       }

@@ -1,13 +1,13 @@
--- A trie's words: their number, a node's word and what it says of the children, the words of a node taken apart and put together. Assumes nothing.
+-- A trie's size and its words: how many they are, a node's word and what it says of the children, the words of a node taken apart and put together. Assumes nothing.
 use mathlib.Core.Path.{_≡_, refl}
-use mathlib.Core.Bool.{true}
-use mathlib.Core.List.{List}
+use mathlib.Core.Bool.{Bool, true, false}
+use mathlib.Core.List.{List, [], _∷_, _++_}
 use Prim.Native.Nat.{ℕ, _+_, _-_, _*_, _/_, _%_, _≤_}
 use native.Mathlib.Omega.{arith}
 use borrow.Author.Tests.{ne-eqb}
 use lib.Dec.{eqb}
 use lib.ListN.{length, length-append}
-use Rattle.nets.specs.Tries.{Trie, none, node, leaf, size, isNone, isLeaf}
+use Rattle.nets.specs.Tries.{Trie, none, node, leaf, size, isLeaf, side, fork}
 use Rattle.nodes.specs.Words.{link0, link1, word, enc, Has, place, wordAt}
 use Rattle.nodes.proofs.Has.{has-front, has-back, has-head, has-tail, has-at, has-cons, has-join}
 
@@ -19,11 +19,31 @@ length-enc (node l r) = omega (arith, length-append (enc l) (enc r), length-enc 
 pub some : (l r : Trie) → node l r ≡ none → ⊥
 some l r e = let z : _≡_ {A = ℕ} 0 1 = cc in omega arith
 
-pub leaf-is : (t : Trie) → isLeaf t ≡ true → t ≡ leaf
-leaf-is none e = let z : _≡_ {A = ℕ} 0 1 = cc in absurd (omega arith)
-leaf-is (node none none) e = refl
-leaf-is (node none (node x y)) e = let z : _≡_ {A = ℕ} 0 1 = cc in absurd (omega arith)
-leaf-is (node (node x y) r) e = let z : _≡_ {A = ℕ} 0 1 = cc in absurd (omega arith)
+-- Sizes: of a leaf, and of a node by the side d of a bit.
+pub size-leaf : size leaf ≡ 1
+unfolding size
+size-leaf = refl
+
+pub size-node : (l r : Trie) → size (node l r) ≡ 1 + size l + size r
+unfolding size
+size-node l r = refl
+
+pub size-fork : (d : Bool) (x y : Trie) → size (fork d x y) ≡ 1 + size x + size y
+size-fork false x y = size-node x y
+size-fork true x y = omega (arith, size-node y x)
+
+pub size-side : (d : Bool) (l r : Trie) → size (node l r) ≡ 1 + size (side d l r) + size (side d r l)
+size-side false l r = size-node l r
+size-side true l r = omega (arith, size-node l r)
+
+-- Words of a leaf and of a node.
+pub enc-leaf : enc leaf ≡ 0 ∷ []
+unfolding enc word link0 link1
+enc-leaf = refl
+
+pub enc-node : (l r : Trie) → enc (node l r) ≡ word l r ∷ (enc l ++ enc r)
+unfolding enc
+enc-node l r = refl
 
 -- The word.
 link0-le : (l : Trie) → (link0 l ≤ 1) × (link0 l ≤ size l)

@@ -1,5 +1,5 @@
 -- The zeros among words: one by one, as the code counts them, and in the words of a trie, where they are the members of its list. Assumes nothing.
-use mathlib.Core.Path.{_≡_, refl, sym, ap, _∙_}
+use mathlib.Core.Path.{_≡_, refl, _∙_}
 use mathlib.Core.Bool.{Bool, true, false, cond}
 use mathlib.Core.List.{List, [], _∷_, _++_}
 use Prim.Native.Nat.{ℕ, zero, suc, _+_, _-_, _≤_, _<_}
@@ -10,13 +10,22 @@ use lib.ListN.{length, getD, take, drop, length-append, length-map}
 use lib.Seq.{drop-cons}
 use Rattle.nets.specs.Bits.{Bits}
 use Rattle.nets.specs.Tries.{Trie, none, node, bare, levels, level, below, listOf}
-use Rattle.nodes.specs.Words.{word, enc, zeros}
+use Rattle.nodes.specs.Words.{enc, zeros}
 use Rattle.nodes.proofs.Tries.{word-leaf}
+
+bit-le : (b : Bool) → cond b 1 0 ≤ 1
+bit-le true = omega arith
+bit-le false = omega arith
 
 zeros-append : (xs ys : List ℕ) → zeros (xs ++ ys) ≡ zeros xs + zeros ys
 unfolding zeros
 zeros-append [] ys = omega arith
 zeros-append (x ∷ xs) ys = omega (arith, zeros-append xs ys)
+
+pub zeros-le : (xs : List ℕ) → zeros xs ≤ length xs
+unfolding zeros
+zeros-le [] = omega arith
+zeros-le (x ∷ xs) = omega (arith, bit-le (eqb x 0), zeros-le xs)
 
 -- The leaves of a trie, in its words and in its list.
 unfoldable leaves : Trie → ℕ
@@ -28,7 +37,7 @@ unfolding zeros enc leaves
 zeros-leaves none = refl
 zeros-leaves (node l r) = rw (word-leaf l r) (omega (arith, zeros-append (enc l) (enc r), zeros-leaves l, zeros-leaves r))
 
-level-none : (k : ℕ) → level bare k none ≡ []
+pub level-none : (k : ℕ) → level bare k none ≡ []
 level-none zero = refl
 level-none (suc k) = refl
 
@@ -53,10 +62,6 @@ leaves-below (node l r) (suc k) h = omega (arith, length-below k l r, leaves-bel
 pub zeros-enc : (t : Trie) → zeros (enc t) ≡ length (listOf t)
 unfolding listOf
 zeros-enc t = zeros-leaves t ∙ leaves-below t (levels t) (omega arith)
-
-bit-le : (b : Bool) → cond b 1 0 ≤ 1
-bit-le true = omega arith
-bit-le false = omega arith
 
 zeros-next : (w : List ℕ) (end k : ℕ) → k < end → end ≤ length w
     → zeros (take (end - k) (drop k w)) ≡ cond (eqb (getD w k 0) 0) 1 0 + zeros (take (end - (k + 1)) (drop (k + 1) w))

@@ -3,6 +3,7 @@
 --   put w p xs      xs written over w from p on
 --   Has w p xs      xs stands in w from p on
 --   enc t           the words of a trie in preorder, one a node: the distance to the first child, 0 or 1, and twice the distance to the second
+--   chain p         the trie of the one path p
 --   place b i       where the word of node i stands, numbers from 1 on and places from b on; wordAt w b i: that word
 use mathlib.Core.Bool.{cond}
 use mathlib.Core.Path.{_≡_}
@@ -10,7 +11,8 @@ use mathlib.Core.List.{List, [], _∷_, _++_}
 use Prim.Native.Nat.{ℕ, zero, suc, _+_, _-_, _*_, _≤_, _<_}
 use lib.Dec.{eqb}
 use lib.ListN.{length, getD}
-use Rattle.nets.specs.Tries.{Trie, none, node, size}
+use Rattle.nets.specs.Bits.{Bits}
+use Rattle.nets.specs.Tries.{Trie, none, node, size, insertT}
 
 -- what would stand past the end is dropped
 unfoldable pub put : List ℕ → ℕ → List ℕ → List ℕ
@@ -43,6 +45,9 @@ word l r = link0 l + 2 * link1 l r
 unfoldable pub enc : Trie → List ℕ
 enc none = []
 enc (node l r) = word l r ∷ (enc l ++ enc r)
+
+abbrev pub chain : Bits → Trie
+chain p = insertT p none
 
 abbrev pub place : ℕ → ℕ → ℕ
 place b i = b + (i - 1)

@@ -4,6 +4,7 @@ use mathlib.Core.Path.{_≡_, sym, ap, _∙_}
 use mathlib.Core.List.{List}
 use Prim.Native.Nat.{ℕ}
 use Rattle.nets.specs.Bits.{Bits}
+use Rattle.nets.specs.Refusals.{Rule}
 use Rattle.nets.proofs.Answers.{number-one, number-some}
 use Rattle.pool_state.specs.Decode.{decode}
 use Rattle.pool_state.specs.Rules.{answerAs, reportAs, toldAs, Laid, freeRule, heldRule, planRule}
@@ -49,6 +50,10 @@ module _ (w : List ℕ) where
     pub plan-determined : reportAs r ≡ planRule (decode w) k → reportAs s ≡ planRule (decode w) k → r ≡ s
     plan-determined e f = reportAs-one r s (e ∙ sym f)
 
+-- a call that answers and leaves something
+pub owed-one : {B : Type 0} {p : ℕ × ℕ} {b u v : B} (r s : Answer) → (answerAs r ≡ p) × (u ≡ b) → (answerAs s ≡ p) × (v ≡ b) → (r ≡ s) × (u ≡ v)
+owed-one r s h k = (answerAs-one r s (h .0 ∙ sym (k .0)), h .1 ∙ sym (k .1))
+
 -- every changing call
-pub changed-one : {w v u : List ℕ} {k : ℕ} {a : State → ℕ} {f : State → List Bits} {r s : Answer} → Changed w k a f r v → Changed w k a f s u → (r ≡ s) × (v ≡ u)
+pub changed-one : {w v u : List ℕ} {k : ℕ} {a : State → List Rule} {f : State → List Bits} {r s : Answer} → Changed w k a f r v → Changed w k a f s u → (r ≡ s) × (v ≡ u)
 changed-one {r = r} {s = s} h g = (answerAs-one r s (h .answer ∙ sym (g .answer)), h .words ∙ sym (g .words))

@@ -2,6 +2,8 @@
 -- States: their rules and sums, and another list in one of the sets.
 pub mod Claims
 pub mod WithList
+-- What a call answers and leaves by its rules.
+pub mod Answered
 -- The header and layout, by the tests and the loops of the code.
 pub mod Header
 pub mod Setups

@@ -15,7 +15,7 @@ use Rattle.pool_state.specs.States.{State, held, used, claimed, isState}
 use Rattle.pool_state.specs.Decode.{recordAt, base, leastWords, nodeWords, Decoded, damaged, sound, decode}
 use Rattle.pool_state.specs.Rules.{startOf, surveyOf}
 use Rattle.pool_state.specs.Changes.{setAt}
-use Rattle.pool_state.specs.Steps.{Surveyed, behindAt}
+use Rattle.pool_state.specs.Steps.{Refuses, Surveyed, behindAt}
 use Rattle.pool_state.specs.declared.Survey.{Survey}
 use Rattle.nodes.specs.Segments.{Segment}
 use Rattle.nodes.proofs.Has.{has-front, has-back, has-at, has-seg, has-join}
@@ -55,6 +55,13 @@ module _ (w : List ℕ) (k : ℕ) (v : Survey) (e : v ≡ surveyOf (decode w) k)
 
   pub survey-damaged : v .sound ≡ false → decode w ≡ damaged
   survey-damaged h = cases (decode w) k .1 (ap (λ (x : Survey). x .sound) (sym e) ∙ h)
+
+  -- the refusal of every call on the set
+  pub refuses-damaged : v .sound ≡ false → Refuses (decode w) k 2
+  refuses-damaged h = rw (survey-damaged h) refl
+
+  pub refuses-noset : v .sound ≡ true → getD w 2 0 ≤ k → Refuses (decode w) k 3
+  refuses-noset h le = let x = survey-sound h in rw (x .1) (omega (arith, decode-header w (x .0) (x .1) .sets), refl)
 
   pub survey-seen : (S : State) → decode w ≡ sound S → k < getD w 2 0 → Seen w S k v
   unfolding surveyOf

@@ -1,5 +1,8 @@
--- The rules of the calls that change no list: the number of each answer and its values, as a function of the words.
+-- What a call answers and leaves by its rules, said once for all of them; then the rules of the calls that change no list.
 --
+--   answerOn d rs z f   the answer of a call: 2 where the words are damaged, else the first of the rules rs of the state that applies, each with the value z; else the value f of the state
+--   leftOn d rs b g     what it leaves of b: b itself where it is refused, else what g makes of the state
+--   unknown S k, short m n      the rules that there is a set k, and that a buffer of n entries takes m
 --   layoutNo, laid      the answer of layout, and the words that a granted one leaves; Laid: both, as its contract
 --   freeRule, heldRule, planRule      the free nodes; nodes and networks of a set; share and limit of a set
 --   surveyOf            what one pass over a pool finds out for the calls on set k
@@ -9,7 +12,8 @@ use mathlib.Core.Path.{_≡_}
 use Prim.Native.Nat.{ℕ, zero, suc, _+_}
 use lib.Dec.{eqb, leb, ltb}
 use lib.ListN.{length, getD, replicate}
-use Rattle.nets.specs.Refusals.{number}
+use Rattle.nets.specs.Refusals.{number, answered, Rule, firstNo}
+use Rattle.nets.specs.declared.Refusal.the-variants.{NoSet, ShortBuffer}
 use Rattle.nodes.specs.Words.{put}
 use Rattle.pool_state.specs.States.{SetState, State, held, claimed, used, freeOf, isSize}
 use Rattle.nets.specs.Networks.{isFamily}
@@ -21,6 +25,22 @@ use Rattle.pool_state.specs.declared.Report.the-variants as report
 use Rattle.pool_state.specs.declared.Survey.{Survey}
 use Rattle.pool_state.specs.declared.Told.{Told}
 use Rattle.pool_state.specs.declared.Told.the-variants as told
+use Rattle.pool_state.specs.declared.Verdict.{Verdict}
+use Rattle.pool_state.specs.declared.Verdict.the-variants as verdict
+
+unfoldable pub answerOn : {A : Type 0} → Decoded → (State → List Rule) → A → (State → A) → ℕ × A
+answerOn damaged rs z f = (2, z)
+answerOn (sound S) rs z f = answered (firstNo (rs S)) z (f S)
+
+unfoldable pub leftOn : {B : Type 0} → Decoded → (State → List Rule) → B → (State → B) → B
+leftOn damaged rs b g = b
+leftOn (sound S) rs b g = cond (eqb (firstNo (rs S)) 0) (g S) b
+
+abbrev pub unknown : State → ℕ → Rule
+unknown S k = (leb (length (S .sets)) k, NoSet)
+
+abbrev pub short : ℕ → ℕ → Rule
+short m n = (ltb n m, ShortBuffer)
 
 -- the number and the value of an answer: a refusal has its number and zeros
 abbrev pub answerAs : Answer → ℕ × ℕ
@@ -34,6 +54,11 @@ reportAs (report.Refused r) = (number r, (0, 0))
 abbrev pub toldAs : Told → ℕ × Bool
 toldAs (told.Is b) = (0, b)
 toldAs (told.Refused r) = (number r, false)
+
+-- the number of a verdict
+abbrev pub verdictAs : Verdict → ℕ
+verdictAs verdict.Fits = 0
+verdictAs (verdict.No r) = number r
 
 -- each share is at most its limit
 abbrev pub withinLimits : List ℕ → List ℕ → Bool
@@ -85,12 +110,10 @@ abbrev pub noSet : SetState
 noSet = record { share = 0; limit = 0; list = [] }
 
 abbrev pub onSet : {A : Type 0} → Decoded → ℕ → A → (State → SetState → A) → ℕ × A
-onSet damaged k z f = (2, z)
-onSet (sound S) k z f = cond (ltb k (length (S .sets))) (0, f S (getD (S .sets) k noSet)) (3, z)
+onSet d k z f = answerOn d (λ S. unknown S k ∷ []) z (λ S. f S (getD (S .sets) k noSet))
 
 unfoldable pub freeRule : Decoded → ℕ × ℕ
-freeRule damaged = (2, 0)
-freeRule (sound S) = (0, freeOf S)
+freeRule d = answerOn d (λ S. []) 0 freeOf
 
 unfoldable pub heldRule : Decoded → ℕ → ℕ × (ℕ × ℕ)
 heldRule d k = onSet d k (0, 0) (λ S s. (held s, length (s .list)))

@@ -1,6 +1,8 @@
 -- The steps that every changing call shares: what they ask, and what they leave. The laws of proofs/Changed.antt tie them to the state afterwards.
 --
+--   Refuses d k x                x is the number of every call on set k: 2 damaged, 3 no such set
 --   Surveyed w k v               v is what a pass over the sound pool found out for its set k
+--   Judges w k n r               r is the verdict on a result of n nodes for set k
 --   behindAt w b v               the words of the sets behind that set, in words whose nodes begin at b;  Gap w b v n: what it takes to move them to where they stand behind n nodes
 --   relinked w k i old new       the words with the roots right after set k, which begins at node i, went from old nodes to new ones
 --   Relink w k old new           what it takes to write them
@@ -10,15 +12,28 @@ use mathlib.Core.List.{List, [], _∷_}
 use Prim.Native.Nat.{ℕ, zero, suc, _+_, _-_, _≤_, _<_}
 use lib.Dec.{eqb}
 use lib.ListN.{length, getD, take, drop}
+use Rattle.nets.specs.Bits.{Bits}
+use Rattle.nets.specs.Lists.{nodesL}
+use Rattle.nets.specs.Refusals.{firstNo}
 use Rattle.nodes.specs.Words.{put, place}
-use Rattle.pool_state.specs.Decode.{recordAt, base, decode}
-use Rattle.pool_state.specs.Rules.{surveyOf}
+use Rattle.pool_state.specs.States.{State}
+use Rattle.pool_state.specs.Decode.{Decoded, damaged, sound, recordAt, base, decode}
+use Rattle.pool_state.specs.Rules.{verdictAs, surveyOf}
+use Rattle.pool_state.specs.Changes.{grantRules}
 use Rattle.pool_state.specs.declared.Survey.{Survey}
+use Rattle.pool_state.specs.declared.Verdict.{Verdict}
+
+abbrev pub Refuses : Decoded → ℕ → ℕ → Type 0
+Refuses damaged k x = x ≡ 2
+Refuses (sound S) k x = (length (S .sets) ≤ k) × (x ≡ 3)
 
 pub record Surveyed (w : List ℕ) (k : ℕ) (v : Survey) : Type 0 where
   pub found : v ≡ surveyOf (decode w) k
   pub sound : v .sound ≡ true
   pub known : k < getD w 2 0
+
+pub record Judges (w : List ℕ) (k n : ℕ) (r : Verdict) : Type 0 where
+  pub verdict : (S : State) (l : List Bits) → decode w ≡ sound S → nodesL l ≡ n → verdictAs r ≡ firstNo (grantRules S k l)
 
 unfoldable pub behindAt : List ℕ → ℕ → Survey → List ℕ
 behindAt w b v = take (v .used + 1 - (v .at + v .held)) (drop (place b (v .at + v .held)) w)

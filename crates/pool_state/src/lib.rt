@@ -7,6 +7,12 @@ pub enum Answer {
     Refused(Refusal),
 }
 
+// What judging the nodes of a result says: they fit, or the refusal.
+pub enum Verdict {
+    Fits,
+    No(Refusal),
+}
+
 // What a question about sets is answered.
 pub enum Told {
     Is(bool),

@@ -1,112 +1,109 @@
 -- The outcomes of load: each call has one. On a sound pool each refusal is given in its case, and else the set has the file's list, in a pool that is sound again. So what save
 -- wrote loads as the list of the set. Assumes nothing.
-use mathlib.Core.Bool.{Bool, true, false, cond}
+use mathlib.Core.Bool.{true, cond}
 use mathlib.Core.List.{List, []}
 use mathlib.Core.Path.{_≡_, refl, sym, ap, _∙_}
 use Prim.Native.Nat.{ℕ, _≤_, _<_}
 use native.Mathlib.Omega.{arith}
 use lib.Dec.{eqb}
 use lib.ListN.{length, take}
-use borrow.Author.Tests.{lt-ltb, le-leb, lt-leb, eqb-true}
+use borrow.Author.Tests.{lt-ltb, le-ltb, eqb-true, not-false}
 use Rattle.nets.specs.Bits.{Bits}
 use Rattle.nets.specs.Lists.{isList, nodesL}
 use Rattle.nets.specs.Networks.{width}
-use Rattle.nets.specs.Refusals.{number}
+use Rattle.nets.specs.Refusals.{number, firstNo}
 use Rattle.nets.specs.declared.Refusal.{Refusal}
 use Rattle.nets.specs.declared.Refusal.the-variants.{Damaged, NoSet, BadFile, WrongFamily, Occupied, OverLimit, NoRoom}
 use Rattle.nets.proofs.Answers.{number-some}
+use Rattle.nets.proofs.Refused.{firstNo-zero}
 use Rattle.pool_state.specs.States.{State, roomOf}
 use Rattle.pool_state.specs.Decode.{damaged, sound, decode}
-use Rattle.pool_state.specs.Rules.{surveyOf}
-use Rattle.pool_state.specs.Changes.{setAt, listAt, isEmpty, withList, changeNo, changeRule}
+use Rattle.pool_state.specs.Rules.{answerOn, surveyOf}
+use Rattle.pool_state.specs.Changes.{setAt, listAt, withList, grantRules, changeNo, changeRule}
+use Rattle.pool_state.specs.Steps.{Refuses}
 use Rattle.pool_state.specs.declared.Answer.{Answer}
 use Rattle.pool_state.specs.declared.Answer.the-variants as answer
 use Rattle.pool_state.proofs.Decoded.{decode-header}
 use Rattle.pool_state.proofs.Seen.{Seen, survey-seen}
+use Rattle.pool_state.proofs.Judged.{changeNo-known}
 use Rattle.pool_state.proofs.Determined.{answerAs-one, changed-one}
-use Rattle.pool_state.proofs.Returns.{changed, change-damaged, change-noset, change-args, change-judged}
+use Rattle.pool_state.proofs.Returns.{Owes, changed, change-seat, change-args, change-judged}
 use Rattle.pool_state.proofs.Leaves.{Leaves, changed-leaves}
 use Rattle.setfile_format.specs.Files.{File, broken, file, readFile}
 use Rattle.setfile_format.proofs.RoundTrip.{readFile-is}
 use Rattle.setfile.specs.Calls.{fileAt, Saved}
-use Rattle.setfile.specs.Loading.{loadNo, fileList, Loaded}
+use Rattle.setfile.specs.Loading.{loadRules, fileList, Loaded}
 use Rattle.setfile.proofs.Outcomes.{save-reads}
-use Rattle.setfile.proofs.Loads.{loadNo-broken, loadNo-other, loadNo-occupied, loadNo-right}
+use Rattle.setfile.proofs.Loads.{loadRules-broken, loadRules-other, loadRules-occupied, loadRules-right}
 
 pub load-determined : {w v u : List ℕ} {k : ℕ} {r s : Answer} (d : List ℕ) → Loaded w k d r v → Loaded w k d s u → (r ≡ s) × (v ≡ u)
 load-determined d h g = changed-one h g
 
 -- The list of a file that is right for a set of the pool is one of the pool's width.
-loadNo-zero : (x : File) (k : ℕ) (S : State) → loadNo x k S ≡ 0 → x ≡ file (S .family) (fileList x)
-unfolding loadNo
-loadNo-zero broken k S e = absurd (omega arith)
-loadNo-zero (file f l) k S e = go (eqb f (S .family)) refl e
-  where
-    go : (b : Bool) → eqb f (S .family) ≡ b → _≡_ {A = ℕ} (cond b (cond (isEmpty (listAt S k)) 0 8) 6) 0 → file f l ≡ file (S .family) l
-    go true q z = ap (λ g. file g l) (eqb-true f (S .family) q)
-    go false q z = absurd (omega arith)
+loadRules-zero : (x : File) (k : ℕ) (S : State) → firstNo (loadRules x k S) ≡ 0 → x ≡ file (S .family) (fileList x)
+unfolding loadRules
+loadRules-zero broken k S e = absurd (omega arith)
+loadRules-zero (file f l) k S e = ap (λ g. file g l) (eqb-true f (S .family) (not-false _ (firstNo-zero (loadRules (file f l) k S) e .0)))
 
-pub isList-load : (d : List ℕ) (k : ℕ) (S : State) → loadNo (readFile d) k S ≡ 0 → isList (width (S .family)) (fileList (readFile d)) ≡ true
-isList-load d k S z = readFile-is d (S .family) (fileList (readFile d)) (loadNo-zero (readFile d) k S z) .list
+pub isList-load : (d : List ℕ) (k : ℕ) (S : State) → firstNo (loadRules (readFile d) k S) ≡ 0 → isList (width (S .family)) (fileList (readFile d)) ≡ true
+isList-load d k S z = readFile-is d (S .family) (fileList (readFile d)) (loadRules-zero (readFile d) k S z) .list
 
-pub load-leaves : {w v : List ℕ} {S : State} {k : ℕ} {r : Answer} (d : List ℕ) → decode w ≡ sound S → Loaded w k d r v → Leaves S k (loadNo (readFile d) k S) (fileList (readFile d)) r v
+pub load-leaves : {w v : List ℕ} {S : State} {k : ℕ} {r : Answer} (d : List ℕ) → decode w ≡ sound S → Loaded w k d r v → Leaves S k (loadRules (readFile d) k S) (fileList (readFile d)) r v
 load-leaves {S = S} {k = k} d e h = changed-leaves e (isList-load d k S) h
 
 module _ {w v : List ℕ} {k : ℕ} {r : Answer} (d : List ℕ) (h : Loaded w k d r v) where
+  no-seat : {x : ℕ} → Refuses (decode w) k x → Owes w k (loadRules (readFile d) k) (λ T. fileList (readFile d)) (x, 0) w
+  no-seat = change-seat (loadRules (readFile d) k) (λ T. fileList (readFile d)) w k
+
   pub load-damaged : decode w ≡ damaged → (r ≡ answer.Refused Damaged) × (v ≡ w)
-  unfolding surveyOf
-  load-damaged e = load-determined d h (changed (change-damaged (loadNo (readFile d) k) (λ T. fileList (readFile d)) w k (surveyOf (decode w) k) refl (rw e)))
+  load-damaged e = load-determined d h (changed (no-seat (rw e refl)))
 
   module _ (S : State) (e : decode w ≡ sound S) where
     pub load-noset : length (S .sets) ≤ k → (r ≡ answer.Refused NoSet) × (v ≡ w)
-    unfolding surveyOf
-    load-noset le =
-        load-determined d h
-        (changed (change-noset (loadNo (readFile d) k) (λ T. fileList (readFile d)) w k (surveyOf (decode w) k) refl (rw e) (omega (arith, decode-header w S e .sets))))
+    load-noset le = load-determined d h (changed (no-seat (rw e (le, refl))))
 
     module _ (lt : k < length (S .sets)) where
       here : Seen w S k (surveyOf (decode w) k)
       here = survey-seen w k (surveyOf (decode w) k) refl S e (omega (arith, decode-header w S e .sets))
 
-      refused : (x : Refusal) → loadNo (readFile d) k S ≡ number x → (r ≡ answer.Refused x) × (v ≡ w)
-      refused x q = load-determined d h (changed (change-args (loadNo (readFile d) k) (λ T. fileList (readFile d)) here q (number-some x)))
+      refused : (x : Refusal) → firstNo (loadRules (readFile d) k S) ≡ number x → (r ≡ answer.Refused x) × (v ≡ w)
+      refused x q = load-determined d h (changed (change-args (loadRules (readFile d) k) (λ T. fileList (readFile d)) here q (number-some x)))
 
       pub load-broken : readFile d ≡ broken → (r ≡ answer.Refused BadFile) × (v ≡ w)
-      load-broken i = refused BadFile (loadNo-broken (readFile d) k S i)
+      load-broken i = refused BadFile (loadRules-broken (readFile d) k S i)
 
       module _ {f : ℕ} {l : List Bits} (i : readFile d ≡ file f l) where
         pub load-family : (f ≡ S .family → ⊥) → (r ≡ answer.Refused WrongFamily) × (v ≡ w)
-        load-family ne = refused WrongFamily (loadNo-other (readFile d) k S f l i ne)
+        load-family ne = refused WrongFamily (loadRules-other (readFile d) k S f l i ne)
 
         module _ (own : f ≡ S .family) where
           pub load-occupied : (listAt S k ≡ [] → ⊥) → (r ≡ answer.Refused Occupied) × (v ≡ w)
-          load-occupied ne = refused Occupied (loadNo-occupied (readFile d) k S f l i own ne)
+          load-occupied ne = refused Occupied (loadRules-occupied (readFile d) k S f l i own ne)
 
           module _ (empty : listAt S k ≡ []) where
-            right : loadNo (readFile d) k S ≡ 0
-            right = loadNo-right (readFile d) k S f l i own empty
+            right : firstNo (loadRules (readFile d) k S) ≡ 0
+            right = loadRules-right (readFile d) k S f l i own empty
 
-            judged : (x : Refusal) → number x ≡ changeNo S k 0 l → (r ≡ answer.Refused x) × (v ≡ w)
+            judged : (x : Refusal) → number x ≡ firstNo (grantRules S k l) → (r ≡ answer.Refused x) × (v ≡ w)
             judged x q =
                 load-determined d h
-                (changed (change-judged (loadNo (readFile d) k) (λ T. fileList (readFile d)) here right (q ∙ ap (λ m. changeNo S k 0 (fileList m)) (sym i)) (number-some x)))
+                (changed (change-judged (loadRules (readFile d) k) (λ T. fileList (readFile d)) here right (q ∙ ap (λ m. firstNo (grantRules S k (fileList m))) (sym i)) (number-some x)))
 
             pub load-limit : setAt S k .limit < nodesL l → (r ≡ answer.Refused OverLimit) × (v ≡ w)
-            unfolding changeNo
-            load-limit more = judged OverLimit (rw (lt-ltb k (length (S .sets)) lt, lt-leb (nodesL l) (setAt S k .limit) more))
+            load-limit more = judged OverLimit (rw (lt-ltb (setAt S k .limit) (nodesL l) more))
 
             module _ (low : nodesL l ≤ setAt S k .limit) where
               pub load-room : roomOf S k < nodesL l → (r ≡ answer.Refused NoRoom) × (v ≡ w)
-              unfolding changeNo
-              load-room more = judged NoRoom (rw (lt-ltb k (length (S .sets)) lt, le-leb (nodesL l) (setAt S k .limit) low, lt-leb (nodesL l) (roomOf S k) more))
+              load-room more = judged NoRoom (rw (le-ltb (setAt S k .limit) (nodesL l) low, lt-ltb (roomOf S k) (nodesL l) more))
 
               module _ (fits : nodesL l ≤ roomOf S k) where
-                granted : changeNo S k (loadNo (readFile d) k S) (fileList (readFile d)) ≡ 0
-                unfolding changeNo
-                granted = rw (right, i, lt-ltb k (length (S .sets)) lt, le-leb (nodesL l) (setAt S k .limit) low, le-leb (nodesL l) (roomOf S k) fits)
+                granted : changeNo S k (loadRules (readFile d) k S) (fileList (readFile d)) ≡ 0
+                granted =
+                    changeNo-known S k (loadRules (readFile d) k S) (fileList (readFile d)) lt
+                    ∙ rw (right, i, le-ltb (setAt S k .limit) (nodesL l) low, le-ltb (roomOf S k) (nodesL l) fits)
 
                 pub load-list : (r ≡ answer.Granted (nodesL l)) × (decode v ≡ sound (withList S k l))
-                unfolding changeRule
+                unfolding changeRule answerOn
                 load-list =
                     let list = fileList (readFile d) in (
                       answerAs-one r (answer.Granted (nodesL l)) (h .answer ∙ rw (e, granted, i)),

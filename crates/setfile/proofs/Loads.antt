@@ -1,37 +1,33 @@
--- A load, a law for each return: what `ask` finds, and then what becomes of a list whose nodes are judged. Assumes nothing.
-use mathlib.Core.Bool.{Bool, true, false}
-use mathlib.Core.List.{List, [], _∷_, _++_}
+-- A load: what `ask` finds, a law for each return, and then the list of the file as a result (`Result` of pool_state's proofs/Returns.antt says what becomes of it), and what writing it
+-- asks. Assumes nothing.
+use mathlib.Core.Bool.{true, false}
+use mathlib.Core.List.{List, []}
 use mathlib.Core.Path.{_≡_, refl, sym, ap, _∙_}
 use Prim.Native.Nat.{ℕ, _+_, _≤_, _<_}
 use native.Mathlib.Omega.{arith}
-use lib.Dec.{eqb}
 use lib.ListN.{getD}
-use borrow.Author.Tests.{eq-eqb, ne-eqb, eqb-true, eqb-false}
+use borrow.Author.Tests.{eq-eqb, ne-eqb}
 use Rattle.nets.specs.Bits.{Bits}
 use Rattle.nets.specs.Lists.{nodesL}
 use Rattle.nets.specs.Tries.{Trie, size, listOf, trieOf}
-use Rattle.nets.specs.Refusals.{number}
+use Rattle.nets.specs.Refusals.{number, firstNo}
 use Rattle.nets.specs.declared.Refusal.{Refusal}
 use Rattle.nets.specs.declared.Refusal.the-variants.{Damaged, NoSet, BadFile, WrongFamily, Occupied}
 use Rattle.nets.proofs.Answers.{number-some}
-use Rattle.nodes.specs.Words.{enc}
 use Rattle.pool_state.specs.States.{State, roomOf}
-use Rattle.pool_state.specs.Decode.{sound, decode}
-use Rattle.pool_state.specs.Rules.{answerAs, surveyOf}
-use Rattle.pool_state.specs.Changes.{listAt, isEmpty, changeNo}
-use Rattle.pool_state.specs.Steps.{relinked, Relink}
-use Rattle.pool_state.specs.declared.Answer.{Answer}
+use Rattle.pool_state.specs.Decode.{decode}
+use Rattle.pool_state.specs.Rules.{surveyOf}
+use Rattle.pool_state.specs.Changes.{listAt}
 use Rattle.pool_state.specs.declared.Survey.{Survey}
 use Rattle.pool_state.proofs.Decoded.{decode-header}
-use Rattle.pool_state.proofs.Seen.{Seen, behind, survey-sound, survey-seen, seen, seen-figures, seen-empty, seen-some}
-use Rattle.pool_state.proofs.Judged.{judge-zero, changeNo-granted}
-use Rattle.pool_state.proofs.Changed.{withTrie, behind-first, relink-asks, gap-asks}
-use Rattle.pool_state.proofs.Returns.{changed, change-damaged, change-noset, change-args, change-judged, change-granted}
+use Rattle.pool_state.proofs.Seen.{Seen, survey-sound, refuses-damaged, refuses-noset, survey-seen, seen, seen-figures, seen-empty, seen-some}
+use Rattle.pool_state.proofs.Changed.{withTrie, behind-first, gap-asks}
+use Rattle.pool_state.proofs.Returns.{Result, changed, isEmpty-some, change-seat, change-args}
 use Rattle.setfile_format.specs.Files.{File, broken, file, readFile}
 use Rattle.setfile_order.specs.Flow.{checkedOf}
 use Rattle.setfile_order.specs.declared.Checked.{Checked}
 use Rattle.setfile_order.specs.declared.Checked.the-variants as checked
-use Rattle.setfile.specs.Loading.{loadNo, fileList, Loaded}
+use Rattle.setfile.specs.Loading.{loadRules, fileList}
 use Rattle.setfile.specs.LoadSteps.{Ready, Asks, Writable, written}
 use Rattle.setfile.specs.declared.loading.Asked.the-variants.{Go, Refused}
 use Rattle.setfile_build.proofs.Filling.{file-listOf, file-size}
@@ -49,54 +45,50 @@ checked-file broken f n e = never cc
 checked-file (file g l) f n e = let p : g ≡ f = cc in (l, ap (λ h. file h l) p, cc)
 
 -- The number that a file and a set get.
-isEmpty-some : (l : List Bits) → (l ≡ [] → ⊥) → isEmpty l ≡ false
-isEmpty-some [] ne = absurd (ne refl)
-isEmpty-some (p ∷ l) ne = refl
-
 module _ (x : File) (k : ℕ) (S : State) where
-  pub loadNo-broken : x ≡ broken → loadNo x k S ≡ 5
-  unfolding loadNo
-  loadNo-broken e = rw e
+  pub loadRules-broken : x ≡ broken → firstNo (loadRules x k S) ≡ 5
+  unfolding loadRules
+  loadRules-broken e = rw e
 
   module _ (f : ℕ) (l : List Bits) (e : x ≡ file f l) where
-    pub loadNo-other : (f ≡ S .family → ⊥) → loadNo x k S ≡ 6
-    unfolding loadNo
-    loadNo-other ne = rw (e, ne-eqb f (S .family) ne)
+    pub loadRules-other : (f ≡ S .family → ⊥) → firstNo (loadRules x k S) ≡ 6
+    unfolding loadRules
+    loadRules-other ne = rw (e, ne-eqb f (S .family) ne)
 
     module _ (own : f ≡ S .family) where
-      pub loadNo-occupied : (listAt S k ≡ [] → ⊥) → loadNo x k S ≡ 8
-      unfolding loadNo
-      loadNo-occupied ne = rw (e, eq-eqb f (S .family) own, isEmpty-some (listAt S k) ne)
+      pub loadRules-occupied : (listAt S k ≡ [] → ⊥) → firstNo (loadRules x k S) ≡ 8
+      unfolding loadRules
+      loadRules-occupied ne = rw (e, eq-eqb f (S .family) own, isEmpty-some (listAt S k) ne)
 
-      pub loadNo-right : listAt S k ≡ [] → loadNo x k S ≡ 0
-      unfolding loadNo
-      loadNo-right n = rw (e, eq-eqb f (S .family) own, n)
+      pub loadRules-right : listAt S k ≡ [] → firstNo (loadRules x k S) ≡ 0
+      unfolding loadRules
+      loadRules-right n = rw (e, eq-eqb f (S .family) own, n)
 
 -- What `ask` finds.
 module _ {w : List ℕ} {k : ℕ} {v : Survey} (d : List ℕ) (e : v ≡ surveyOf (decode w) k) where
   pub ask-damaged : v .sound ≡ false → Asks w k d (Refused Damaged)
-  ask-damaged q = changed (change-damaged (loadNo (readFile d) k) (λ S. fileList (readFile d)) w k v e q)
+  ask-damaged q = changed (change-seat (loadRules (readFile d) k) (λ S. fileList (readFile d)) w k (refuses-damaged w k v e q))
 
   pub ask-noset : v .sound ≡ true → getD w 2 0 ≤ k → Asks w k d (Refused NoSet)
-  ask-noset q le = changed (change-noset (loadNo (readFile d) k) (λ S. fileList (readFile d)) w k v e q le)
+  ask-noset q le = changed (change-seat (loadRules (readFile d) k) (λ S. fileList (readFile d)) w k (refuses-noset w k v e q le))
 
   module _ (q : v .sound ≡ true) (lt : k < getD w 2 0) {r : Checked} (c : r ≡ checkedOf (readFile d)) where
-    ask-args : (x : Refusal) → ((S : State) → Seen w S k v → getD w 1 0 ≡ S .family → loadNo (readFile d) k S ≡ number x) → Asks w k d (Refused x)
+    ask-args : (x : Refusal) → ((S : State) → Seen w S k v → getD w 1 0 ≡ S .family → firstNo (loadRules (readFile d) k S) ≡ number x) → Asks w k d (Refused x)
     ask-args x h =
         let y = survey-sound w k v e q in
         let g = survey-seen w k v e (y .0) (y .1) lt in
-        changed (change-args (loadNo (readFile d) k) (λ S. fileList (readFile d)) g (h (y .0) g (decode-header w (y .0) (y .1) .family)) (number-some x))
+        changed (change-args (loadRules (readFile d) k) (λ S. fileList (readFile d)) g (h (y .0) g (decode-header w (y .0) (y .1) .family)) (number-some x))
 
     pub ask-broken : r ≡ checked.Broken → Asks w k d (Refused BadFile)
-    ask-broken i = ask-args BadFile (λ S g o. loadNo-broken (readFile d) k S (checked-broken (readFile d) (sym c ∙ i)))
+    ask-broken i = ask-args BadFile (λ S g o. loadRules-broken (readFile d) k S (checked-broken (readFile d) (sym c ∙ i)))
 
     module _ {f n : ℕ} (i : r ≡ checked.File f n) where
       pub ask-family : (f ≡ getD w 1 0 → ⊥) → Asks w k d (Refused WrongFamily)
-      ask-family ne = let its = checked-file (readFile d) f n (sym c ∙ i) in ask-args WrongFamily (λ S g o. loadNo-other (readFile d) k S f (its .0) (its .1) (λ z. ne (z ∙ sym o)))
+      ask-family ne = let its = checked-file (readFile d) f n (sym c ∙ i) in ask-args WrongFamily (λ S g o. loadRules-other (readFile d) k S f (its .0) (its .1) (λ z. ne (z ∙ sym o)))
 
       module _ (own : f ≡ getD w 1 0) where
         pub ask-occupied : (v .held ≡ 0 → ⊥) → Asks w k d (Refused Occupied)
-        ask-occupied ne = let its = checked-file (readFile d) f n (sym c ∙ i) in ask-args Occupied (λ S g o. loadNo-occupied (readFile d) k S f (its .0) (its .1) (own ∙ o) (seen-some g ne))
+        ask-occupied ne = let its = checked-file (readFile d) f n (sym c ∙ i) in ask-args Occupied (λ S g o. loadRules-occupied (readFile d) k S f (its .0) (its .1) (own ∙ o) (seen-some g ne))
 
         pub ask-go : v .held ≡ 0 → Asks w k d (Go v f n)
         ask-go z =
@@ -120,58 +112,32 @@ module _ {w : List ℕ} {k : ℕ} {d : List ℕ} {v : Survey} {f n : ℕ} (c : R
   after-is : after ≡ c .list
   after-is = ap fileList (c .reads)
 
-  after-nodes : nodesL after ≡ n
-  after-nodes = ap nodesL after-is ∙ sym (c .nodes)
-
   trie-size : size trie ≡ n
   trie-size = file-size d (c .reads) ∙ sym (c .nodes)
 
   trie-list : listOf trie ≡ after
   trie-list = file-listOf d (c .reads) ∙ sym after-is
 
-  right : loadNo (readFile d) k S ≡ 0
-  right = loadNo-right (readFile d) k S f (c .list) (c .reads) (c .family ∙ decode-header w S (known .decoded) .family) (seen-empty known (c .empty))
+  right : firstNo (loadRules (readFile d) k S) ≡ 0
+  right = loadRules-right (readFile d) k S f (c .list) (c .reads) (c .family ∙ decode-header w S (known .decoded) .family) (seen-empty known (c .empty))
 
-  -- r judges its nodes
-  module _ {r : ℕ} (j : (T : State) (l : List Bits) → decode w ≡ sound T → nodesL l ≡ n → r ≡ changeNo T k 0 l) where
-    verdict : r ≡ changeNo S k 0 after
-    verdict = j S after (known .decoded) after-nodes
+  pub load-result : Result w S k v (loadRules (readFile d) k) (λ T. after) trie n
+  load-result = record { seen = known; right = right; list = trie-list; size = trie-size }
 
-    pub load-many : (r ≡ 0 → ⊥) → (r ≡ 9 → ⊥) → r ≡ 10
-    load-many ne n9 = go (eqb r 10) refl
-      where
-        go : (b : Bool) → eqb r 10 ≡ b → r ≡ 10
-        go true e = eqb-true r 10 e
-        go false e = absurd (ne (judge-zero known after verdict n9 (eqb-false r 10 e)))
+  -- it is granted, and written
+  module _ (fits : n ≤ roomOf S k) where
+    pub load-writes : Writable w v d f n (c .list)
+    load-writes =
+        let x = seen-figures known in
+        record {
+          reads = c .reads;
+          nodes = sym (c .nodes);
+          gap = gap-asks known fits refl;
+          empty = c .empty;
+          few = omega (arith, fits, decode-header w S (known .decoded) .nodes);
+          sets = x .sets;
+          long = omega (arith, x .long);
+        }
 
-    pub load-refused : {x : Answer} → (r ≡ 0 → ⊥) → answerAs x ≡ (r, 0) → Loaded w k d x w
-    load-refused ne e = changed (rw e (change-judged (loadNo (readFile d) k) (λ T. after) known right verdict ne))
-
-    -- it is granted
-    module _ (z : r ≡ 0) where
-      fits : n ≤ roomOf S k
-      fits = rw after-nodes at (changeNo-granted S k 0 after (sym z ∙ verdict) .0 .room)
-
-      pub load-writes : Writable w v d f n (c .list)
-      load-writes =
-          let x = seen-figures known in
-          record {
-            reads = c .reads;
-            nodes = sym (c .nodes);
-            gap = gap-asks known fits refl;
-            empty = c .empty;
-            few = omega (arith, fits, decode-header w S (known .decoded) .nodes);
-            sets = x .sets;
-            long = omega (arith, x .long);
-          }
-
-      -- and written
-      module _ {y : List ℕ} (i : (l : List Bits) → Writable w v d f n l → y ≡ written w v n l) where
-        wrote : y ≡ withTrie w S k v trie
-        wrote = behind-first known trie refl (rw trie-size (i (c .list) load-writes))
-
-        pub load-relinks : Relink y k (v .held) n
-        load-relinks = relink-asks known (enc trie ++ behind S k) fits wrote
-
-        pub load-granted : {a : Answer} {x : List ℕ} → (answerAs a ≡ (0, n)) × (x ≡ relinked y k (v .at) (v .held) n) → Loaded w k d a x
-        load-granted (e, q) = changed (rw e (change-granted (loadNo (readFile d) k) (λ T. after) known right verdict trie z trie-list trie-size wrote q))
+    pub load-wrote : {y : List ℕ} → ((l : List Bits) → Writable w v d f n l → y ≡ written w v n l) → y ≡ withTrie w S k v trie
+    load-wrote i = behind-first known trie refl (rw trie-size (i (c .list) load-writes))

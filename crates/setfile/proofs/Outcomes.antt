@@ -5,9 +5,9 @@ use mathlib.Core.List.{List, [], _∷_}
 use Prim.Native.Nat.{ℕ, _≤_, _<_}
 use native.Mathlib.Omega.{arith}
 use lib.ListN.{length, getD, take}
-use borrow.Author.Tests.{lt-ltb, le-ltb, le-leb, lt-leb}
 use Rattle.nets.specs.Networks.{width}
 use Rattle.nets.specs.declared.Refusal.the-variants.{Damaged, NoSet, ShortBuffer}
+use Rattle.nets.proofs.Answers.{number-some}
 use Rattle.nodes.specs.Words.{put}
 use Rattle.nodes.proofs.Put.{length-put, getD-put-behind}
 use Rattle.pool_state.specs.States.{State}
@@ -16,12 +16,13 @@ use Rattle.pool_state.specs.Changes.{setAt, listAt}
 use Rattle.pool_state.specs.declared.Answer.{Answer}
 use Rattle.pool_state.specs.declared.Answer.the-variants as answer
 use Rattle.pool_state.proofs.Claims.{isState-family, isSet-list}
-use Rattle.pool_state.proofs.Determined.{answerAs-one}
+use Rattle.pool_state.proofs.Answered.{owes-damaged, owes-refused, owes-granted, owes-seat, firstNo-short, firstNo-fits}
+use Rattle.pool_state.proofs.Determined.{answerAs-one, owed-one}
 use Rattle.pool_state.proofs.Holds.{set-listOf}
 use Rattle.pool_state.proofs.Decoded.{decode-state, decode-set}
 use Rattle.setfile_format.specs.Files.{file, readFile}
 use Rattle.setfile_format.proofs.Written.{readFile-fileOf}
-use Rattle.setfile.specs.Calls.{fileAt, saveNo, saveRule, bytesAfter, Saved}
+use Rattle.setfile.specs.Calls.{fileAt, saveRules, saveRule, bytesAfter, Saved}
 use Rattle.setfile.proofs.Returns.{decode-few}
 
 pub save-determined : {w v u x : List ℕ} {k : ℕ} {r s : Answer} → Saved w k v r u → Saved w k v s x → (r ≡ s) × (u ≡ x)
@@ -44,28 +45,22 @@ take-put (y ∷ v) (x ∷ xs) h = ap (λ l. x ∷ l) (take-put v xs (omega arith
 module _ {w v u : List ℕ} {k : ℕ} {r : Answer} (h : Saved w k v r u) where
   pub save-damaged : decode w ≡ damaged → (r ≡ answer.Refused Damaged) × (u ≡ v)
   unfolding saveRule bytesAfter
-  save-damaged d = (answerAs-one r (answer.Refused Damaged) (h .answer ∙ rw d), h .bytes ∙ rw d)
+  save-damaged d = owed-one r (answer.Refused Damaged) (h .answer, h .bytes) (owes-damaged _ 0 _ v _ d)
 
   module _ (S : State) (d : decode w ≡ sound S) where
     pub save-noset : length (S .sets) ≤ k → (r ≡ answer.Refused NoSet) × (u ≡ v)
-    unfolding saveRule bytesAfter saveNo
-    save-noset le = let l = le-ltb k (length (S .sets)) le in (answerAs-one r (answer.Refused NoSet) (h .answer ∙ rw (d, l)), h .bytes ∙ rw (d, l))
+    unfolding saveRule bytesAfter saveRules
+    save-noset le = owed-one r (answer.Refused NoSet) (h .answer, h .bytes) (owes-seat _ 0 _ v _ (decode w) k (rw d (le, refl)))
 
     module _ (lt : k < length (S .sets)) where
       pub save-small : length v < length (fileAt S k) → (r ≡ answer.Refused ShortBuffer) × (u ≡ v)
-      unfolding saveRule bytesAfter saveNo
-      save-small less =
-          let l = lt-ltb k (length (S .sets)) lt in
-          let m = lt-leb (length (fileAt S k)) (length v) less in
-          (answerAs-one r (answer.Refused ShortBuffer) (h .answer ∙ rw (d, l, m)), h .bytes ∙ rw (d, l, m))
+      unfolding saveRule bytesAfter saveRules
+      save-small less = owed-one r (answer.Refused ShortBuffer) (h .answer, h .bytes) (owes-refused _ 0 _ v _ d (firstNo-short S k lt less) (number-some ShortBuffer))
 
       module _ (le : length (fileAt S k) ≤ length v) where
         pub save-file : (r ≡ answer.Granted (length (fileAt S k))) × (u ≡ put v 0 (fileAt S k))
-        unfolding saveRule bytesAfter saveNo
-        save-file =
-            let l = lt-ltb k (length (S .sets)) lt in
-            let m = le-leb (length (fileAt S k)) (length v) le in
-            (answerAs-one r (answer.Granted (length (fileAt S k))) (h .answer ∙ rw (d, l, m)), h .bytes ∙ rw (d, l, m))
+        unfolding saveRule bytesAfter saveRules
+        save-file = owed-one r (answer.Granted (length (fileAt S k))) (h .answer, h .bytes) (owes-granted _ 0 _ v _ d (firstNo-fits S k lt le))
 
         pub save-reads : readFile (take (length (fileAt S k)) u) ≡ file (S .family) (listAt S k)
         save-reads = rw (save-file .1, take-put v (fileAt S k) le) (readFile-fileAt w S d k lt)

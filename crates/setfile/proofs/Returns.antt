@@ -4,44 +4,39 @@ use mathlib.Core.List.{List}
 use Prim.Native.Nat.{ℕ, _≤_, _<_}
 use native.Mathlib.Omega.{arith}
 use lib.ListN.{length}
-use borrow.Author.Tests.{lt-ltb, le-ltb, le-leb, lt-leb}
 use Rattle.nets.specs.Networks.{width}
-use Rattle.nets.specs.Refusals.{number}
 use Rattle.nets.specs.Tries.{listOf, trieOf}
 use Rattle.nets.specs.declared.Refusal.{Refusal}
 use Rattle.nets.specs.declared.Refusal.the-variants.{ShortBuffer}
+use Rattle.nets.proofs.Answers.{number-some}
 use Rattle.nodes.specs.Words.{put}
 use Rattle.pool_state.specs.States.{State}
-use Rattle.pool_state.specs.Decode.{Decoded, damaged, sound, decode}
+use Rattle.pool_state.specs.Decode.{sound, decode}
 use Rattle.pool_state.specs.Changes.{setAt, listAt}
+use Rattle.pool_state.specs.Rules.{answerAs}
+use Rattle.pool_state.specs.declared.Answer.{Answer}
 use Rattle.pool_state.specs.declared.Answer.the-variants as answer
+use Rattle.pool_state.proofs.Answered.{owes-refused, owes-granted, owes-seat, firstNo-short, firstNo-fits}
 use Rattle.pool_state.proofs.Claims.{isState-claimed, claimedBut-is}
 use Rattle.pool_state.proofs.Header.{isHeader-header}
 use Rattle.pool_state.proofs.Holds.{set-size}
 use Rattle.pool_state.proofs.Decoded.{decode-header, decode-state, decode-set}
 use Rattle.trie_paths.specs.Laying.{tallied, clear, Starts}
-use Rattle.listing.specs.Seats.{Sits, Refuses, Seats}
+use Rattle.listing.specs.Seats.{Sits, Seats}
 use Rattle.nodes.specs.declared.seats.Seat.{Seat}
 use Rattle.listing.specs.declared.seats.Seated.the-variants.{Refused}
 use Rattle.trie_paths.proofs.Counting.{listOf-size}
 use Rattle.setfile_format.specs.Files.{fileBytes, mostEntries, fileOf}
 use Rattle.setfile_format.proofs.Written.{length-fileOf, fileBytes-few}
 use Rattle.setfile_write.specs.Saving.{Writable}
-use Rattle.setfile.specs.Calls.{fileAt, saveNo, saveRule, bytesAfter, Saved}
+use Rattle.setfile.specs.Calls.{fileAt, saveRules, saveRule, bytesAfter, Saved}
 
-saveRule-refused : (d : Decoded) (k n x : ℕ) → Refuses d k x → (x, 0) ≡ saveRule d k n
-unfolding saveRule saveNo
-saveRule-refused damaged k n x e = ap (λ y. (y, 0)) e
-saveRule-refused (sound S) k n x e = rw (e .1, le-ltb k (length (S .sets)) (e .0))
-
-bytesAfter-refused : (d : Decoded) (k x : ℕ) (v : List ℕ) → Refuses d k x → v ≡ bytesAfter v d k
-unfolding bytesAfter saveNo
-bytesAfter-refused damaged k x v e = refl
-bytesAfter-refused (sound S) k x v e = rw (le-ltb k (length (S .sets)) (e .0))
+saved : {w v u : List ℕ} {k : ℕ} {r : Answer} → (answerAs r ≡ saveRule (decode w) k (length v)) × (u ≡ bytesAfter v (decode w) k) → Saved w k v r u
+saved h = record { answer = h .0; bytes = h .1 }
 
 pub save-refused : {w v : List ℕ} {k : ℕ} (x : Refusal) → Seats w k (Refused x) → Saved w k v (answer.Refused x) v
-save-refused {w} {v} {k} x e =
-    record { answer = saveRule-refused (decode w) k (length v) (number x) e; bytes = bytesAfter-refused (decode w) k (number x) v e }
+unfolding saveRule bytesAfter saveRules
+save-refused {w} {v} {k} x e = saved (owes-seat _ 0 _ v _ (decode w) k e)
 
 -- a set of a sound pool has no more networks than a file may have
 pub decode-few : (w : List ℕ) (S : State) → decode w ≡ sound S → (k : ℕ) → k < length (S .sets) → listOf (trieOf (listAt S k)) ≡ listAt S k → length (listAt S k) ≤ mostEntries
@@ -72,19 +67,14 @@ module _ {w : List ℕ} {k : ℕ} {S : State} {s : Seat} (h : Sits w k S s) {n :
     save-fits = rw q (fileBytes-few (s .family) n save-few)
 
     pub save-short : {v : List ℕ} → length v < m → Saved w k v (answer.Refused ShortBuffer) v
-    unfolding saveRule bytesAfter saveNo
-    save-short {v} lt =
-        let l = lt-ltb k (length (S .sets)) (h .known) in
-        let g = lt-leb (length (fileAt S k)) (length v) (rw sized at lt) in
-        record { answer = rw (h .decoded, l, g); bytes = rw (h .decoded, l, g) }
+    unfolding saveRule bytesAfter saveRules
+    save-short {v} lt = saved (owes-refused _ 0 _ v _ (h .decoded) (firstNo-short S k (h .known) (rw sized at lt)) (number-some ShortBuffer))
 
     pub save-writable : {r : ℕ} {c₀ c₁ : List ℕ} → c₀ ≡ tallied 0 (trieOf (listAt S k)) clear → Starts c₀ c₁ → m ≤ r → Writable w (s .base) (s .first) (s .end) (s .family) n c₁ r (trieOf (listAt S k))
     save-writable e o le = record { holds = h .holds; count = c; few = save-few; starts = rw e at o; fits = rw q at le }
 
     pub save-granted : {v u : List ℕ} → m ≤ length v → u ≡ put v 0 (fileOf (s .family) (listOf (trieOf (listAt S k)))) → Saved w k v (answer.Granted m) u
-    unfolding saveRule bytesAfter saveNo
+    unfolding saveRule bytesAfter saveRules
     save-granted {v} {u} le f =
-        let l = lt-ltb k (length (S .sets)) (h .known) in
-        let g = le-leb (length (fileAt S k)) (length v) (rw sized at le) in
         let r : u ≡ put v 0 (fileAt S k) = rw (h .list, h .family) at f in
-        record { answer = rw (h .decoded, l, g) (ap (λ x. (0, x)) sized); bytes = rw (h .decoded, l, g) r }
+        rw (sized, r) (saved (owes-granted _ 0 _ v _ (h .decoded) (firstNo-fits S k (h .known) (rw sized at le))))

@@ -6,9 +6,9 @@ use loading::ask;
 use loading::write;
 use nets::Refusal;
 use pool_change::judging::judge;
-use pool_change::judging::too_many;
 use pool_change::relinking::granted;
 use pool_state::Answer;
+use pool_state::Verdict;
 use setfile_entries::reading::file_bytes;
 use setfile_write::saving::write_file;
 use trie_list::lengths::starts;
@@ -46,12 +46,14 @@ pub fn load(pool: &mut [u32], set: u32, bytes: &[u8]) -> Answer
     match asked {
         Asked::Refused(no) => Answer::Refused(no),
         Asked::Go(v, family, n) => {
-            let no = judge(pool, set, v, n);
-            if no != 0 {
-                return too_many(no);
+            let verdict = judge(pool, set, v, n);
+            match verdict {
+                Verdict::No(no) => Answer::Refused(no),
+                Verdict::Fits => {
+                    write(pool, v, bytes, family, n);
+                    granted(pool, set, v, n)
+                }
             }
-            write(pool, v, bytes, family, n);
-            granted(pool, set, v, n)
         }
     }
 }

@@ -10,14 +10,15 @@ use Rattle.nets.specs.Tries.{Trie, size, levels}
 use Rattle.nets.specs.Networks.{width, netBits, netFrom}
 use Rattle.nets.specs.declared.Net.{Net}
 use Rattle.nets.proofs.Numbers.{netBits-netFrom}
-use Rattle.nodes.specs.Words.{put, place, enc}
+use Rattle.nodes.specs.Words.{put, place, enc, chain}
+use Rattle.nodes.proofs.Chains.{size-chain}
 use Rattle.nodes.proofs.Put.{length-put}
 use Rattle.address_order.specs.Streams.{shared}
 use Rattle.setfile_order.specs.Flow.{headAs, Flow}
 use Rattle.setfile_order.specs.declared.Head.{Head}
 use Rattle.trie_paths.proofs.Paths.{path-is}
-use Rattle.setfile_build.specs.Building.{chain, Chains, Chained, Appends, Appended, Due}
-use Rattle.setfile_build.proofs.Growing.{offset, offset-chain, size-chain, grow-deep, grow-size, grow-at, grow-old, grow-new, grow-put, Cut, cut-size, cut-levels, cut-first, Next, Onward, onward}
+use Rattle.setfile_build.specs.Building.{Chains, Chained, Appends, Appended, Due}
+use Rattle.setfile_build.proofs.Growing.{offset, offset-chain, grow-deep, grow-size, grow-at, grow-old, grow-new, grow-put, Cut, cut-size, cut-levels, cut-first, Next, Onward, onward}
 
 -- The networks of the trie t up to q are written from node o on over the words w₀, up to node e, and p are the nodes on the path to q; the head h and the cursors c are behind q.
 pub record Going (w₀ w : List ℕ) (b o e : ℕ) (p : List ℕ) (h : Head) (x : List ℕ) (f : ℕ) (c : List ℕ) (t : Trie) : Type 0 where

@@ -1,6 +1,6 @@
 -- Writing the rest of a network's path. The loop's invariant: what is still to be written completes it. Assumes nothing.
 use mathlib.Core.Path.{_≡_, refl, sym, ap, _∙_}
-use mathlib.Core.Bool.{Bool, true, false}
+use mathlib.Core.Bool.{Bool, false}
 use mathlib.Core.List.{List, [], _∷_}
 use mir.Val.{boolByte}
 use Prim.Native.Nat.{ℕ, _+_, _-_, _*_, _≤_, _<_}
@@ -10,15 +10,14 @@ use native.Mathlib.Decide.{decLt}
 use lib.ListN.{length, getD, drop, set, length-take, length-set}
 use lib.Seq.{drop-cons, drop-length, getD-take, getD-set-same, getD-set-other}
 use Rattle.nets.specs.Bits.{bits}
-use Rattle.nets.specs.Tries.{insertT}
 use Rattle.nets.specs.Networks.{width, address, netBits}
 use Rattle.nets.specs.declared.Net.{Net}
 use Rattle.nets.proofs.Numbers.{length-bits, width-le}
-use Rattle.nodes.specs.Words.{put, place, enc, word, link0, link1}
-use Rattle.nodes.proofs.Put.{length-put, put-behind-at}
+use Rattle.nodes.specs.Words.{put, place, enc, chain}
+use Rattle.nodes.proofs.Put.{length-put}
+use Rattle.nodes.proofs.Chains.{chain-step, chain-end}
 use Rattle.setfile_order.specs.declared.Head.{Head}
-use Rattle.setfile_build.specs.Building.{chain, Chains, Chained, Appends, Appended}
-use Rattle.setfile_build.proofs.Growing.{enc-chain}
+use Rattle.setfile_build.specs.Building.{Chains, Chained, Appends, Appended}
 
 -- The nodes from depth d up to depth k are written and noted, and those from node i on complete the path.
 pub record Chaining (w₀ w : List ℕ) (b e : ℕ) (n : Net) (d : ℕ) (p₀ p : List ℕ) (k i : ℕ) : Type 0 where
@@ -30,14 +29,6 @@ pub record Chaining (w₀ w : List ℕ) (b e : ℕ) (n : Net) (d : ℕ) (p₀ p 
   pub rest : put w (place b i) (enc (chain (drop k (netBits n)))) ≡ put w₀ (place b e) (enc (chain (drop d (netBits n))))
   pub old : (j : ℕ) → j < d → getD p j 0 ≡ getD p₀ j 0
   pub new : (j : ℕ) → d ≤ j → j < k → getD p j 0 ≡ e + (j - d)
-
-pub boolByte-le : (d : Bool) → boolByte d ≤ 1
-boolByte-le false = omega arith
-boolByte-le true = omega arith
-
-enc-leaf : enc (chain []) ≡ 0 ∷ []
-unfolding insertT enc word link0 link1
-enc-leaf = refl
 
 -- a number noted at depth k
 noted-old : (p₀ p : List ℕ) (d k i j : ℕ) → d ≤ k → getD p j 0 ≡ getD p₀ j 0 → j < d → getD (set p k i) j 0 ≡ getD p₀ j 0
@@ -95,7 +86,7 @@ module _ {w₀ : List ℕ} {b e : ℕ} {n : Net} {d : ℕ} {p₀ : List ℕ} (r 
           at = omega (arith, c .at, c .low);
           long = rw q (length-put w (place b i) ((1 + boolByte z) ∷ [])) ∙ c .long;
           wide = length-set p k i ∙ c .wide;
-          rest = rw q (put-behind-at w (place b i) (place b (i + 1)) ((1 + boolByte z) ∷ []) (enc (chain (drop (k + 1) (netBits n)))) (omega (arith, chaining-room .0))) ∙ sym (ap (put w (place b i)) (ap (λ m. enc (chain m)) x ∙ enc-chain z (drop (k + 1) (netBits n)))) ∙ c .rest;
+          rest = chain-step w v b i z (drop (k + 1) (netBits n)) (chaining-room .0) q ∙ (rw x at (c .rest));
           old = λ j a. noted-old p₀ p d k i j (c .low) (c .old j a) a;
           new = λ j a f. noted-new p d k e i (c .at) (omega (arith, c .wide, r .wide, chaining-room)) (c .new) j a (omega arith);
         }
@@ -105,7 +96,7 @@ module _ {w₀ : List ℕ} {b e : ℕ} {n : Net} {d : ℕ} {p₀ : List ℕ} (r 
         let y : k ≡ n .len = omega (arith, c .high) in
         let x : drop k (netBits n) ≡ [] = ap (λ j. drop j (netBits n)) (y ∙ sym length-net) ∙ drop-length (netBits n) in
         record {
-          wrote = q ∙ sym (ap (put w (place b i)) (ap (λ m. enc (chain m)) x ∙ enc-leaf)) ∙ c .rest;
+          wrote = chain-end w v (place b i) x q ∙ c .rest;
           along = record {
             wide = length-set p (n .len) i ∙ c .wide;
             old = λ j a. noted-old p₀ p d (n .len) i j (r .from) (c .old j a) a;

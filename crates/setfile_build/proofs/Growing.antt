@@ -1,40 +1,24 @@
 -- A trie that grows at its right end, network by network in address order: Cut t u q ms says that u has the networks of the trie t up to q, and that ms are those behind. Behind q the trie grows by the
 -- rest of the next network's path, from the node on where it leaves the path to q, and of the words only that node's changes. Assumes nothing.
 use mathlib.Core.Path.{_≡_, refl, sym, ap, _∙_}
-use mathlib.Core.Bool.{Bool, true, false, false≢true}
+use mathlib.Core.Bool.{true, false, false≢true}
 use mathlib.Core.List.{List, [], _∷_, _++_, append-nil, append-assoc}
-use mir.Val.{boolByte}
 use Prim.Native.Nat.{ℕ, zero, suc, _+_, _*_, _≤_, _<_}
 use native.Mathlib.Nat.{zero-add}
 use native.Mathlib.Omega.{arith}
 use lib.ListN.{length, drop}
 use Rattle.nets.specs.Bits.{Bits}
 use Rattle.nets.specs.Tries.{Trie, none, node, leaf, isNone, size, levels, insertT}
-use Rattle.nodes.specs.Words.{put, enc, word, link0, link1}
+use Rattle.nodes.specs.Words.{put, enc, word, link0, link1, chain}
 use Rattle.nodes.proofs.Put.{put-nil, length-put, put-behind-at}
 use Rattle.nodes.proofs.Tries.{length-enc}
+use Rattle.nodes.proofs.Chains.{chain-some, size-chain, word-only}
 use Rattle.address_order.specs.Streams.{flat, shared}
 use Rattle.address_order.proofs.Flat.{halves}
-use Rattle.setfile_build.specs.Building.{chain}
 
--- The chain of a network.
-pub chain-some : (m : Bits) → isNone (chain m) ≡ false
-unfolding insertT
-chain-some [] = refl
-chain-some (false ∷ m) = refl
-chain-some (true ∷ m) = refl
-
-pub size-chain : (m : Bits) → size (chain m) ≡ suc (length m)
-unfolding insertT size
-size-chain [] = refl
-size-chain (false ∷ m) = omega (arith, size-chain m)
-size-chain (true ∷ m) = omega (arith, size-chain m)
-
--- The word of a node with a first child alone, with a second alone, and with both.
+-- The word of a node with a first child alone, with a second child that changes, and with both.
 word-left : (l : Trie) → isNone l ≡ false → word l none ≡ 1
-unfolding word link0 link1
-word-left none e = absurd (false≢true (sym e))
-word-left (node x y) e = refl
+word-left l e = word-only false l e
 
 word-same : (l r u : Trie) → isNone r ≡ false → isNone u ≡ false → word l r ≡ word l u
 unfolding word link1
@@ -42,21 +26,11 @@ word-same l none u e i = absurd (false≢true (sym e))
 word-same l (node x y) none e i = absurd (false≢true (sym i))
 word-same l (node x y) (node z v) e i = refl
 
-word-right : (r : Trie) → isNone r ≡ false → word none r ≡ 2
-unfolding word link0 link1 size
-word-right none e = absurd (false≢true (sym e))
-word-right (node x y) e = refl
-
 word-both : (l r : Trie) → isNone l ≡ false → isNone r ≡ false → word l r ≡ 1 + 2 * (1 + size l)
 unfolding word link0 link1
 word-both none r e i = absurd (false≢true (sym e))
 word-both (node x y) none e i = absurd (false≢true (sym i))
 word-both (node x y) (node z v) e i = refl
-
-pub enc-chain : (d : Bool) (m : Bits) → enc (chain (d ∷ m)) ≡ (1 + boolByte d) ∷ enc (chain m)
-unfolding insertT enc
-enc-chain false m = rw (word-left (chain m) (chain-some m), append-nil (enc (chain m)))
-enc-chain true m = rw (word-right (chain m) (chain-some m))
 
 -- The nodes before the one of depth k on the path q.
 unfoldable pub offset : Bits → Trie → ℕ → ℕ

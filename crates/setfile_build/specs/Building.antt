@@ -1,6 +1,5 @@
 -- The trie of networks that come one by one in address order, written in preorder: it grows at its right end.
 --
---   chain m           the trie of the one network m: its path
 --   Along p v d n e   the path v has the node numbers of p above depth d, and those from e on from depth d down to depth n
 --   Chains, Chained   what writing the nodes of a network's path from depth d on asks: room from node e on, and in the path p for their numbers; and what it leaves
 --   Appends, Appended what putting a network behind those that end at node e asks: p is the path to the last one, and the node where the head leaves it is known; and what it leaves
@@ -13,17 +12,14 @@ use Prim.Native.Nat.{ℕ, suc, _+_, _-_, _*_, _≤_, _<_}
 use lib.ListN.{length, getD, drop}
 use Rattle.nets.specs.Bits.{Bits}
 use Rattle.nets.specs.Lists.{nodesL}
-use Rattle.nets.specs.Tries.{Trie, none, isNone, size, levels, insertT}
+use Rattle.nets.specs.Tries.{Trie, isNone, size, levels}
 use Rattle.nets.specs.Networks.{width, netBits}
 use Rattle.nets.specs.declared.Net.{Net}
-use Rattle.nodes.specs.Words.{put, place, enc}
+use Rattle.nodes.specs.Words.{put, place, enc, chain}
 use Rattle.address_order.specs.Streams.{flat}
 use Rattle.setfile_format.specs.Files.{file, readFile}
 use Rattle.setfile_order.specs.Flow.{headAs, Flow}
 use Rattle.setfile_order.specs.declared.Head.{Head}
-
-abbrev pub chain : Bits → Trie
-chain m = insertT m none
 
 pub record Chains (w : List ℕ) (b e : ℕ) (n : Net) (d : ℕ) (p : List ℕ) : Type 0 where
   pub one : 1 ≤ e

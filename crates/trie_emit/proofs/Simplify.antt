@@ -4,21 +4,20 @@ use mathlib.Core.Bool.{Bool, true, false, cond}
 use mathlib.Core.List.{List, _++_}
 use Prim.Native.Nat.{ℕ, _+_, _-_, _/_, _≤_, _<_}
 use native.Mathlib.Omega.{arith}
-use borrow.Author.Tests.{eq-eqb, ne-eqb}
 use lib.ListN.{length}
 use Rattle.nets.specs.Tries.{Trie, none, node, leaf, size, bare, levels, glue, simplifyT}
-use Rattle.nodes.specs.Words.{put, place, wordAt, enc}
-use Rattle.nodes.specs.Segments.{Segment, middleOf}
+use Rattle.nodes.specs.Words.{put, place, enc}
+use Rattle.nodes.specs.Segments.{Segment, viewOf}
+use Rattle.nodes.specs.declared.steps.View.the-variants.{Nothing, Leaf, Inner}
 use Rattle.nodes.proofs.Put.{length-put}
 use Rattle.nodes.proofs.Has.{has-put}
-use Rattle.nodes.proofs.Segments.{none-is, segment-fit, segment-leaf, segment-place, segment-middle, segment-left, segment-right}
+use Rattle.nodes.proofs.Segments.{segment-fit, segment-left, segment-right}
+use Rattle.nodes.proofs.Views.{Branch, view-none, view-leaf, view-inner}
 use Rattle.trie_emit.specs.Answers.{answer, body, Emits, endOf, Both, Pending}
-use Rattle.trie_emit.specs.Simplify.{seenAs, Source}
+use Rattle.trie_emit.specs.Simplify.{Source}
 use Rattle.trie_emit.specs.declared.emitting.Emitted.{Emitted}
 use Rattle.trie_emit.specs.declared.emitting.Emitted.the-variants.{Empty, Full}
-use Rattle.trie_emit.specs.declared.simplifying.Seen.{Seen}
-use Rattle.trie_emit.specs.declared.simplifying.Seen.the-variants.{Nothing, Leaf, Inner}
-use Rattle.trie_emit.proofs.Answers.{by-kind, end-is, emits-flat, length-body, size-glue}
+use Rattle.trie_emit.proofs.Answers.{end-is, emits-flat, length-body, size-glue}
 
 pub size-simplify : (t : Trie) → size (simplifyT t) ≤ size t
 unfolding size simplifyT
@@ -29,51 +28,23 @@ size-simplify (node l r) = go (bare l r) (size-simplify l) (size-simplify r)
     go true f g = omega arith
     go false f g = omega (arith, size-glue true (simplifyT l) (simplifyT r))
 
--- What is seen, by the tests.
-module _ {w : List ℕ} {b i e u : ℕ} {rest : List ℕ} where
-  pub look-none : (t : Trie) → Segment w b i e u t rest → i ≡ e → Nothing ≡ seenAs i t
-  unfolding seenAs
-  look-none t g h = rw (none-is t (omega (arith, g .end)))
-
-  pub look-place : (t : Trie) → Segment w b i e u t rest → (i ≡ e → ⊥) → (1 ≤ i) × (place b i < length w)
-  unfolding size
-  look-place none g f = absurd (f (omega (arith, g .end)))
-  look-place (node l r) g f = (g .one, segment-place g)
-
-  pub look-leaf : (t : Trie) → Segment w b i e u t rest → (i ≡ e → ⊥) → wordAt w b i ≡ 0 → Leaf ≡ seenAs i t
-  unfolding seenAs size
-  look-leaf none g f h = absurd (f (omega (arith, g .end)))
-  look-leaf (node l r) g f h = rw (sym (segment-leaf g) ∙ eq-eqb (wordAt w b i) 0 h)
-
-  pub look-inner : (t : Trie) → Segment w b i e u t rest → (i ≡ e → ⊥) → (wordAt w b i ≡ 0 → ⊥) → Inner (middleOf (wordAt w b i / 2) i e) ≡ seenAs i t
-  unfolding seenAs size
-  look-inner none g f h = absurd (f (omega (arith, g .end)))
-  look-inner (node l r) g f h = rw (sym (segment-leaf g) ∙ ne-eqb (wordAt w b i) 0 h) (ap Inner (segment-middle g))
-
 -- A node with a child, and where its second child begins.
 pub record Fork (w : List ℕ) (b i e o fuel m : ℕ) (l r : Trie) : Type 0 where
   pub src : Source w b i e o fuel (node l r)
   pub inner : bare l r ≡ false
   pub middle : m ≡ i + 1 + size l
 
-never : {A : Type 0} → _≡_ {A = ℕ} 0 1 → A
-never e = absurd (omega arith)
+module _ (w : List ℕ) (b i o : ℕ) (t : Trie) where
+  pub seen-none : Nothing ≡ viewOf i t → Emits w w b o Empty (simplifyT t)
+  unfolding simplifyT
+  seen-none q = rw (view-none i t q) (emits-flat w b o false)
 
-module _ (w : List ℕ) (b i o : ℕ) (s : Seen) where
-  pub seen-none : (t : Trie) → s ≡ seenAs i t → s ≡ Nothing → Emits w w b o Empty (simplifyT t)
-  unfolding seenAs simplifyT
-  seen-none = by-kind (λ t. s ≡ seenAs i t → s ≡ Nothing → Emits w w b o Empty (simplifyT t)) (λ q h. emits-flat w b o false) (λ q h. never cc) (λ l r e. rw e (λ q h. never cc))
+  pub seen-leaf : Leaf ≡ viewOf i t → Emits w w b o Full (simplifyT t)
+  unfolding simplifyT
+  seen-leaf q = rw (view-leaf i t q) (emits-flat w b o true)
 
-  pub seen-leaf : (t : Trie) → s ≡ seenAs i t → s ≡ Leaf → Emits w w b o Full (simplifyT t)
-  unfolding seenAs simplifyT
-  seen-leaf = by-kind (λ t. s ≡ seenAs i t → s ≡ Leaf → Emits w w b o Full (simplifyT t)) (λ q h. never cc) (λ q h. emits-flat w b o true) (λ l r e. rw e (λ q h. never cc))
-
-pub seen-inner : {w : List ℕ} {b i e o fuel : ℕ} (s : Seen) (m : ℕ) → s ≡ Inner m → (t : Trie) → Source w b i e o fuel t → s ≡ seenAs i t
-    → (l : Trie) × (r : Trie) × (t ≡ node l r) × Fork w b i e o fuel m l r
-unfolding seenAs
-seen-inner {w} {b} {i} {e} {o} {fuel} s m h = by-kind (λ t. Source w b i e o fuel t → s ≡ seenAs i t → (l : Trie) × (r : Trie) × (t ≡ node l r) × Fork w b i e o fuel m l r)
-    (λ g q. never cc) (λ g q. never cc)
-    (λ l r d g q. (l, r, refl, record { src = g; inner = d; middle = let n : s ≡ Inner (i + 1 + size l) = rw d at q in cc }))
+pub seen-inner : {w : List ℕ} {b i e o fuel : ℕ} (m : ℕ) (t : Trie) → Source w b i e o fuel t → Inner m ≡ viewOf i t → (k : Branch i m t) × Fork w b i e o fuel m (k .l) (k .r)
+seen-inner {i = i} m t g q = let k = view-inner i m t q in (k, record { src = rw (k .is) at g; inner = k .inner; middle = k .middle })
 
 -- Its children, and the node over what they are simplified to.
 module _ {w : List ℕ} {b i e o fuel m : ℕ} {l r : Trie} (d : Fork w b i e o fuel m l r) where

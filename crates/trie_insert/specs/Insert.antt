@@ -1,14 +1,11 @@
 -- Putting the path p into the trie that stands from node i up to node e in the used words.
 use mathlib.Core.Path.{_≡_}
-use mathlib.Core.Bool.{cond}
 use mathlib.Core.List.{List}
-use Prim.Native.Nat.{ℕ, _+_, _-_, _/_, _≤_}
-use lib.Dec.{eqb}
+use Prim.Native.Nat.{ℕ, _+_, _-_, _≤_}
 use lib.ListN.{length}
 use Rattle.nets.specs.Bits.{Bits}
 use Rattle.nets.specs.Tries.{Trie, size, insertT}
-use Rattle.nodes.specs.Words.{wordAt}
-use Rattle.nodes.specs.Segments.{Segment, Spliced, middleOf}
+use Rattle.nodes.specs.Segments.{Segment, Spliced}
 
 -- some trie stands there
 pub record Held (w : List ℕ) (b i e : ℕ) : Type 0 where
@@ -31,7 +28,3 @@ InsertSize w b i e p n = (t : Trie) (rest : List ℕ) (u : ℕ) → Segment w b 
 -- p is in it now, and it ends at node r
 abbrev pub Inserted : List ℕ → List ℕ → ℕ → ℕ → ℕ → ℕ → Bits → ℕ → Type 0
 Inserted w v b i e u p r = (t : Trie) (rest : List ℕ) → Segment w b i e u t rest → Spliced w v b i r (insertT p t) rest
-
--- where the second child of node i begins, or would; 0 where the node is a leaf
-unfoldable pub middleAt : List ℕ → ℕ → ℕ → ℕ → ℕ
-middleAt w b i e = cond (eqb (wordAt w b i) 0) 0 (middleOf (wordAt w b i / 2) i e)

@@ -3,26 +3,14 @@ ghost use mathlib.Core.Path.{_≡_};
 ghost use mathlib.Core.List.{[]};
 ghost use Prim.Native.Nat.{_+_, _≤_, _<_};
 ghost use lib.ListN.{length};
-ghost use Rattle.nets.specs.Tries.{none, insertT};
 ghost use Rattle.nets.specs.Networks.{bitsLeft};
-ghost use Rattle.nodes.specs.Words.{put, place, enc};
-ghost use Rattle.trie_insert.specs.Insert.{Held, Insertable, InsertSize, Inserted, middleAt};
+ghost use Rattle.nodes.specs.Words.{put, place, enc, chain};
+ghost use Rattle.trie_insert.specs.Insert.{Held, Insertable, InsertSize, Inserted};
 use nets::NextBit;
 use nets::PrefixBits;
 use nodes::steps;
+use nodes::steps::View;
 use nodes::writing;
-
-// Where the second child of node i begins, or would, where e is the node's end; 0 where the node is a leaf.
-fn middle(w: &[u32], b: usize, i: usize, e: usize) -> usize
-    requires { ⌜ (1 ≤ i) × ((i < 4294967296) × (place b i < length (now w))) ⌝ }
-    ensures { λ r. ⌜ r ≡ middleAt (now (w .entry)) b i e ⌝ }
-{
-    let x = steps::word(w, b, i);
-    if x == 0 {
-        return 0;
-    }
-    steps::middle(x / 2, i, e)
-}
 
 // The nodes of the trie that stands from node i up to node e once the path s is in. The way down ends at the part that changes.
 pub fn insert_size(w: &[u32], b: usize, i: usize, e: usize, s: PrefixBits) -> usize
@@ -40,19 +28,19 @@ pub fn insert_size(w: &[u32], b: usize, i: usize, e: usize, s: PrefixBits) -> us
                 return n - (to - from) + 1;
             }
             NextBit::Bit(bit, rest) => {
-                if from == to {
-                    return n + (p.len as usize + 1);
-                }
-                let m = middle(w, b, from, to);
-                if m == 0 {
-                    return n;
-                }
-                p = rest;
-                if bit {
-                    from = m;
-                } else {
-                    from += 1;
-                    to = m;
+                let v = steps::look(w, b, from, to);
+                match v {
+                    View::Nothing => return n + (p.len as usize + 1),
+                    View::Leaf => return n,
+                    View::Inner(m) => {
+                        p = rest;
+                        if bit {
+                            from = m;
+                        } else {
+                            from += 1;
+                            to = m;
+                        }
+                    }
                 }
             }
         }
@@ -62,7 +50,7 @@ pub fn insert_size(w: &[u32], b: usize, i: usize, e: usize, s: PrefixBits) -> us
 // Writes the path s as a chain of nodes, from node i on.
 fn chain(w: &mut [u32], b: usize, i: usize, s: PrefixBits)
     requires { ⌜ (1 ≤ i) × ((s .len ≤ 128) × (place b i + s .len < length (now w))) ⌝ }
-    ensures { λ _. ⌜ now (w .exit) ≡ put (now (w .entry)) (place b i) (enc (insertT (bitsLeft s) none)) ⌝ }
+    ensures { λ _. ⌜ now (w .exit) ≡ put (now (w .entry)) (place b i) (enc (chain (bitsLeft s))) ⌝ }
 {
     let mut k = i;
     let mut p = s;
@@ -113,22 +101,22 @@ pub fn insert(w: &mut [u32], b: usize, i: usize, e: usize, u: usize, s: PrefixBi
     match next {
         NextBit::End => leaf(w, b, i, e, u),
         NextBit::Bit(bit, rest) => {
-            if i == e {
-                return grow(w, b, i, u, s);
+            let v = steps::look(w, b, i, e);
+            match v {
+                View::Nothing => grow(w, b, i, u, s),
+                View::Leaf => e,
+                View::Inner(m) => {
+                    if bit {
+                        let z = insert(w, b, m, e, u, rest);
+                        writing::links(w, b, i, m, z);
+                        return z;
+                    }
+                    let y = insert(w, b, i + 1, m, u, rest);
+                    let z = y + (e - m);
+                    writing::links(w, b, i, y, z);
+                    z
+                }
             }
-            let m = middle(w, b, i, e);
-            if m == 0 {
-                return e;
-            }
-            if bit {
-                let z = insert(w, b, m, e, u, rest);
-                writing::links(w, b, i, m, z);
-                return z;
-            }
-            let y = insert(w, b, i + 1, m, u, rest);
-            let z = y + (e - m);
-            writing::links(w, b, i, y, z);
-            z
         }
     }
 }

@@ -1,24 +1,25 @@
 -- An inner node on a path: the child on the side of the next bit, and what is left of the node by what is left of the child. Assumes nothing.
-use mathlib.Core.Path.{_≡_, refl, sym, ap, _∙_}
+use mathlib.Core.Path.{_≡_, refl, sym, _∙_}
 use mathlib.Core.Bool.{Bool, true, false}
-use mathlib.Core.List.{List, [], _∷_, _++_}
+use mathlib.Core.List.{List, [], _∷_}
 use Prim.Native.Nat.{ℕ, zero, suc, _+_, _-_, _≤_, _<_}
 use native.Mathlib.Omega.{arith}
 use borrow.Author.Tests.{eq-eqb, ne-eqb}
 use lib.Dec.{eqb}
 use lib.ListN.{length}
-use Rattle.nets.specs.Tries.{Trie, none, node, size, bare, side, fork}
+use Rattle.nets.specs.Tries.{Trie, none, node, size, bare, side}
 use Rattle.nets.specs.TrieOps.{rejoin, removeT}
 use Rattle.nets.specs.Networks.{bitsLeft}
 use Rattle.nets.specs.declared.PrefixBits.{PrefixBits}
 use Rattle.nets.proofs.Strings.{cond-both}
 use Rattle.nodes.specs.Words.{put, place, enc}
 use Rattle.nodes.specs.Links.{linked}
-use Rattle.nodes.specs.Segments.{Segment, Spliced}
-use Rattle.nodes.proofs.Segments.{node-size, segment-left, segment-right, segment-fit, segment-place, spliced-left, spliced-right}
+use Rattle.nodes.specs.Segments.{Segment, Spliced, Branch}
+use Rattle.nodes.proofs.Segments.{segment-fit}
+use Rattle.nodes.proofs.Views.{inward, beside, behind, branch-fit, branch-size, branch-child, branch-spliced}
 use Rattle.trie_remove.specs.declared.Child.{Child}
 use Rattle.trie_remove.specs.Removal.{Removable, begin, childOf, aboveOf, over, Inside}
-use Rattle.trie_remove.proofs.Remains.{rejoin-fork, rejoin-none, over-some, size-rejoin, size-side, removeT-inner, size-removeT}
+use Rattle.trie_remove.proofs.Remains.{rejoin-fork, rejoin-none, over-some, size-rejoin, removeT-inner, size-removeT}
 use Rattle.nets.proofs.Handing.{length-bitsLeft}
 use Rattle.trie_remove.proofs.Splices.{begin-none, begin-node}
 
@@ -38,29 +39,28 @@ goes from y c none none n d f h = (refl, refl, rw (eq-eqb (c .others) 0 n))
 goes from y c none (node l r) n d f h = let q : y ≡ c .first + 0 = d ∙ rw (ne-eqb (c .others) 0 (λ z. omega arith)) in absurd (omega arith)
 goes from y c (node l r) o n d f h = absurd (omega arith)
 
--- A node's child on the side of the bit: where it stands, how many nodes stand beside it, and the node with another trie in its place.
-module _ {w : List ℕ} {b i e u : ℕ} {l r : Trie} {rest : List ℕ} (g : Segment w b i e u (node l r) rest) where
-  segment-child : (bit : Bool) → let c = childOf bit i (i + 1 + size l) e in Segment w b (c .first) (c .end) u (side bit l r) (side bit (enc r ++ rest) rest)
-  segment-child false = segment-left g
-  segment-child true = segment-right g
+-- The child on the side of the bit: how many nodes stand beside it, that it stands behind its node, and the numbers that link the node to it.
+module _ {w : List ℕ} {b i e u m : ℕ} {t : Trie} {rest : List ℕ} (g : Segment w b i e u t rest) (n : Branch i m t) where
+  others-is : (bit : Bool) → childOf bit i m e .others ≡ size (beside g n bit)
+  others-is false = omega (arith, g .end, n .middle, branch-size g n false)
+  others-is true = omega (arith, n .middle)
 
-  others-is : (bit : Bool) → childOf bit i (i + 1 + size l) e .others ≡ size (side bit r l)
-  others-is false = omega (arith, g .end, node-size l r)
-  others-is true = omega arith
-
-  first-above : (bit : Bool) → i < childOf bit i (i + 1 + size l) e .first
+  first-above : (bit : Bool) → i < childOf bit i m e .first
   first-above false = omega arith
-  first-above true = omega arith
+  first-above true = omega (arith, n .middle)
 
-  spliced-child : (bit : Bool) (x : Trie) (v₁ v₂ : List ℕ) (y z : ℕ) → let c = childOf bit i (i + 1 + size l) e in Spliced w v₁ b (c .first) y x (side bit (enc r ++ rest) rest)
-      → z ≡ side bit (y + c .others) y → v₂ ≡ put v₁ (place b i) (linked i (side bit y (c .first)) z ∷ []) → Spliced w v₂ b i z (fork bit x (side bit r l)) rest
-  spliced-child false x v₁ v₂ y z d p q = spliced-left g x v₁ v₂ y z d (p ∙ ap (λ k. y + k) (others-is false)) q
-  spliced-child true x v₁ v₂ y z d p q = spliced-right g x v₁ v₂ z (rw (sym p) at d) q
-
-  behind-none : (bit : Bool) (from : ℕ) (v : List ℕ) → side bit r l ≡ none → Spliced w v b from from none (side bit (enc r ++ rest) rest) → Spliced w v b from from none rest
+  behind-none : (bit : Bool) (from : ℕ) (v : List ℕ) → beside g n bit ≡ none → Spliced w v b from from none (behind g n bit) → Spliced w v b from from none rest
   unfolding enc
   behind-none false from v q d = rw q at d
   behind-none true from v q d = d
+
+others-end : (bit : Bool) (y i m e : ℕ) → side bit (y + childOf bit i m e .others) y ≡ side bit (y + (e - m)) y
+others-end false y i m e = refl
+others-end true y i m e = refl
+
+first-link : (bit : Bool) (y i m e : ℕ) → side bit y (childOf bit i m e .first) ≡ side bit y m
+first-link false y i m e = refl
+first-link true y i m e = refl
 
 -- Room for what is left of the node is room for what is left of the child.
 room-over : (k o p q m n : ℕ) → p + over (k + o) ≤ q + n → n ≡ 1 + m + o → p ≤ q → p + k ≤ q + m
@@ -69,81 +69,71 @@ room-over (suc k) o p q m n h d f = omega (arith, over-some (suc k + o) (λ z. o
 
 -- The same where a step down the path has found an inner node: the child inward, the child beside, what is left of the one, and the words behind it.
 module _ {w : List ℕ} {b i e u : ℕ} {t : Trie} {rest : List ℕ} (g : Segment w b i e u t rest) {s later : PrefixBits} {bit : Bool} {c : Child} (n : Inside s i e t bit c later) where
-  abbrev pub inward : Trie
-  inward = side bit (n .l) (n .r)
-
-  abbrev pub beside : Trie
-  beside = side bit (n .r) (n .l)
-
   abbrev pub left : Trie
-  left = removeT (bitsLeft later) inward
+  left = removeT (bitsLeft later) (inward g (n .branch) bit)
 
-  abbrev pub behind : List ℕ
-  behind = side bit (enc (n .r) ++ rest) rest
+  pub child-here : Segment w b (c .first) (c .end) u (inward g (n .branch) bit) (behind g (n .branch) bit)
+  child-here = rw (n .child) (branch-child g (n .branch) bit)
 
-  here : Segment w b i e u (node (n .l) (n .r)) rest
-  here = rw (n .is) at g
+  others-here : c .others ≡ size (beside g (n .branch) bit)
+  others-here = rw (n .child) (others-is g (n .branch) bit)
 
-  pub child-here : Segment w b (c .first) (c .end) u inward behind
-  child-here = rw (n .child) (segment-child here bit)
-
-  others-here : c .others ≡ size beside
-  others-here = rw (n .child) (others-is here bit)
-
-  remove-here : removeT (bitsLeft s) t ≡ rejoin bit left beside
-  remove-here = rw (n .bits, n .is) (removeT-inner bit (bitsLeft later) (n .l) (n .r) (n .inner))
+  remove-here : removeT (bitsLeft s) t ≡ rejoin bit left (beside g (n .branch) bit)
+  remove-here = rw (n .bits, n .branch .is) (removeT-inner bit (bitsLeft later) (n .branch .l) (n .branch .r) (n .branch .inner))
 
   pub size-here : (k : ℕ) → k ≡ size left → over (k + c .others) ≡ size (removeT (bitsLeft s) t)
-  size-here k q = rw (remove-here, q, others-here) (sym (size-rejoin bit left beside))
+  size-here k q = rw (remove-here, q, others-here) (sym (size-rejoin bit left (beside g (n .branch) bit)))
 
   first-here : i < c .first
-  first-here = rw (n .child) (first-above here bit)
+  first-here = rw (n .child) (first-above g (n .branch) bit)
 
   -- nothing is left
-  pub gone-here : (from y : ℕ) (v : List ℕ) → from ≤ i → Spliced w v b (begin (aboveOf from c) (c .first) left) y left behind → y ≡ from
+  pub gone-here : (from y : ℕ) (v : List ℕ) → from ≤ i → Spliced w v b (begin (aboveOf from c) (c .first) left) y left (behind g (n .branch) bit) → y ≡ from
       → Spliced w v b (begin from i (removeT (bitsLeft s) t)) from (removeT (bitsLeft s) t) rest
   gone-here from y v h d q =
-      let k = goes from y c left beside others-here (d .end) q (omega (arith, first-here)) in
-      rw (remove-here, k .0, k .1, rejoin-none bit, begin-none from i) (behind-none here bit from v (k .1) (rw (k .2, k .0, q) at d))
+      let k = goes from y c left (beside g (n .branch) bit) others-here (d .end) q (omega (arith, first-here)) in
+      rw (remove-here, k .0, k .1, rejoin-none bit, begin-none from i) (behind-none g (n .branch) bit from v (k .1) (rw (k .2, k .0, q) at d))
 
   -- the node is linked anew
-  pub linked-here : (from y z : ℕ) (v₁ v₂ : List ℕ) → Spliced w v₁ b (begin (aboveOf from c) (c .first) left) y left behind → (y ≡ from → ⊥)
+  pub linked-here : (from y z : ℕ) (v₁ v₂ : List ℕ) → Spliced w v₁ b (begin (aboveOf from c) (c .first) left) y left (behind g (n .branch) bit) → (y ≡ from → ⊥)
       → z ≡ side bit (y + c .others) y → v₂ ≡ put v₁ (place b i) (linked i (side bit y (c .first)) z ∷ [])
       → Spliced w v₂ b (begin from i (removeT (bitsLeft s) t)) z (removeT (bitsLeft s) t) rest
   linked-here from y z v₁ v₂ d f p q =
-      let k = stays from y c left beside others-here (d .end) f in
-      rw (remove-here, rejoin-fork bit left beside (k .0), begin-node from i (side bit left beside) (side bit beside left))
-      (spliced-child here bit left v₁ v₂ y z (rw (k .1, n .child) at d) (rw (n .child) at p) (rw (n .child) at q))
+      let o = beside g (n .branch) bit in
+      let k = stays from y c left o others-here (d .end) f in
+      rw (remove-here, rejoin-fork bit left o (k .0), begin-node from i (side bit left o) (side bit o left))
+      (branch-spliced g (n .branch) bit left v₁ v₂ y z (rw (k .1, n .child) at d) (p ∙ rw (n .child) (others-end bit y i (n .m) e)) (q ∙ rw (n .child, first-link bit y i (n .m) e)))
 
   -- the numbers stay small
   left-small : later .len ≤ 128 → (c .first ≤ u) × (c .first + size left ≤ u + 256)
-  left-small h = omega (arith, size-removeT (bitsLeft later) inward, length-bitsLeft later h, child-here .end, segment-fit child-here)
+  left-small h = omega (arith, size-removeT (bitsLeft later) (inward g (n .branch) bit), length-bitsLeft later h, child-here .end, segment-fit child-here)
 
   others-small : c .others ≤ e
-  others-small = omega (arith, others-here, size-side bit (n .l) (n .r), here .end, node-size (n .l) (n .r))
+  others-small = omega (arith, others-here, branch-size g (n .branch) bit, g .end)
 
   pub count-small : later .len ≤ 128 → (k : ℕ) → k ≡ size left → k + c .others < 4294967296
   count-small h k q = omega (arith, left-small h, others-small, segment-fit g, g .few)
 
-  pub linkable-here : later .len ≤ 128 → (from y : ℕ) (v : List ℕ) → length v ≡ length w → Spliced w v b (begin (aboveOf from c) (c .first) left) y left behind → (y ≡ from → ⊥)
+  pub linkable-here : later .len ≤ 128 → (from y : ℕ) (v : List ℕ) → length v ≡ length w → Spliced w v b (begin (aboveOf from c) (c .first) left) y left (behind g (n .branch) bit)
+      → (y ≡ from → ⊥)
       → ((1 ≤ i) × (i < c .first)) × (((i < y) × (c .first + c .others < 2147483648)) × ((y < 2147483648) × (place b i < length v)))
   linkable-here h from y v q d f =
-      let k = stays from y c left beside others-here (d .end) f .1 in
-      omega (arith, rw k at (d .end), first-here, left-small h, others-small, segment-fit g, segment-place here, g .one, g .few)
+      let k = stays from y c left (beside g (n .branch) bit) others-here (d .end) f .1 in
+      omega (arith, rw k at (d .end), first-here, left-small h, others-small, segment-fit g, branch-fit g (n .branch), g .few)
 
   -- the child can be taken a path out of
   above-small : (from : ℕ) → 1 ≤ from → from ≤ i → (1 ≤ aboveOf from c) × (aboveOf from c ≤ c .first)
   above-small from o a = cond-both (λ k. (1 ≤ k) × (k ≤ c .first)) (eqb (c .others) 0) from (c .first) (omega (arith, first-here)) (omega (arith, first-here))
 
   pub removable-here : (from : ℕ) → 1 ≤ from → from ≤ i → b + (u - 1) + size (removeT (bitsLeft s) t) ≤ length w + size t → Removable w b (aboveOf from c) (c .first) (c .end) u (bitsLeft later)
-  removable-here from o a m = record {
-    t = inward;
-    rest = behind;
+  removable-here from o a h = record {
+    t = inward g (n .branch) bit;
+    rest = behind g (n .branch) bit;
     here = child-here;
     one = above-small from o a .0;
     above = above-small from o a .1;
-    room = room-over (size left) (size beside) (b + (u - 1)) (length w) (size inward) (size t)
-        (rw (remove-here, size-rejoin bit left beside) at m)
-        (omega (arith, ap size (n .is), node-size (n .l) (n .r), size-side bit (n .l) (n .r)))
+    room = room-over (size left) (size (beside g (n .branch) bit)) (b + (u - 1)) (length w) (size (inward g (n .branch) bit)) (size t)
+        (rw (remove-here, size-rejoin bit left (beside g (n .branch) bit)) at h)
+        (branch-size g (n .branch) bit)
         (segment-fit g .1);
   }

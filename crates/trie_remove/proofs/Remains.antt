@@ -12,6 +12,7 @@ use Rattle.nets.specs.Tries.{Trie, none, node, leaf, size, bare, isNone, isLeaf
 use Rattle.nets.specs.TrieOps.{rejoin, removeT}
 use Rattle.nets.proofs.Strings.{cond-both}
 use Rattle.nets.proofs.Listing.{leaf-is}
+use Rattle.nodes.proofs.Tries.{size-fork, size-side}
 use Rattle.trie_remove.specs.Removal.{over}
 
 -- The trie with two halves: none where both are, else a node.
@@ -30,11 +31,6 @@ rejoin-fork true none none e = let z : _≡_ {A = ℕ} 0 1 = cc in absurd (omega
 pub rejoin-none : (b : Bool) → rejoin b none none ≡ none
 rejoin-none false = refl
 rejoin-none true = refl
-
-size-fork : (b : Bool) (x y : Trie) → size (fork b x y) ≡ 1 + size x + size y
-unfolding size
-size-fork false x y = refl
-size-fork true x y = omega arith
 
 pub over-some : (n : ℕ) → (n ≡ 0 → ⊥) → over n ≡ n + 1
 over-some n f = rw (ne-eqb n 0 f)
@@ -69,10 +65,6 @@ pub size-removeT-leaf : (p : Bits) → size (removeT p leaf) ≡ 2 * length p
 unfolding removeT size
 size-removeT-leaf [] = refl
 size-removeT-leaf (b ∷ p) = rw (removeT-leaf b p, size-fork b (removeT p leaf) leaf) (omega (arith, size-removeT-leaf p))
-
-pub size-side : (b : Bool) (l r : Trie) → size (side b l r) + size (side b r l) ≡ size l + size r
-size-side false l r = refl
-size-side true l r = omega arith
 
 over-le : (n : ℕ) → over n ≤ n + 1
 over-le n = cond-both (λ k. k ≤ n + 1) (eqb n 0) 0 (n + 1) (omega arith) (omega arith)

@@ -16,25 +16,13 @@ use Rattle.nodes.specs.Links.{linked}
 use Rattle.nodes.specs.Segments.{Segment, Spliced}
 use Rattle.nodes.proofs.Put.{put-nil, put-behind-at, put-before-at}
 use Rattle.nodes.proofs.Has.{has-back, has-at, has-same}
-use Rattle.nodes.proofs.Tries.{length-enc}
+use Rattle.nodes.proofs.Tries.{length-enc, size-leaf, enc-leaf, enc-node}
 use Rattle.nodes.proofs.Linked.{linked-is}
 use Rattle.nodes.proofs.Segments.{segment-rest}
 use Rattle.trie_remove.specs.Removal.{begin}
 use Rattle.trie_remove.proofs.Remains.{removeT-end, removeT-leaf, size-removeT-leaf}
 use Rattle.nets.proofs.Handing.{len-next, bits-end, bits-next, length-bitsLeft}
 use Rattle.trie_remove.proofs.Descent.{size-full}
-
-enc-leaf : enc leaf ≡ 0 ∷ []
-unfolding enc word Rattle.nodes.specs.Words.link0 Rattle.nodes.specs.Words.link1
-enc-leaf = refl
-
-enc-node : (l r : Trie) → enc (node l r) ≡ word l r ∷ (enc l ++ enc r)
-unfolding enc
-enc-node l r = refl
-
-size-leaf : size leaf ≡ 1
-unfolding size
-size-leaf = refl
 
 -- The nodes from `from` up to the trie's end go.
 module _ {w : List ℕ} {b i e u : ℕ} {t : Trie} {rest : List ℕ} (g : Segment w b i e u t rest) (from : ℕ) where

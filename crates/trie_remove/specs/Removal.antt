@@ -1,16 +1,16 @@
 -- Taking a path out of a trie in the middle of the used words: what is asked, what is found at a node, where the rest begins.
 use mathlib.Core.Path.{_≡_}
-use mathlib.Core.Bool.{Bool, false, cond}
+use mathlib.Core.Bool.{Bool, cond}
 use mathlib.Core.List.{List, _∷_}
 use Prim.Native.Nat.{ℕ, _+_, _-_, _≤_, _<_}
 use lib.Dec.{eqb}
 use lib.ListN.{length}
 use Rattle.nets.specs.Bits.{Bits}
-use Rattle.nets.specs.Tries.{Trie, none, node, leaf, size, bare, side}
+use Rattle.nets.specs.Tries.{Trie, none, node, leaf, size, side}
 use Rattle.nets.specs.TrieOps.{removeT}
 use Rattle.nets.specs.Networks.{bitsLeft}
 use Rattle.nets.specs.declared.PrefixBits.{PrefixBits}
-use Rattle.nodes.specs.Segments.{Segment}
+use Rattle.nodes.specs.Segments.{Segment, Branch}
 use Rattle.trie_remove.specs.declared.Child.{Child}
 use Rattle.trie_remove.specs.declared.Step.{Step}
 use Rattle.trie_remove.specs.declared.Step.the-variants.{Nothing, Full, Inner}
@@ -41,15 +41,13 @@ aboveOf from c = cond (eqb (c .others) 0) from (c .first)
 abbrev pub over : ℕ → ℕ
 over n = cond (eqb n 0) 0 (n + 1)
 
--- an inner node with the children l and r, the next bit, the child on its side and the bits behind it
+-- an inner node, the next bit, the child on its side and the bits behind it
 pub record Inside (s : PrefixBits) (i e : ℕ) (t : Trie) (bit : Bool) (c : Child) (later : PrefixBits) : Type 0 where
-  pub l : Trie
-  pub r : Trie
-  pub is : t ≡ node l r
-  pub inner : bare l r ≡ false
+  pub m : ℕ
+  pub branch : Branch i m t
   pub bits : bitsLeft s ≡ bit ∷ bitsLeft later
   pub fewer : s .len ≡ later .len + 1
-  pub child : c ≡ childOf bit i (i + 1 + size l) e
+  pub child : c ≡ childOf bit i m e
 
 -- what a step down the path s says of the trie t that stands from node i up to node e
 abbrev pub Says : Step → PrefixBits → ℕ → ℕ → Trie → Type 0

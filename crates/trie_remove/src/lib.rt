@@ -13,6 +13,7 @@ ghost use Rattle.trie_remove.specs.Removal.{Removable, begin, childOf, a
 use nets::NextBit;
 use nets::PrefixBits;
 use nodes::steps;
+use nodes::steps::View;
 use nodes::writing;
 
 // The child on the side of a bit: its first node, its end, and how many nodes the other child has.
@@ -53,19 +54,16 @@ fn step_down(w: &[u32], b: usize, i: usize, e: usize, s: PrefixBits) -> Step
     requires { ⌜ (s .len ≤ 128) × ((t : Trie) × (rest : List ℕ) × (u : ℕ) × Segment (now w) b i e u t rest) ⌝ }
     ensures { λ r. ⌜ ((t : Trie) (rest : List ℕ) (u : ℕ) → Segment (now (w .entry)) b i e u t rest → Says r s i e t) ⌝ }
 {
-    if i == e {
-        return Step::Nothing;
-    }
     let n = s.next();
     match n {
         NextBit::End => Step::Nothing,
         NextBit::Bit(bit, later) => {
-            let x = steps::word(w, b, i);
-            if x == 0 {
-                return Step::Full;
+            let v = steps::look(w, b, i, e);
+            match v {
+                View::Nothing => Step::Nothing,
+                View::Leaf => Step::Full,
+                View::Inner(m) => Step::Inner(bit, child_of(bit, i, m, e), later),
             }
-            let m = steps::middle(x / 2, i, e);
-            Step::Inner(bit, child_of(bit, i, m, e), later)
         }
     }
 }

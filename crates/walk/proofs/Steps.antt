@@ -19,7 +19,8 @@ use Rattle.pool_state.specs.Decode.{Decoded, damaged, sound, decode}
 use Rattle.pool_state.proofs.Claims.{isState-family}
 use Rattle.pool_state.proofs.Decoded.{decode-state}
 use Rattle.pool_state.proofs.Seen.{trieAt}
-use Rattle.listing.specs.Seats.{Sits, Refuses, Seats}
+use Rattle.pool_state.specs.Steps.{Refuses}
+use Rattle.listing.specs.Seats.{Sits, Seats}
 use Rattle.nodes.specs.declared.seats.Seat.{Seat}
 use Rattle.listing.specs.declared.seats.Seated.the-variants.{Refused}
 use Rattle.trie_paths.proofs.Reading.{spans-small}

@@ -3,7 +3,7 @@ use native.Mathlib.Omega.{arith}
 use borrow.Author.Needs.{needs}
 use Rattle.nets.specs.Lists.{addL}
 use Rattle.nets.specs.Tries.{insertT}
-use Rattle.pool_state.proofs.Returns.{result-many, result-refused, result-fits, result-relinks, result-granted}
+use Rattle.pool_state.proofs.Returns.{result-refused, result-fits, result-relinks, result-granted}
 use Rattle.change.specs.Steps.{Ready}
 use Rattle.change.proofs.Calls.{Counted, works-insert, seat-long, seat-stands, result, result-stands, result-few, result-room, result-wrote}
 use Rattle.change.proofs.add.Statement.{statement}
@@ -27,24 +27,24 @@ add-spec =
     (λ c κs. let h = ready (c .before .before .before) in (h .few, record { t = _; rest = _; u = _; stands = seat-stands h (c .before .seat-of .ensures) }))
     (λ c. omega (arith, result-few (counted c)))
     (λ c κs. ready (c .before .before .before .before .before) .surveyed)
-    (λ c κs. result-many (result (counted (c .before .before .before))) (c .before .judge .ensures) (c .if1 .taken))
     (λ c. search needs)
-    (λ c. let j = c .before in result-refused (result (counted (j .before .before .before))) (j .before .judge .ensures) (j .if1 .taken) (c .too-many .ensures))
-    (λ c κs.
-    let j = c .before in
-    let h = counted (j .before .before .before) in
-    (h .ready .few, record { t = _; rest = _; stands = result-stands h; room = result-room h (result-fits (result h) (j .before .judge .ensures) (j .if1 .left)) }))
+    (λ c. search needs)
+    (λ c κs. let j = c .before .before .before in let h = counted (j .before .before) in (h .ready .few, record { t = _; rest = _; stands = result-stands h; room = result-room h (result-fits (result h) (j .judge .ensures) (c .before .enum-told .given .1)) }))
     (λ c κs.
     let i = c .before .before .before in
-    let j = i .before .before in
-    let h = counted (j .before .before .before) in
-    result-relinks (result h) (j .before .judge .ensures) (j .if1 .left) (result-wrote h (i .insert .ensures _ _ (result-stands h))))
+    let e = i .before .before in
+    let j = e .before .before in
+    let h = counted (j .before .before) in
+    result-relinks (result h) (j .judge .ensures) (e .enum-told .given .1) (result-wrote h (i .insert .ensures _ _ (result-stands h))))
     (λ c. search needs)
     (λ c. (rw (c .before .asked .given .1) at (c .before .before .before .ask .ensures)) _)
+    (λ c. search needs)
+    (λ c. let j = c .before .before .before in result-refused (result (counted (j .before .before))) (j .judge .ensures) _ (c .before .verdict .given .1))
     (λ c. search needs)
     (λ c.
     let l = c .before .before in
     let i = l .before .before .before .before in
-    let j = i .before .before in
-    let h = counted (j .before .before .before) in
-    result-granted (result h) (j .before .judge .ensures) (j .if1 .left) (result-wrote h (i .insert .ensures _ _ (result-stands h))) (l .granted .ensures .0) (l .granted .ensures .1)))
+    let e = i .before .before in
+    let j = e .before .before in
+    let h = counted (j .before .before) in
+    result-granted (result h) (j .judge .ensures) (e .enum-told .given .1) (result-wrote h (i .insert .ensures _ _ (result-stands h))) (l .granted .ensures .0) (l .granted .ensures .1)))

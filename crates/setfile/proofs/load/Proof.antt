@@ -1,9 +1,9 @@
 -- `load` meets its contract, each return by the tests on the way to it. Assumes nothing.
 use denote.Ref.{now}
-use native.Mathlib.Omega.{arith}
 use borrow.Author.Needs.{needs}
+use Rattle.pool_state.proofs.Returns.{result-refused, result-fits, result-relinks, result-granted}
 use Rattle.setfile.specs.LoadSteps.{Ready}
-use Rattle.setfile.proofs.Loads.{load-many, load-refused, load-writes, load-relinks, load-granted}
+use Rattle.setfile.proofs.Loads.{load-result, load-writes, load-wrote}
 use Rattle.setfile.proofs.load.Statement.{statement}
 use Rattle.setfile.proofs.load.Tie as tie
 
@@ -22,12 +22,26 @@ load-spec =
     (λ c. search needs)
     (λ c. search needs)
     (λ c κs. ready (c .before .before) .surveyed)
-    (λ c κs. load-many (ready (c .before .before .before .before)) (c .before .judge .ensures) (omega arith))
     (λ c. search needs)
-    (λ c. load-refused (ready (c .before .before .before .before .before)) (c .before .before .judge .ensures) (omega arith) (c .too-many .ensures))
-    (λ c κs. (_, load-writes (ready (c .before .before .before .before .before)) (c .before .before .judge .ensures) (omega arith)))
-    (λ c κs. load-relinks (ready (c .before .before .before .before .before .before .before .before .before)) (c .before .before .before .before .before .before .judge .ensures) (omega arith) (c .before .before .before .write .ensures))
+    (λ c. search needs)
+    (λ c κs. let j = c .before .before .before in let h = ready (j .before .before .before) in (_, load-writes h (result-fits (load-result h) (j .judge .ensures) (c .before .enum-told .given .1))))
+    (λ c κs.
+    let x = c .before .before .before in
+    let e = x .before .before in
+    let j = e .before .before in
+    let h = ready (j .before .before .before) in
+    let z = e .enum-told .given .1 in
+    result-relinks (load-result h) (j .judge .ensures) z (load-wrote h (result-fits (load-result h) (j .judge .ensures) z) (x .write .ensures)))
     (λ c. search needs)
     (λ c. rw (c .before .asked .given .1) at (c .before .before .before .ask .ensures))
     (λ c. search needs)
-    (λ c. load-granted (ready (c .before .before .before .before .before .before .before .before .before .before .before .before)) (c .before .before .before .before .before .before .before .before .before .judge .ensures) (omega arith) (c .before .before .before .before .before .before .write .ensures) (c .before .before .granted .ensures)))
+    (λ c. let j = c .before .before .before in result-refused (load-result (ready (j .before .before .before))) (j .judge .ensures) _ (c .before .verdict .given .1))
+    (λ c. search needs)
+    (λ c.
+    let y = c .before .before in
+    let x = y .before .before .before .before in
+    let e = x .before .before in
+    let j = e .before .before in
+    let h = ready (j .before .before .before) in
+    let z = e .enum-told .given .1 in
+    result-granted (load-result h) (j .judge .ensures) z (load-wrote h (result-fits (load-result h) (j .judge .ensures) z) (x .write .ensures)) (y .granted .ensures .0) (y .granted .ensures .1)))

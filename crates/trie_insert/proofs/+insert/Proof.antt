@@ -1,5 +1,5 @@
 -- The proof of the cycle of calls {insert}. The measure is what is left of the path. Assumes nothing.
-use mathlib.Core.Path.{refl, sym, _∙_}
+use mathlib.Core.Path.{_≡_, refl, sym, _∙_}
 use mathlib.Core.Bool.{true, false}
 use Prim.Native.Nat.{ℕ, _+_, _≤_, _<_}
 use native.Mathlib.Omega.{arith}
@@ -9,13 +9,14 @@ use borrow.Fn.PlainCycle.{Measures, is, falls, and}
 use lib.ListN.{length}
 use Rattle.nets.proofs.PrefixBits.next.Reads as next-reads
 use Rattle.nodes.specs.Words.{place}
-use Rattle.nodes.proofs.Segments.{segment-fit}
+use Rattle.nodes.specs.Segments.{Views}
+use Rattle.nodes.specs.declared.steps.View.the-variants.{Inner}
+use Rattle.nodes.proofs.steps.look.Reads as look-reads
 use Rattle.nodes.proofs.writing.links.Reads as links-reads
 use Rattle.nets.proofs.Handing.{hands-end, Hands, hands, hands-bit}
-use Rattle.trie_insert.proofs.Insertion.{Inner, insertable-side, inserted-leaf, inserted-side, inner-fit, inserted-fit}
+use Rattle.trie_insert.proofs.Insertion.{empty-end, insertable-side, inserted-leaf, inserted-side, inner-fit, inserted-fit}
 use Rattle.trie_insert.proofs.leaf.Reads as leaf-reads
 use Rattle.trie_insert.proofs.grow.Reads as grow-reads
-use Rattle.trie_insert.proofs.middle.Reads as middle-reads
 use Rattle.trie_insert.proofs.insert.Reads as insert
 use Rattle.trie_insert.proofs.insert.Kinds as insert-kinds
 use Rattle.trie_insert.proofs.+insert.Lts-insert as lts
@@ -37,10 +38,10 @@ calls t = (
   next-reads.Learnt,
   leaf-reads.Asked,
   leaf-reads.Learnt,
+  look-reads.Asked,
+  look-reads.Learnt,
   grow-reads.Asked,
   grow-reads.Learnt,
-  middle-reads.Asked,
-  middle-reads.Learnt,
   below t,
   insert.Post,
   links-reads.Asked,
@@ -48,37 +49,48 @@ calls t = (
 )
 
 module _ (t : ℕ) where
-  -- behind the tests, at a node that is no leaf
+  abbrev Looked : Type 0
+  Looked = lts.After-look (calls t) (at t) insert.Post
+
+  abbrev start : Looked → lts.Start (calls t) (at t) insert.Post
+  start c = c .before .before .before .before .before .before .before
+
+  more : (c : Looked) → Hands (start c .args .s) (c .before .before .before .next2 .given .0 .0) (c .before .before .before .next2 .given .0 .1 .0)
+  more c = let n = c .before .before .before in hands _ _ _ _ (start c .pre .1 .0) (n .before .before .next .ensures) (n .next2 .given .1)
+
+  -- at an inner node
   abbrev Fork : Type 0
-  Fork = lts.Else2 (calls t) (at t) insert.Post
+  Fork = lts.After-known-told2 (calls t) (at t) insert.Post
 
-  abbrev start : Fork → lts.Start (calls t) (at t) insert.Post
-  start c = c .before .before .before .before .before .before .before .before .before
+  abbrev looked : Fork → Looked
+  looked c = c .before .before .before
 
-  abbrev next : Fork → lts.After-next2 (calls t) (at t) insert.Post
-  next c = c .before .before .before .before .before
+  abbrev middle : Fork → ℕ
+  middle c = c .before .v .given .0 .0
 
-  more : (c : lts.After-next2 (calls t) (at t) insert.Post) → Hands (c .before .before .before .before .args .s) (c .next2 .given .0 .0) (c .next2 .given .0 .1 .0)
-  more c = hands _ _ _ _ (c .before .before .before .before .pre .1 .0) (c .before .before .next .ensures) (c .next2 .given .1)
+  inner : (c : Fork) → let a = start (looked c) .args in Views (a .w .now) (a .b) (a .i) (a .e) (Inner (middle c))
+  inner c t rest u g = sym (c .before .v .given .1) ∙ looked c .look .ensures t rest u g
 
-  inner : (c : Fork) → let a = start c .args in Inner (a .w .now) (a .b) (a .i) (a .e) (c .before .middle .result)
-  inner c = record { some = c .before .before .before .if1 .left; forks = c .if2 .left; middle = c .before .middle .ensures }
-
-  fit : (c : Fork) → let a = start c .args in let m = c .before .middle .result in (1 ≤ a .i) × (a .i + 1 ≤ m) × (m ≤ a .e) × (a .e < 1073741824) × (place (a .b) (a .i) < length (a .w .now))
-  fit c = inner-fit (inner c) (start c .pre .1 .1 .stands)
+  fit : (c : Fork) → let a = start (looked c) .args in (1 ≤ a .i) × (a .i + 1 ≤ middle c) × (middle c ≤ a .e) × (a .e < 1073741824) × (place (a .b) (a .i) < length (a .w .now))
+  fit c = inner-fit (inner c) (start (looked c) .pre .1 .1 .stands)
 
   -- the bit is known
-  right : (c : lts.Then3 (calls t) (at t) insert.Post) → Hands (start (c .before) .args .s) true (next (c .before) .next2 .given .0 .1 .0)
-  right c = hands-bit (c .if3 .taken) (more (next (c .before)))
+  right : (c : lts.Then1 (calls t) (at t) insert.Post) → Hands (start (looked (c .before)) .args .s) true (looked (c .before) .before .before .before .next2 .given .0 .1 .0)
+  right c = hands-bit (c .if1 .taken) (more (looked (c .before)))
 
-  left : (c : lts.Else3 (calls t) (at t) insert.Post) → Hands (start (c .before) .args .s) false (next (c .before) .next2 .given .0 .1 .0)
-  left c = hands-bit (c .if3 .left) (more (next (c .before)))
+  left : (c : lts.Else1 (calls t) (at t) insert.Post) → Hands (start (looked (c .before)) .args .s) false (looked (c .before) .before .before .before .next2 .given .0 .1 .0)
+  left c = hands-bit (c .if1 .left) (more (looked (c .before)))
 
   ends : (c : lts.After-insert2 (calls t) (at t) insert.Post) → let f = c .before .before .before in
-      (start f .args .i + 1 ≤ c .insert2 .result) × (c .insert2 .result ≤ f .before .middle .result + 129)
+      (start (looked f) .args .i + 1 ≤ c .insert2 .result) × (c .insert2 .result ≤ middle f + 129)
   ends c =
       let f = c .before .before .before in
-      inserted-fit (inner f) false _ _ _ (omega (arith, left (c .before .before) .len, start f .pre .1 .0)) (start f .pre .1 .1 .stands) (c .insert2 .ensures)
+      let s = start (looked f) in
+      inserted-fit (inner f) false _ _ _ (omega (arith, left (c .before .before) .len, s .pre .1 .0)) (s .pre .1 .1 .stands) (c .insert2 .ensures)
+
+  -- nothing stands there
+  empty : (c : lts.After-enum-told2 (calls t) (at t) insert.Post) → let a = start (c .before .before) .args in a .i ≡ a .e
+  empty c = let k = c .before .before in empty-end (λ t rest u g. sym (c .enum-told2 .given .1) ∙ k .look .ensures t rest u g) (start k .pre .1 .1 .stands)
 
 pub +insert-spec : {M : Type 1} → statement M
 +insert-spec = close μ-insert λ t. lts.spec (calls t) (at t) insert.Post
@@ -88,14 +100,13 @@ pub +insert-spec : {M : Type 1} → statement M
     let s = c .before .before .before .before .before in
     rw (hands-end (s .args .s) _ (s .pre .1 .0) (c .before .before .before .next .ensures) (c .before .enum-told .given .1)) at (s .pre .1 .1))
     (λ c. search needs)
-    (λ c κs. let s = c .before .before .before .before .before .before .before in (s .pre .1 .0, rw (sym (c .before .if1 .taken)) at (s .pre .1 .1)))
+    (λ c κs. let h = c .before .before .before .before .before .before .pre .1 .1 in (h .t, h .rest, _, h .stands))
     (λ c. search needs)
-    (λ c. rw (sym (c .before .before .before .before .if1 .taken)) (c .before .before .grow .ensures))
-    (λ c κs. let h = c .before .before .before .before .before .before .before .pre .1 .1 .stands in omega (arith, segment-fit h, h .one, h .few, h .end, c .before .if1 .left))
+    (λ c κs. let s = c .before .before .before .before .before .before .before .before .before .before in (s .pre .1 .0, rw (sym (empty t (c .before))) at (s .pre .1 .1)))
     (λ c. search needs)
-    (λ c. rw (more t (c .before .before .before .before .before) .bits) (inserted-leaf _ _ _ _ _ _ _ (c .before .before .before .if1 .left) (sym (c .before .middle .ensures) ∙ c .if2 .taken)))
+    (λ c. search needs)
     (λ c κs.
-    let s = start t (c .before .before) in
+    let s = start t (looked t (c .before .before)) in
     let h = right t (c .before) in
     (omega (arith, s .pre .0, h .len), (omega (arith, s .pre .1 .0, h .len), insertable-side (inner t (c .before .before)) true (rw (h .bits) at (s .pre .1 .1)))))
     (λ c κs. omega (arith, fit t (c .before .before .before .before .before .before)))
@@ -105,7 +116,7 @@ pub +insert-spec : {M : Type 1} → statement M
     rw (right t f .bits) (inserted-side (inner t (f .before)) true _ _ _ _ _ _ (c .before .before .before .before .before .before .insert .ensures) refl (c .before .before .links .ensures)))
     (λ c. omega (arith, fit t (c .before .before)))
     (λ c κs.
-    let s = start t (c .before .before) in
+    let s = start t (looked t (c .before .before)) in
     let h = left t (c .before) in
     (omega (arith, s .pre .0, h .len), (omega (arith, s .pre .1 .0, h .len), insertable-side (inner t (c .before .before)) false (rw (h .bits) at (s .pre .1 .1)))))
     (λ c. omega (arith, fit t (c .before .before .before .before .before)))
@@ -115,6 +126,10 @@ pub +insert-spec : {M : Type 1} → statement M
     (λ c.
     let s = c .before .before .before .before .before .before .before .before in
     rw (hands-end (s .args .s) _ (s .pre .1 .0) (c .before .before .before .before .before .before .next .ensures) (c .before .before .before .before .enum-told .given .1)) (c .before .before .leaf .ensures))
+    (λ c. search needs)
+    (λ c. rw (sym (empty t (c .before .before .before .before))) (c .before .before .grow .ensures))
+    (λ c. search needs)
+    (λ c. let k = c .before .before in rw (more t k .bits) (inserted-leaf (λ t rest u g. sym (c .enum-told3 .given .1) ∙ k .look .ensures t rest u g) _ _ _))
     (λ c. search needs)
     (λ c.
     let f = c .before .before .before .before .before .before .before .before in

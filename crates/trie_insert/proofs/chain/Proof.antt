@@ -1,20 +1,19 @@
--- `inserting::chain` meets its contract. The loop's invariant: what is still to be written completes the chain. Assumes nothing.
+-- `chain` meets its contract. The loop's invariant: what is still to be written completes the chain. Assumes nothing.
 use mathlib.Core.Path.{_≡_, refl, _∙_}
 use Prim.Native.Nat.{_+_, _≤_}
 use native.Mathlib.Omega.{arith}
 use borrow.Author.Needs.{needs}
 use lib.ListN.{length}
-use Rattle.nets.specs.Tries.{none, insertT}
 use Rattle.nets.specs.Networks.{bitsLeft}
-use Rattle.nodes.specs.Words.{put, place, enc}
+use Rattle.nodes.specs.Words.{put, place, enc, chain}
 use Rattle.nets.proofs.Handing.{hands-end, Hands, hands}
-use Rattle.trie_insert.proofs.Insertion.{boolByte-le, chain-step, chain-end}
+use Rattle.nodes.proofs.Chains.{boolByte-le, chain-step, chain-end}
 use Rattle.trie_insert.proofs.chain.Statement.{statement}
 use Rattle.trie_insert.proofs.chain.Tie as tie
 
 abbrev Inv-loop : tie.InvT-loop
 Inv-loop w₀ b i k₀ p₀ w k p =
-    (1 ≤ k) × ((p .len ≤ 128) × ((length w ≡ length w₀) × ((k + p .len ≡ i + p₀ .len) × (put w (place b k) (enc (insertT (bitsLeft p) none)) ≡ put w₀ (place b i) (enc (insertT (bitsLeft p₀) none))))))
+    (1 ≤ k) × ((p .len ≤ 128) × ((length w ≡ length w₀) × ((k + p .len ≡ i + p₀ .len) × (put w (place b k) (enc (chain (bitsLeft p))) ≡ put w₀ (place b i) (enc (chain (bitsLeft p₀)))))))
 
 abbrev μ-loop : tie.MeasureT-loop
 μ-loop w₀ b i k₀ p₀ w k p = p .len

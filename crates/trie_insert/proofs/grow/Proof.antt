@@ -1,4 +1,4 @@
--- `inserting::grow` meets its contract: the words behind move up by the chain. Assumes nothing.
+-- `grow` meets its contract: the words behind move up by the chain. Assumes nothing.
 use mathlib.Core.Path.{sym, ap}
 use Prim.Native.Nat.{_+_}
 use native.Mathlib.Omega.{arith}

@@ -1,13 +1,15 @@
--- `inserting::insert_size` meets its contract. The loop's invariant: what is counted of the part completes the whole. Assumes nothing.
+-- `insert_size` meets its contract. The loop's invariant: what is counted of the part completes the whole. Assumes nothing.
 use mathlib.Core.Path.{sym, _∙_}
 use mathlib.Core.Bool.{true, false}
 use Prim.Native.Nat.{_≤_}
 use native.Mathlib.Omega.{arith}
 use borrow.Author.Needs.{needs}
 use Rattle.nets.specs.Networks.{bitsLeft}
-use Rattle.nodes.proofs.Segments.{segment-fit}
 use Rattle.nets.proofs.Handing.{length-bitsLeft, hands-end, Hands, hands, hands-bit}
-use Rattle.trie_insert.proofs.Insertion.{Inner, inner-fit}
+use Rattle.nodes.specs.Segments.{Views}
+use Rattle.nodes.specs.declared.steps.View.the-variants.{Inner}
+use Rattle.nodes.proofs.Segments.{segment-fit}
+use Rattle.trie_insert.proofs.Insertion.{inner-fit}
 use Rattle.trie_insert.proofs.Counting.{Part, part-all, part-side, sized-end, sized-none, sized-leaf}
 use Rattle.trie_insert.proofs.insert_size.Statement.{statement}
 use Rattle.trie_insert.proofs.insert_size.Tie as tie
@@ -18,27 +20,30 @@ Inv-loop w b i e n from₀ to₀ p₀ from to p = (p .len ≤ 128) × Part w b i
 abbrev μ-loop : tie.MeasureT-loop
 μ-loop w b i e n from₀ to₀ p₀ from to p = p .len
 
--- behind the tests, at a node that is no leaf
+-- at an inner node
 abbrev Fork : Type 0
-Fork = tie.Else2 Inv-loop μ-loop
+Fork = tie.After-known-told2 Inv-loop μ-loop
 
-abbrev loop : Fork → tie.At-loop Inv-loop μ-loop
-loop c = c .before .before .before .before .before .before .before
+abbrev looked : Fork → tie.After-look Inv-loop μ-loop
+looked c = c .before .before .before
 
 abbrev next : Fork → tie.After-next2 Inv-loop μ-loop
-next c = c .before .before .before .before
+next c = looked c .before .before
+
+abbrev loop : Fork → tie.At-loop Inv-loop μ-loop
+loop c = next c .before .before .before
 
 more : (c : tie.After-next2 Inv-loop μ-loop) → Hands (c .before .before .before .loop .p) (c .next2 .given .0 .0) (c .next2 .given .0 .1 .0)
 more c = hands _ _ _ _ (c .before .before .before .loop .inv .0) (c .before .before .next .ensures) (c .next2 .given .1)
 
-inner : (c : Fork) → let l = loop c in let a = l .before .before .args in Inner (a .w .now) (a .b) (l .loop .from) (l .loop .to) (c .before .middle .result)
-inner c = record { some = c .before .before .if1 .left; forks = c .if2 .left; middle = c .before .middle .ensures }
+inner : (c : Fork) → let l = loop c in let a = l .before .before .args in Views (a .w .now) (a .b) (l .loop .from) (l .loop .to) (Inner (c .before .v .given .0 .0))
+inner c t rest u g = sym (c .before .v .given .1) ∙ looked c .look .ensures t rest u g
 
-right : (c : tie.Then3 Inv-loop μ-loop) → Hands (loop (c .before) .loop .p) true (next (c .before) .next2 .given .0 .1 .0)
-right c = hands-bit (c .if3 .taken) (more (next (c .before)))
+right : (c : tie.Then1 Inv-loop μ-loop) → Hands (loop (c .before) .loop .p) true (next (c .before) .next2 .given .0 .1 .0)
+right c = hands-bit (c .if1 .taken) (more (next (c .before)))
 
-left : (c : tie.Else3 Inv-loop μ-loop) → Hands (loop (c .before) .loop .p) false (next (c .before) .next2 .given .0 .1 .0)
-left c = hands-bit (c .if3 .left) (more (next (c .before)))
+left : (c : tie.Else1 Inv-loop μ-loop) → Hands (loop (c .before) .loop .p) false (next (c .before) .next2 .given .0 .1 .0)
+left c = hands-bit (c .if1 .left) (more (next (c .before)))
 
 pub insert-size-spec : {M : Type 1} → statement M
 insert-size-spec =
@@ -55,17 +60,24 @@ insert-size-spec =
     (λ c. let g = c .before .before .before .before .before .pre .1 .stands in omega (arith, segment-fit g, g .few))
     (λ c. let l = c .before .before .before .loop in sized-end (l .inv .1) (hands-end (l .p) _ (l .inv .0) (c .before .before .next .ensures) (c .enum-told .given .1)))
     (λ c. search needs)
+    (λ c κs. let h = c .before .before .before .before .loop .inv .1 .held in (h .t, h .rest, h .u, h .stands))
+    (λ c. search needs)
     (λ c. search needs)
     (λ c. search needs)
     (λ c.
-    let l = c .before .before .before .before .before .before in
+    let l = c .before .before .before .before .before .before .before .before in
     let g = l .before .before .pre .1 .stands in
     omega (arith, segment-fit g, g .few, l .loop .inv .0))
-    (λ c. let l = c .before .before .before .before .before .before .loop in sized-none (l .inv .1) _ (c .before .if1 .taken) (sym (length-bitsLeft (l .p) (l .inv .0))))
-    (λ c κs. let g = c .before .before .before .before .before .loop .inv .1 .held .stands in omega (arith, segment-fit g, g .one, g .few, g .end, c .if1 .left))
     (λ c.
-    let l = c .before .before .before .before .before .before .before .loop in
-    sized-leaf (l .inv .1) _ _ (more (c .before .before .before .before) .bits) (c .before .before .if1 .left) (sym (c .before .middle .ensures) ∙ c .if2 .taken))
+    let k = c .before .before .before in
+    let l = k .before .before .before .before .before .loop in
+    sized-none (l .inv .1) _ (rw (c .before .enum-told2 .given .1) at (k .look .ensures)) (sym (length-bitsLeft (l .p) (l .inv .0))))
+    (λ c. search needs)
+    (λ c.
+    let k = c .before .before in
+    let m = k .before .before in
+    sized-leaf (m .before .before .before .loop .inv .1) _ _ (more m .bits) (rw (c .enum-told3 .given .1) at (k .look .ensures)))
+    (λ c. search needs)
     (λ c. omega (arith, right c .len))
     (λ c. let h = right c in let v = loop (c .before) .loop .inv in (omega (arith, h .len, v .0), part-side true (rw (h .bits) at (v .1)) (inner (c .before))))
     (λ c. omega (arith, inner-fit (inner (c .before)) (loop (c .before) .loop .inv .1 .held .stands)))

@@ -1,4 +1,4 @@
--- `inserting::leaf` meets its contract: the words behind move to the leaf. Assumes nothing.
+-- `leaf` meets its contract: the words behind move to the leaf. Assumes nothing.
 use native.Mathlib.Omega.{arith}
 use borrow.Author.Needs.{needs}
 use Rattle.nodes.proofs.Segments.{segment-fit}

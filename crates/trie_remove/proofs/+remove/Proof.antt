@@ -7,9 +7,10 @@ use borrow.Fn.Kinds.{In}
 use borrow.Fn.PlainCycle.{Measures, is, falls, and}
 use Rattle.nets.specs.Tries.{Trie}
 use Rattle.nodes.specs.Segments.{Segment, Spliced}
+use Rattle.nodes.proofs.Views.{behind}
 use Rattle.trie_remove.specs.Removal.{begin, aboveOf, Inside}
 use Rattle.trie_remove.proofs.Descent.{size-full}
-use Rattle.trie_remove.proofs.Inward.{left, behind, child-here, gone-here, linked-here, linkable-here, removable-here}
+use Rattle.trie_remove.proofs.Inward.{left, child-here, gone-here, linked-here, linkable-here, removable-here}
 use Rattle.trie_remove.proofs.Splices.{left-nothing, left-full}
 use Rattle.trie_remove.proofs.remove.Reads as remove
 use Rattle.trie_remove.proofs.remove.Kinds as remove-kinds
@@ -57,7 +58,7 @@ module _ (t : ℕ) where
   called : (c : lts.After-remove (calls t) (at t) remove.Post) → let d = c .before .before .before in let a = d .before .before .before .before .before .before .args in let k = d .before .n .given .0 .1 .0 in
       (t′ : Trie) (rest : List ℕ) (g : Segment (a .w .now) (a .b) (a .i) (a .e) (a .u) t′ rest) →
       let n = inside d t′ rest (a .u) g in
-      Spliced (a .w .now) (c .remove .last .0) (a .b) (begin (aboveOf (a .from) k) (k .first) (left g n)) (c .remove .result) (left g n) (behind g n)
+      Spliced (a .w .now) (c .remove .last .0) (a .b) (begin (aboveOf (a .from) k) (k .first) (left g n)) (c .remove .result) (left g n) (behind g (n .branch) (d .before .n .given .0 .0))
   called c t′ rest g = rw (c .before .above .ensures) at (c .remove .ensures _ _ (child-here g (inside (c .before .before .before) t′ rest _ g)))
 
 pub +remove-spec : {M : Type 1} → statement M

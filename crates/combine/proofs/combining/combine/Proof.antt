@@ -1,7 +1,7 @@
 -- `combining::combine` meets its contract, each return by the tests on the way to it. Assumes nothing.
 use denote.Ref.{now}
 use borrow.Author.Needs.{needs}
-use Rattle.pool_state.proofs.Returns.{result-many, result-refused, result-fits, result-relinks, result-granted}
+use Rattle.pool_state.proofs.Returns.{result-refused, result-fits, result-relinks, result-granted}
 use Rattle.combine.specs.Steps.{Ready}
 use Rattle.combine.proofs.Calls.{ready-records, ready-reads, Counted, result, result-few, result-writes, result-wrote}
 use Rattle.combine.proofs.combining.combine.Statement.{statement}
@@ -31,23 +31,26 @@ combine-spec =
     (λ c κs. (_, _, ready-reads (ready (c .before .before .before .before)) (c .before .sources-of .ensures)))
     (λ c. record { fits = result-few (counted c) })
     (λ c κs. counted (c .before) .ready .surveyed)
-    (λ c κs. result-many (result (counted (c .before .before .before))) (c .before .judge .ensures) (c .if1 .taken))
     (λ c. search needs)
-    (λ c. let j = c .before .before in result-refused (result (counted (j .before .before))) (j .judge .ensures) (c .before .if1 .taken) (c .too-many .ensures))
-    (λ c κs. let j = c .before .before in let h = counted (j .before .before) in (_, _, result-writes h (result-fits (result h) (j .judge .ensures) (c .before .if1 .left))))
+    (λ c. search needs)
+    (λ c κs. let j = c .before .before .before in let h = counted (j .before .before) in (_, _, result-writes h (result-fits (result h) (j .judge .ensures) (c .before .enum-told .given .1))))
     (λ c κs.
     let x = c .before .before .before in
-    let j = x .before .before .before in
+    let e = x .before .before in
+    let j = e .before .before in
     let h = counted (j .before .before) in
-    let z = x .before .before .if1 .left in
+    let z = e .enum-told .given .1 in
     result-relinks (result h) (j .judge .ensures) z (result-wrote h (result-fits (result h) (j .judge .ensures) z) (x .write .ensures)))
     (λ c. search needs)
     (λ c. (rw (c .before .asked .given .1) at (c .before .before .before .ask .ensures)) _)
     (λ c. search needs)
+    (λ c. let j = c .before .before .before in result-refused (result (counted (j .before .before))) (j .judge .ensures) _ (c .before .verdict .given .1))
+    (λ c. search needs)
     (λ c.
     let y = c .before .before in
     let x = y .before .before .before .before in
-    let j = x .before .before .before in
+    let e = x .before .before in
+    let j = e .before .before in
     let h = counted (j .before .before) in
-    let z = x .before .before .if1 .left in
+    let z = e .enum-told .given .1 in
     result-granted (result h) (j .judge .ensures) z (result-wrote h (result-fits (result h) (j .judge .ensures) z) (x .write .ensures)) (y .granted .ensures .0) (y .granted .ensures .1)))

@@ -2,7 +2,8 @@
 use Prim.Native.Nat.{_-_}
 use native.Mathlib.Omega.{arith}
 use borrow.Author.Needs.{needs}
-use Rattle.setfile_build.proofs.Chaining.{Chaining, chaining-start, chaining-room, chaining-len, chaining-bit, chaining-turn, chaining-end, boolByte-le}
+use Rattle.nodes.proofs.Chains.{boolByte-le}
+use Rattle.setfile_build.proofs.Chaining.{Chaining, chaining-start, chaining-room, chaining-len, chaining-bit, chaining-turn, chaining-end}
 use Rattle.setfile_build.proofs.writing.chain.Statement.{statement}
 use Rattle.setfile_build.proofs.writing.chain.Tie as tie
 

@@ -1,17 +1,17 @@
 -- `simplifying::simplify` meets its contract, by the trie's levels. Assumes nothing.
-use mathlib.Core.Path.{_≡_}
 use native.Mathlib.Omega.{arith}
 use Prim.Native.Nat.{ℕ, _<_}
 use borrow.Author.Needs.{needs}
 use borrow.Fn.Kinds.{In}
 use borrow.Fn.PlainCycle.{Measures, is, falls, and}
-use Rattle.nets.specs.Tries.{Trie, node}
+use Rattle.nets.specs.Tries.{Trie}
+use Rattle.nodes.proofs.Views.{Branch}
 use Rattle.trie_emit.specs.Simplify.{Source}
 use Rattle.trie_emit.proofs.Simplify.{Fork, seen-none, seen-leaf, seen-inner, fork-fuel, left-source, rest-source, pending, simplified}
 use Rattle.trie_emit.proofs.simplifying.simplify.Reads as simplify
 use Rattle.trie_emit.proofs.simplifying.simplify.Kinds as simplify-kinds
 use Rattle.trie_emit.proofs.simplifying.+simplify.Lts-simplify as simplify-lts
-use Rattle.trie_emit.proofs.simplifying.look.Reads as look-reads
+use Rattle.nodes.proofs.steps.look.Reads as look-reads
 use Rattle.trie_emit.proofs.emitting.end_of.Reads as end-of-reads
 use Rattle.trie_emit.proofs.emitting.finish.Reads as finish-reads
 use Rattle.trie_emit.proofs.simplifying.+simplify.{statement}
@@ -42,40 +42,40 @@ module _ (n : ℕ) where
   abbrev Given : Start → Trie → Type 0
   Given s t = let a = s .args in Source (a .w .now) (a .b) (a .i) (a .e) (a .o) (a .fuel) t
 
-  fork : (c : Inside) (t : Trie) → Given (start c) t → let a = start c .args in
-      (l : Trie) × (r : Trie) × (t ≡ node l r) × Fork (a .w .now) (a .b) (a .i) (a .e) (a .o) (a .fuel) (c .before .s .given .0 .0) l r
-  fork c t g = seen-inner _ _ (c .before .s .given .1) t g (c .before .before .before .look .ensures (g .u) t (g .rest) (g .here))
+  fork : (c : Inside) (t : Trie) → Given (start c) t → let a = start c .args in let m = c .before .v .given .0 .0 in
+      (k : Branch (a .i) m t) × Fork (a .w .now) (a .b) (a .i) (a .e) (a .o) (a .fuel) m (k .l) (k .r)
+  fork c t g = seen-inner _ t g (rw (c .before .v .given .1) at (c .before .before .before .look .ensures t (g .rest) (g .u) (g .here)))
 
-  abbrev here : (c : Inside) → let a = start c .args in
-      (l : Trie) × (r : Trie) × (start c .pre .1 .0 ≡ node l r) × Fork (a .w .now) (a .b) (a .i) (a .e) (a .o) (a .fuel) (c .before .s .given .0 .0) l r
+  abbrev here : (c : Inside) → let a = start c .args in let m = c .before .v .given .0 .0 in
+      (k : Branch (a .i) m (start c .pre .1 .0)) × Fork (a .w .now) (a .b) (a .i) (a .e) (a .o) (a .fuel) m (k .l) (k .r)
   here c = fork c (start c .pre .1 .0) (start c .pre .1 .1)
 
 pub +simplify-spec : {M : Type 1} → statement M
 +simplify-spec = close μ-simplify λ n. simplify-lts.spec (calls n) (at n) simplify.Post
-    (λ c κs. let (t, g) = c .before .before .pre .1 in (g .u, t, g .rest, g .here))
+    (λ c κs. let (t, g) = c .before .before .pre .1 in (t, g .rest, g .u, g .here))
     (λ c. search needs)
     (λ c. search needs)
     (λ c. search needs)
     (λ c. let g = start n (c .before) .pre .1 .1 in omega arith)
     (λ c. let g = start n (c .before) .pre .1 .1 in omega arith)
-    (λ c. fork-fuel (here n (c .before) .3))
-    (λ c κs. let f = here n (c .before) in (omega (arith, fork-fuel (f .3), start n (c .before) .pre .0), (f .0, left-source (f .3))))
+    (λ c. fork-fuel (here n (c .before) .1))
+    (λ c κs. let f = here n (c .before) in (omega (arith, fork-fuel (f .1), start n (c .before) .pre .0), (f .0 .l, left-source (f .1))))
     (λ c. let g = start n (c .before .before .before .before) .pre .1 .1 in omega arith)
     (λ c κs. let g = start n (c .before .before .before .before) .pre .1 .1 in omega arith)
-    (λ c. fork-fuel (here n (c .before .before .before .before .before .before) .3))
+    (λ c. fork-fuel (here n (c .before .before .before .before .before .before) .1))
     (λ c κs.
     let f = here n (c .before .before .before .before .before .before) in
-    (omega (arith, fork-fuel (f .3), start n (c .before .before .before .before .before .before) .pre .0), (f .1, rest-source (f .3) _ _ _ (c .before .before .before .before .simplify .ensures) (c .before .end-of .ensures))))
+    (omega (arith, fork-fuel (f .1), start n (c .before .before .before .before .before .before) .pre .0), (f .0 .r, rest-source (f .1) _ _ _ (c .before .before .before .before .simplify .ensures) (c .before .end-of .ensures))))
     (λ c κs.
     let k = c .before .before .before in
     let f = here n (k .before .before .before .before .before .before .before) in
-    (_, _, _, pending (f .3) _ _ _ (k .before .before .before .before .before .simplify .ensures) (k .before .before .end-of .ensures) _ _ (k .simplify2 .ensures)))
+    (_, _, _, pending (f .1) _ _ _ (k .before .before .before .before .before .simplify .ensures) (k .before .before .end-of .ensures) _ _ (k .simplify2 .ensures)))
     (λ c. search needs)
-    (λ c t g. seen-none _ _ _ _ _ t (c .before .before .look .ensures (g .u) t (g .rest) (g .here)) (c .enum-told .given .1))
+    (λ c t g. seen-none _ _ _ _ t (rw (c .enum-told .given .1) at (c .before .before .look .ensures t (g .rest) (g .u) (g .here))))
     (λ c. search needs)
-    (λ c t g. seen-leaf _ _ _ _ _ t (c .before .before .look .ensures (g .u) t (g .rest) (g .here)) (c .enum-told2 .given .1))
+    (λ c t g. seen-leaf _ _ _ _ t (rw (c .enum-told2 .given .1) at (c .before .before .look .ensures t (g .rest) (g .u) (g .here))))
     (λ c. search needs)
     (λ c t g.
     let k = c .before .before .before .before .before .before in
     let f = fork n (k .before .before .before .before .before .before .before) t g in
-    rw (f .2) (simplified (f .3) _ _ _ (k .before .before .before .before .before .simplify .ensures) (k .before .before .end-of .ensures) _ _ (k .simplify2 .ensures) _ _ (c .before .before .finish .ensures)))
+    rw (f .0 .is) (simplified (f .1) _ _ _ (k .before .before .before .before .before .simplify .ensures) (k .before .before .end-of .ensures) _ _ (k .simplify2 .ensures) _ _ (c .before .before .finish .ensures)))
