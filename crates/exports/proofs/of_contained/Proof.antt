@@ -1,12 +1,12 @@
--- `of_told` meets its contract, arm by arm. Assumes nothing.
+-- `of_contained` meets its contract, arm by arm. Assumes nothing.
 use borrow.Author.Needs.{needs}
 use mathlib.Core.Path.{ap, _∙_}
 use Rattle.exports.specs.Packed.{packed}
-use Rattle.exports.proofs.of_told.Statement.{statement}
-use Rattle.exports.proofs.of_told.Tie as tie
+use Rattle.exports.proofs.of_contained.Statement.{statement}
+use Rattle.exports.proofs.of_contained.Tie as tie
 
-pub of-told-spec : {M : Type 1} → statement M
-of-told-spec =
+pub of-contained-spec : {M : Type 1} → statement M
+of-contained-spec =
     tie.close
     (tie.spec
     (λ c. search needs)
