@@ -144,7 +144,7 @@ fn lookups<N: Numbers + Clone>(d: &mut Dice, family: u8, a: &List, p: &[u32], r:
         let q = queries(d, width(family), a, hit);
         let (ours, theirs): (Vec<Net>, Vec<N>) = q.iter().map(|&m| (net(family, m), N::of(m))).unzip();
         let right = |n: usize| assert_eq!(n, if hit { QUERIES } else { 0 });
-        let t = turns(|| seconds(|| right(ours.iter().filter(|n| contains(p, 0, n) == 1).count())), || seconds(|| right(theirs.iter().filter(|n| r.contains(*n)).count())));
+        let t = turns(|| seconds(|| right(ours.iter().filter(|n| contains(p, 0, n) % 2 == 1).count())), || seconds(|| right(theirs.iter().filter(|n| r.contains(*n)).count())));
         row(if hit { "contains, hit" } else { "contains, miss" }, family, a.len(), QUERIES, t);
     }
 }

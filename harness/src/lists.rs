@@ -28,6 +28,11 @@ pub fn supernet(w: u8, l: &List, n: Member) -> Option<Member> {
     (0..=n.0).map(|k| (k, cleared(w, k, n.1))).find(|m| l.contains(m))
 }
 
+/// How many leading bit strings of the query, the empty one included, are leading bit strings of some member too.
+pub fn steps(w: u8, l: &List, n: Member) -> u32 {
+    (0..=n.0).filter(|&k| l.iter().any(|m| m.0 >= k && cleared(w, k, m.1) == cleared(w, k, n.1))).count() as u32
+}
+
 pub fn add(w: u8, l: &List, n: Member) -> List {
     if supernet(w, l, n).is_some() {
         return l.clone();

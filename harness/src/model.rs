@@ -128,8 +128,8 @@ fn root(w: &[u32], set: u32) -> Result<(u8, usize, u64, u64), u8> {
     Ok((family, 64 + 8 * sets, nodes as u64, w[64 + 8 * set as usize] as u64))
 }
 
-/// A lookup reads its own path: the length of the member met on the way down, if there is one.
-fn path(w: &[u32], set: u32, n: &Net) -> Result<Option<u8>, u8> {
+/// A lookup reads its own path: the length of the member met on the way down, if there is one, and how many nodes were read.
+fn path(w: &[u32], set: u32, n: &Net) -> Result<(Option<u8>, u32), u8> {
     let (family, base, nodes, root) = root(w, set)?;
     match in_pool(family, n) {
         0 => {}
@@ -139,23 +139,23 @@ fn path(w: &[u32], set: u32, n: &Net) -> Result<Option<u8>, u8> {
         return Err(2);
     }
     if root == 0 {
-        return Ok(None);
+        return Ok((None, 0));
     }
     let (mut i, wide, a) = (root, width(family), address(n));
     for depth in 0.. {
         let x = w[base + (i - 1) as usize] as u64;
         if x == 0 {
-            return Ok(Some(depth));
+            return Ok((Some(depth), depth as u32 + 1));
         }
         if i + x % 2 > nodes || i + x / 2 > nodes {
             return Err(2);
         }
         if depth == n.len {
-            return Ok(None);
+            return Ok((None, depth as u32 + 1));
         }
         let step = if a >> (wide - 1 - depth) & 1 == 1 { x / 2 } else { x % 2 };
         if step == 0 {
-            return Ok(None);
+            return Ok((None, depth as u32 + 1));
         }
         i += step;
     }
@@ -334,8 +334,14 @@ pub fn apply(w: &mut [u32], c: &Call) -> Answer {
         SUPERNET | CONTAINS => {
             return match path(w, c.a, &c.net) {
                 Err(no) => Answer::refused(no),
-                Ok(len) if c.code == CONTAINS => told(len.is_some()),
-                Ok(len) => found(c.net.family, len.map(|k| (k, cleared(width(c.net.family), k, address(&c.net))))),
+                Ok((len, read)) => {
+                    // on sound memory by the list, on any other by the path
+                    let wide = width(c.net.family);
+                    let x = decode(w).map_or(read, |s| lists::steps(wide, &s.sets[c.a as usize].list, member(&c.net)));
+                    let m = len.map(|k| (k, cleared(wide, k, address(&c.net))));
+                    let a = if c.code == CONTAINS { told(m.is_some()) } else { found(c.net.family, m) };
+                    Answer { x, ..a }
+                }
             }
         }
         IS_EMPTY => return is_empty(w, c.a),

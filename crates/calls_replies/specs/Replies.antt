@@ -3,6 +3,7 @@
 --   noReply k, oneReply, twoReply, flagReply, netReply, foundReply, bitsReply     a number of the table with no value, one number, two, a flag, a network, one that
 --                                                                                 may be missing, what a bit iterator has left
 --   bitReply            the step of the bit iterator
+--   coverReply, containReply     a lookup: whether there is a member, the member, and the nodes that were read
 --   toldReply           the answers by a flag;  entryReply: one number, and an entry of a page
 --   changed w k a f     a changing call on set k: its answer, and the words that it leaves
 use mathlib.Core.Bool.{Bool, false, cond}
@@ -40,6 +41,12 @@ netReply a = reply (a .0) false 0 0 (a .1)
 
 abbrev pub foundReply : ℕ × (Bool × Net) → Reply
 foundReply a = reply (a .0) (a .1 .0) 0 0 (a .1 .1)
+
+abbrev pub coverReply : ℕ × (Bool × (Net × ℕ)) → Reply
+coverReply a = reply (a .0) (a .1 .0) (a .1 .1 .1) 0 (a .1 .1 .0)
+
+abbrev pub containReply : ℕ × (Bool × ℕ) → Reply
+containReply a = reply (a .0) (a .1 .0) (a .1 .1) 0 noNet
 
 abbrev pub entryReply : ℕ × ℕ → Net → Reply
 entryReply a n = reply (a .0) false (a .1) 0 n

@@ -4,13 +4,14 @@ ghost use mathlib.Core.Path.{_≡_};
 ghost use Rattle.nets.specs.Networks.{takenAs, prefixAs, nextAs};
 ghost use Rattle.nets.specs.Refusals.{number};
 ghost use Rattle.pool_state.specs.Rules.{answerAs, reportAs};
-ghost use Rattle.lookup.specs.Rules.{supernetAs};
+ghost use Rattle.lookup.specs.Rules.{supernetAs, containsAs};
 ghost use Rattle.listing.specs.Calls.{followerAs};
 ghost use Rattle.text.specs.Answers.{writtenAs};
-ghost use Rattle.calls_replies.specs.Replies.{noReply, oneReply, twoReply, flagReply, netReply, foundReply, leftNet, bitsReply, bitReply, toldReply, entryReply};
+ghost use Rattle.calls_replies.specs.Replies.{noReply, oneReply, twoReply, flagReply, netReply, foundReply, coverReply, containReply, leftNet, bitsReply, bitReply, toldReply, entryReply};
 use calls_bytes::Reply;
 use calls_bytes::records::flag_byte;
 use listing::Follower;
+use lookup::Contained;
 use lookup::Covering;
 use nets::Net;
 use nets::NextBit;
@@ -152,13 +153,35 @@ pub fn of_told(a: Told) -> Reply
     }
 }
 
+// What a lookup shows that is not refused.
+fn of_lookup(flag: bool, net: Net, steps: u8) -> Reply
+    ensures { λ r. ⌜ r ≡ coverReply (0, (flag, (net, steps))) ⌝ }
+{
+    Reply {
+        no: 0,
+        flag,
+        x: steps as u32,
+        y: 0,
+        net,
+    }
+}
+
 pub fn of_covering(a: Covering) -> Reply
-    ensures { λ r. ⌜ r ≡ foundReply (supernetAs a) ⌝ }
+    ensures { λ r. ⌜ r ≡ coverReply (supernetAs a) ⌝ }
 {
     match a {
-        Covering::Member(net) => of_member(net),
-        Covering::Nothing => only(0),
+        Covering::Member(net, steps) => of_lookup(true, net, steps),
+        Covering::Nothing(steps) => of_lookup(false, NO_NET, steps),
         Covering::Refused(no) => refused(no),
+    }
+}
+
+pub fn of_contained(a: Contained) -> Reply
+    ensures { λ r. ⌜ r ≡ containReply (containsAs a) ⌝ }
+{
+    match a {
+        Contained::Is(flag, steps) => of_lookup(flag, NO_NET, steps),
+        Contained::Refused(no) => refused(no),
     }
 }
 

@@ -18,7 +18,7 @@ use Rattle.walk.specs.Places.{nthRule, lastRule}
 use Rattle.netrows.specs.Rows.{rowRule, rowAfter, blank}
 use Rattle.calls_bytes.specs.declared.Call.{Call}
 use Rattle.calls_bytes.specs.declared.Reply.{Reply}
-use Rattle.calls_replies.specs.Replies.{oneReply, twoReply, flagReply, foundReply, entryReply}
+use Rattle.calls_replies.specs.Replies.{oneReply, twoReply, flagReply, foundReply, coverReply, containReply, entryReply}
 
 abbrev pub fromOf : Call → From
 fromOf c = cond (eqb (c .b) 0) Start (Past (c .net))
@@ -32,8 +32,8 @@ reportOf w c =
     cond (eqb (c .code) 2) (oneReply (freeRule (decode w)))
     (cond (eqb (c .code) 3) (twoReply (heldRule (decode w) (c .a)))
     (cond (eqb (c .code) 4) (twoReply (planRule (decode w) (c .a)))
-    (cond (eqb (c .code) 5) (foundReply (supernetRule w (c .a) (c .net)))
-    (cond (eqb (c .code) 6) (flagReply (containsRule w (c .a) (c .net)))
+    (cond (eqb (c .code) 5) (coverReply (supernetRule w (c .a) (c .net)))
+    (cond (eqb (c .code) 6) (containReply (containsRule w (c .a) (c .net)))
     (cond (eqb (c .code) 7) (flagReply (emptyRule w (c .a)))
     (cond (eqb (c .code) 14) (flagReply (equalRule (decode w) (c .a) (c .b)))
     (cond (eqb (c .code) 22) (foundReply (nthRule (decode w) (c .a) (c .b)))

@@ -5,6 +5,7 @@ use calls_bytes::Call;
 use calls_bytes::Reply;
 use calls_bytes::table;
 use calls_replies::of_answer;
+use calls_replies::of_contained;
 use calls_replies::of_covering;
 use calls_replies::of_entry;
 use calls_replies::of_follower;
@@ -43,7 +44,7 @@ pub fn report(pool: &[u32], c: Call) -> Reply
         table::HELD => of_report(pool::held(pool, c.a)),
         table::PLAN => of_report(pool::plan(pool, c.a)),
         table::SUPERNET => of_covering(lookup::supernet(pool, c.a, c.net)),
-        table::CONTAINS => of_told(lookup::contains(pool, c.a, c.net)),
+        table::CONTAINS => of_contained(lookup::contains(pool, c.a, c.net)),
         table::IS_EMPTY => of_told(lookup::is_empty(pool, c.a)),
         table::EQUAL => of_told(compare::equal(pool, c.a, c.b)),
         table::NTH => of_follower(walk::nth(pool, c.a, c.b)),

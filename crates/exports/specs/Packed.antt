@@ -1,6 +1,6 @@
 -- Answers in one number: 2^32 times the number of the refusal, plus the value.
 --
---   packed, packedFlag        of a number and a value, or a flag
+--   packed, packedSteps       of a number and a value; or of whether there is a member, the lowest bit of the value, and the nodes that were read, the bits above it
 --   loadRule w k d            the answer of loading the bytes d into set k of a pool with the words w;  loadWords: the words that it leaves
 use mathlib.Core.Bool.{Bool, cond}
 use mathlib.Core.List.{List}
@@ -13,8 +13,8 @@ use Rattle.setfile.specs.Loading.{loadRules, fileList}
 abbrev pub packed : ℕ × ℕ → ℕ
 packed a = 4294967296 * a .0 + a .1
 
-abbrev pub packedFlag : ℕ × Bool → ℕ
-packedFlag a = packed (a .0, cond (a .1) 1 0)
+abbrev pub packedSteps : ℕ × (Bool × ℕ) → ℕ
+packedSteps a = packed (a .0, cond (a .1 .0) 1 0 + 2 * a .1 .1)
 
 abbrev pub loadRule : List ℕ → ℕ → List ℕ → ℕ × ℕ
 loadRule w k d = changeRule (decode w) k (loadRules (readFile d) k) (λ S. fileList (readFile d))

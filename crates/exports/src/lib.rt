@@ -1,19 +1,20 @@
 // The calls that are exported each for itself, for programs in other languages: the lookup on the request path, and those whose rows or bytes would otherwise be copied. Each answers
 // 2^32 times the number of its refusal, plus its value.
+ghost use mathlib.Core.Bool.{cond};
 ghost use mathlib.Core.Path.{_≡_};
 ghost use lib.ListN.{length};
 ghost use Rattle.nets.specs.Networks.{netWords};
 ghost use Rattle.nets.specs.Refusals.{number};
 ghost use Rattle.pool_state.specs.Decode.{decode};
-ghost use Rattle.pool_state.specs.Rules.{answerAs, toldAs};
-ghost use Rattle.lookup.specs.Rules.{containsRule};
+ghost use Rattle.pool_state.specs.Rules.{answerAs};
+ghost use Rattle.lookup.specs.Rules.{containsAs, containsRule};
 ghost use Rattle.listing.specs.Calls.{listRule, rowsAfter};
 ghost use Rattle.setfile.specs.Calls.{saveRule, bytesAfter};
-ghost use Rattle.exports.specs.Packed.{packed, packedFlag, loadRule, loadWords};
+ghost use Rattle.exports.specs.Packed.{packed, packedSteps, loadRule, loadWords};
+use lookup::Contained;
 use nets::Net;
 use nets::Refusal;
 use pool_state::Answer;
-use pool_state::Told;
 
 fn refused(no: Refusal) -> u64
     ensures { λ r. ⌜ r ≡ packed (number no, 0) ⌝ }
@@ -27,6 +28,12 @@ fn granted(x: u32) -> u64
     x as u64
 }
 
+fn one_if(flag: bool) -> u32
+    ensures { λ r. ⌜ r ≡ cond flag 1 0 ⌝ }
+{
+    if flag { 1 } else { 0 }
+}
+
 fn of_answer(a: Answer) -> u64
     ensures { λ r. ⌜ r ≡ packed (answerAs a) ⌝ }
 {
@@ -36,21 +43,16 @@ fn of_answer(a: Answer) -> u64
     }
 }
 
-fn of_told(a: Told) -> u64
-    ensures { λ r. ⌜ r ≡ packedFlag (toldAs a) ⌝ }
+fn of_contained(a: Contained) -> u64
+    ensures { λ r. ⌜ r ≡ packedSteps (containsAs a) ⌝ }
 {
     match a {
-        Told::Is(flag) => {
-            if flag {
-                return granted(1);
-            }
-            granted(0)
-        }
-        Told::Refused(no) => refused(no),
+        Contained::Is(flag, steps) => granted(one_if(flag) + 2 * steps as u32),
+        Contained::Refused(no) => refused(no),
     }
 }
 
-// Whether a member of a set contains the whole network: 1 or 0.
+// Whether a member of a set contains the whole network, 1 or 0, plus twice the nodes that were read.
 #[no_mangle]
 pub extern "C" fn marlbrace_contains(
     pool: &[u32],
@@ -60,7 +62,7 @@ pub extern "C" fn marlbrace_contains(
     lo: u64,
     len: u8,
 ) -> u64
-    ensures { λ r. ⌜ r ≡ packedFlag (containsRule (now (pool .entry)) set (netWords family hi lo len)) ⌝ }
+    ensures { λ r. ⌜ r ≡ packedSteps (containsRule (now (pool .entry)) set (netWords family hi lo len)) ⌝ }
 {
     let net = Net {
         family,
@@ -68,7 +70,7 @@ pub extern "C" fn marlbrace_contains(
         lo,
         len,
     };
-    of_told(lookup::contains(pool, set, net))
+    of_contained(lookup::contains(pool, set, net))
 }
 
 // Writes the networks of a set in list order, three numbers for each, and answers how many there are.

@@ -1,4 +1,4 @@
--- A member that a path shows is at most as long as the query: the query cut to its length is a network. Assumes nothing.
+-- A member that a path shows is at most as long as the query: the query cut to its length is a network, and never more nodes are read than the query has bits, plus one. Assumes nothing.
 use mathlib.Core.Bool.{Bool, true, false, cond}
 use mathlib.Core.List.{List, [], _∷_}
 use mathlib.Core.Path.{_≡_, refl, _∙_}
@@ -12,23 +12,20 @@ use Rattle.nets.specs.Networks.{netBits, refusalOf, withLen, withLenNo}
 use Rattle.nets.specs.declared.Net.{Net}
 use Rattle.nets.specs.declared.Refusal.the-variants.{Damaged, NoSet, WrongFamily, BadNetwork}
 use Rattle.nets.proofs.Strings.{cond-both}
-use Rattle.nets.proofs.Numbers.{refusalOf-is, is-refusalOf, length-netBits}
+use Rattle.nets.proofs.Numbers.{refusalOf-is, is-refusalOf, length-netBits, width-le}
 use Rattle.nets.proofs.Answers.{withLenNo-net}
 use Rattle.nodes.specs.Words.{wordAt}
 use Rattle.pool_state.specs.Decode.{recordAt, base, isHeader}
 use Rattle.lookup.specs.Walks.{areNodes, toward, shows, walk, walkFrom}
-use Rattle.lookup.specs.Rules.{onRoot, query, lookup}
+use Rattle.lookup.specs.Rules.{onRoot, query, lookup, memberOf, supernetRule}
 use Rattle.lookup.specs.declared.walking.Shown.{Shown}
 use Rattle.lookup.specs.declared.walking.Shown.the-variants.{Member, Nothing, Refused}
 
--- P holds of the length of the member that is shown, if one is
-abbrev Shows : (ℕ → Type 0) → Shown → Type 0
-Shows P (Member d) = P d
-Shows P Nothing = Unit
-Shows P (Refused r) = Unit
-
+-- the member that is shown has at most m bits, and else at most m + 1 nodes were read
 abbrev AtMost : ℕ → Shown → Type 0
-AtMost m = Shows (λ d. d ≤ m)
+AtMost m (Member d) = d ≤ m
+AtMost m (Nothing s) = s ≤ m + 1
+AtMost m (Refused r) = Unit
 
 module _ (w : List ℕ) (b n m : ℕ) where
   shows-within : (d i x : ℕ) (s : Shown) → d ≤ m → AtMost m s → AtMost m (shows n d i x s)
@@ -37,28 +34,30 @@ module _ (w : List ℕ) (b n m : ℕ) where
 
   walk-within : (q : Bits) (d i : ℕ) → d + length q ≤ m → AtMost m (walk w b n d i q)
   unfolding walk
-  walk-within [] d i le = shows-within d i (wordAt w b i) Nothing (omega arith) tt
+  walk-within [] d i le = shows-within d i (wordAt w b i) (Nothing (d + 1)) (omega arith) (omega arith)
   walk-within (c ∷ q) d i le =
       let x = toward c (wordAt w b i) in
-      shows-within d i (wordAt w b i) (cond (eqb x 0) Nothing (walk w b n (d + 1) (i + x) q)) (omega arith)
-      (cond-both (AtMost m) (eqb x 0) Nothing (walk w b n (d + 1) (i + x) q) tt (walk-within q (d + 1) (i + x) (omega arith)))
+      shows-within d i (wordAt w b i) (cond (eqb x 0) (Nothing (d + 1)) (walk w b n (d + 1) (i + x) q)) (omega arith)
+      (cond-both (AtMost m) (eqb x 0) (Nothing (d + 1)) (walk w b n (d + 1) (i + x) q) (omega arith) (walk-within q (d + 1) (i + x) (omega arith)))
 
   walkFrom-within : (q : Bits) (r : ℕ) → length q ≤ m → AtMost m (walkFrom w b n q r)
   unfolding walkFrom
   walkFrom-within q r le =
-      cond-both (AtMost m) (eqb r 0) Nothing (cond (leb r n) (walk w b n 0 r q) (Refused Damaged)) tt
+      cond-both (AtMost m) (eqb r 0) (Nothing 0) (cond (leb r n) (walk w b n 0 r q) (Refused Damaged)) (omega arith)
       (cond-both (AtMost m) (leb r n) (walk w b n 0 r q) (Refused Damaged) (walk-within q 0 r (omega arith)) tt)
 
--- the query n, cut to the length of the member that is shown, is a network
+-- what is shown keeps this, and the query n, cut to the length of the member that is shown, is a network
 abbrev pub Cut : Net → Shown → Type 0
-Cut n = Shows (λ d. withLenNo n d ≡ 0)
+Cut n (Member d) = (withLenNo n d ≡ 0) × (d ≤ 128) × (d ≤ n .len)
+Cut n (Nothing s) = s ≤ n .len + 1
+Cut n (Refused r) = Unit
 
 module _ (n : Net) where
   cut : refusalOf n ≡ 0 → (s : Shown) → AtMost (n .len) s → Cut n s
   cut e (Member d) h =
       let k = refusalOf-is n e in
-      withLenNo-net n d e ∙ is-refusalOf (withLen n d) (record { family = k .family; len = omega (arith, k .len); address = k .address })
-  cut e Nothing h = tt
+      (withLenNo-net n d e ∙ is-refusalOf (withLen n d) (record { family = k .family; len = omega (arith, k .len); address = k .address }), omega (arith, k .len, width-le (n .family)), h)
+  cut e (Nothing s) h = h
   cut e (Refused r) h = tt
 
   query-cut : (w : List ℕ) (r : ℕ) → Cut n (query w n r)
@@ -81,3 +80,13 @@ module _ (n : Net) where
       cond-both (Cut n) (isHeader w) (cond (ltb k (getD w 2 0)) s (Refused NoSet)) (Refused Damaged)
       (cond-both (Cut n) (ltb k (getD w 2 0)) s (Refused NoSet) (query-cut w (getD w (recordAt k) 0)) tt)
       tt
+
+  -- so on any words
+  pub steps-le : (w : List ℕ) (k : ℕ) → supernetRule w k n .1 .1 .1 ≤ n .len + 1
+  unfolding supernetRule
+  steps-le w k = go (lookup w k n) (lookup-cut w k)
+    where
+      go : (s : Shown) → Cut n s → memberOf n s .1 .1 .1 ≤ n .len + 1
+      go (Member d) h = omega (arith, h .2)
+      go (Nothing s) h = h
+      go (Refused r) h = omega arith

@@ -23,22 +23,22 @@ abbrev ten : ℕ → Net
 ten n = netWords 4 0 167772160 n
 
 -- A member of length 1; no member, the query being the block of both; then 3 before 6, 6 before 7, 7 before the damage of the path.
-pub answers : (supernetRule (words 1 (5 ∷ 0 ∷ 0 ∷ [])) 0 (ten 8) ≡ (0, (true, netWords 4 0 0 1)))
-    × (supernetRule (words 1 (5 ∷ 0 ∷ 0 ∷ [])) 0 (ten 0) ≡ (0, (false, noNet)))
-    × (supernetRule (words 4 []) 1 (netWords 6 0 0 129) ≡ (3, (false, noNet)))
-    × (supernetRule (words 4 []) 0 (netWords 6 0 0 129) ≡ (6, (false, noNet)))
-    × (supernetRule (words 4 []) 0 (ten 33) ≡ (7, (false, noNet)))
-    × (supernetRule (words 4 []) 0 (ten 8) ≡ (2, (false, noNet)))
+pub answers : (supernetRule (words 1 (5 ∷ 0 ∷ 0 ∷ [])) 0 (ten 8) ≡ (0, (true, (netWords 4 0 0 1, 2))))
+    × (supernetRule (words 1 (5 ∷ 0 ∷ 0 ∷ [])) 0 (ten 0) ≡ (0, (false, (noNet, 1))))
+    × (supernetRule (words 4 []) 1 (netWords 6 0 0 129) ≡ (3, (false, (noNet, 0))))
+    × (supernetRule (words 4 []) 0 (netWords 6 0 0 129) ≡ (6, (false, (noNet, 0))))
+    × (supernetRule (words 4 []) 0 (ten 33) ≡ (7, (false, (noNet, 0))))
+    × (supernetRule (words 4 []) 0 (ten 8) ≡ (2, (false, (noNet, 0))))
     × (emptyRule (words 4 []) 0 ≡ (2, false))
     × (emptyRule (words 0 []) 0 ≡ (0, true))
 unfolding put isHeader onRoot query lookup walkFrom walk supernetRule emptyRule width bits netBits netFrom inRange refusalOf cleared
 answers = (refl, refl, refl, refl, refl, refl, refl, refl)
 
 -- The number of the other child is looked at too: 1 + 7 is no node's. What stands beside the path is not: the pool is damaged, and the lookup says what its path shows.
-pub beside : (supernetRule (words 1 (15 ∷ 0 ∷ 0 ∷ [])) 0 (ten 8) ≡ (2, (false, noNet)))
-    × (supernetRule (words 1 (15 ∷ 0 ∷ 0 ∷ [])) 0 (ten 0) ≡ (2, (false, noNet)))
+pub beside : (supernetRule (words 1 (15 ∷ 0 ∷ 0 ∷ [])) 0 (ten 8) ≡ (2, (false, (noNet, 0))))
+    × (supernetRule (words 1 (15 ∷ 0 ∷ 0 ∷ [])) 0 (ten 0) ≡ (2, (false, (noNet, 0))))
     × (decode (words 1 (5 ∷ 0 ∷ 7 ∷ [])) ≡ damaged)
-    × (supernetRule (words 1 (5 ∷ 0 ∷ 7 ∷ [])) 0 (ten 8) ≡ (0, (true, netWords 4 0 0 1)))
+    × (supernetRule (words 1 (5 ∷ 0 ∷ 7 ∷ [])) 0 (ten 8) ≡ (0, (true, (netWords 4 0 0 1, 2))))
     × (emptyRule (words 1 (5 ∷ 0 ∷ 7 ∷ [])) 0 ≡ (0, false))
 unfolding put isHeader onRoot query lookup walkFrom walk supernetRule emptyRule width bits netBits netFrom inRange refusalOf cleared decode readSets readSet parse size
 beside = (refl, refl, refl, refl, refl)

@@ -1,17 +1,18 @@
--- On sound words each lookup is the list's: the number by the state alone, and the member, the truth or the emptiness by the set's list. Assumes nothing.
+-- On sound words each lookup is the list's: the number by the state alone, and the member, the truth, the steps or the emptiness by the set's list. Assumes nothing.
 use mathlib.Core.Bool.{Bool, true, false, not, cond, _&&_, false≢true}
 use mathlib.Core.List.{List, [], _∷_}
 use mathlib.Core.Path.{_≡_, refl, ap, sym, _∙_}
-use Prim.Native.Nat.{ℕ, _≤_, _<_}
+use Prim.Native.Nat.{ℕ, suc, _+_, _≤_, _<_}
 use native.Mathlib.Nat.{zero-add}
+use native.Mathlib.Numerals.{add-one}
 use native.Mathlib.Omega.{arith}
 use lib.Dec.{eqb, leb, ltb}
 use lib.ListN.{length, getD, take}
 use lib.Seq.{take-take}
 use borrow.Author.Tests.{ltb-true, ltb-false, leb-false, le-leb, lt-leb, eqb-true}
 use Rattle.nets.specs.Bits.{Bits, leads, bits}
-use Rattle.nets.specs.Tries.{trieOf}
-use Rattle.nets.specs.Lists.{Found, found, missing, isFound, isList, supernetL, containsL}
+use Rattle.nets.specs.Tries.{listOf, trieOf}
+use Rattle.nets.specs.Lists.{Found, found, missing, isFound, supernetL, containsL, stepsL}
 use Rattle.nets.specs.Refusals.{number, answered}
 use Rattle.nets.specs.Networks.{width, address, netBits, netFrom, refusalOf, noNet, withLen, cleared}
 use Rattle.nets.specs.declared.Net.{Net}
@@ -21,12 +22,14 @@ use Rattle.nets.proofs.Strings.{and-left, leads-head, leads-tail, leads-length}
 use Rattle.nets.proofs.Numbers.{length-netBits}
 use Rattle.nets.proofs.TrieOf.{listOf-trieOf}
 use Rattle.nets.proofs.Lookups.{supernetL-found, searchT-listOf}
+use Rattle.nets.proofs.Steps.{stepsT-listOf, stepsL-found}
 use Rattle.pool_state.specs.States.{State, held}
 use Rattle.pool_state.specs.Decode.{recordAt, base, decode, sound}
 use Rattle.pool_state.specs.Rules.{startOf}
 use Rattle.pool_state.specs.Changes.{setAt, listAt, netRules}
+use Rattle.pool_state.proofs.Claims.{isList-listAt}
 use Rattle.pool_state.proofs.Encoded.{HeaderOf}
-use Rattle.pool_state.proofs.Decoded.{decode-header, decode-set, decode-root, decode-at, decode-parts}
+use Rattle.pool_state.proofs.Decoded.{decode-header, decode-state, decode-root, decode-at, decode-parts}
 use Rattle.lookup.specs.Walks.{walkFrom}
 use Rattle.lookup.specs.Rules.{onRoot, query, lookup, memberOf, isMember, supernetRule, containsRule, emptyAt, emptyRule, setNo, lookupNo, foundAs}
 use Rattle.lookup.specs.declared.walking.Shown.{Shown}
@@ -58,25 +61,33 @@ module _ (w : List ℕ) (S : State) (e : decode w ≡ sound S) (k : ℕ) where
       go true h = rw (lt-leb (length (S .sets)) k (ltb-true k (length (S .sets)) h))
       go false h = rw (le-leb (length (S .sets)) k (ltb-false k (length (S .sets)) h))
 
+  list-of : listOf (trieOf (listAt S k)) ≡ listAt S k
+  list-of = listOf-trieOf (width (S .family)) (listAt S k) (isList-listAt S k (decode-state w S e))
+
+  -- where a member of length d is found, d + 1 nodes are read
+  steps-found : (q p : Bits) → supernetL (listAt S k) q ≡ found p → stepsL (listAt S k) q ≡ suc (length p)
+  steps-found q p h = ap (λ l. stepsL l q) (sym list-of) ∙ stepsL-found (trieOf (listAt S k)) q p (ap (λ l. supernetL l q) list-of ∙ h)
+
   module _ (lt : k < length (S .sets)) where
     one : 1 ≤ startOf k 1 (S .sets)
     one = omega (arith, decode-parts w S e k lt .1)
 
-    is-list : isList (width (S .family)) (listAt S k) ≡ true
-    is-list = and-left (isList (width (S .family)) (listAt S k)) (leb (setAt S k .share) (setAt S k .limit) && leb (held (setAt S k)) (setAt S k .limit)) (decode-set w S e k lt .rules)
-
-    walk-sound : (q : Bits) → walkFrom w (base (getD w 2 0)) (getD w 3 0) q (getD w (recordAt k) 0) ≡ shown 0 (supernetL (listAt S k) q)
+    walk-sound : (q : Bits) → walkFrom w (base (getD w 2 0)) (getD w 3 0) q (getD w (recordAt k) 0) ≡ shown 0 (supernetL (listAt S k) q) (stepsL (listAt S k) q)
     walk-sound q =
+        let t = trieOf (listAt S k) in
         rw (head .sets, head .nodes, decode-root w S e k lt)
         (walkFrom-search one (listAt S k) q (decode-at w S e k lt)
-        ∙ ap (shown 0) (sym (searchT-listOf q (trieOf (listAt S k))) ∙ ap (λ l. supernetL l q) (listOf-trieOf (width (S .family)) (listAt S k) is-list)))
+        ∙ rw (← searchT-listOf q t, ← stepsT-listOf q t) (ap (λ l. shown 0 (supernetL l q) (stepsL l q)) list-of))
 
     root-sound : (getD w (recordAt k) 0 ≤ getD w 3 0) × (eqb (getD w (recordAt k) 0) 0 ≡ eqb (length (listAt S k)) 0)
     root-sound = rw (head .nodes, decode-root w S e k lt) (rootAt-node one (listAt S k) (decode-at w S e k lt))
 
   -- What the path of a query shows, and the whole lookup: by whether the set is unknown, whether the family is the pool's, and whether the query is a network.
+  abbrev steps : Net → ℕ
+  steps n = stepsL (listAt S k) (netBits n)
+
   abbrev path : Net → Shown
-  path n = shown 0 (supernetL (listAt S k) (netBits n))
+  path n = shown 0 (supernetL (listAt S k) (netBits n)) (steps n)
 
   abbrev whole : Net → Bool → Bool → Bool → Shown
   whole n a b c = cond a (Refused NoSet) (cond b (cond c (path n) (Refused BadNetwork)) (Refused WrongFamily))
@@ -103,21 +114,28 @@ module _ (w : List ℕ) (S : State) (e : decode w ≡ sound S) (k : ℕ) where
         go false true false h g = no-value BadNetwork
         go false true true h g = value (h refl) (g refl)
 
-  pub supernetRule-sound : (n : Net) → supernetRule w k n ≡ answered (lookupNo S k n) (false, noNet) (foundAs (S .family) (supernetL (listAt S k) (netBits n)))
+  pub supernetRule-sound : (n : Net) → supernetRule w k n
+      ≡ answered (lookupNo S k n) (false, (noNet, 0)) (foundAs (S .family) (supernetL (listAt S k) (netBits n)) (stepsL (listAt S k) (netBits n)))
   unfolding supernetRule
-  supernetRule-sound n = by-table n (false, noNet) (foundAs (S .family) (supernetL (listAt S k) (netBits n))) (memberOf n) (λ r. refl) (λ f r. go f r (supernetL (listAt S k) (netBits n)) refl)
+  supernetRule-sound n =
+      by-table n (false, (noNet, 0)) (foundAs (S .family) (supernetL (listAt S k) (netBits n)) (stepsL (listAt S k) (netBits n))) (memberOf n) (λ r. refl)
+      (λ f r. go f r (supernetL (listAt S k) (netBits n)) refl)
     where
-      go : n .family ≡ S .family → refusalOf n ≡ 0 → (x : Found) → supernetL (listAt S k) (netBits n) ≡ x → memberOf n (shown 0 x) ≡ (0, foundAs (S .family) x)
-      go f r missing h = refl
-      go f r (found p) h = rw (zero-add (length p), cleared-cut n p r (supernetL-found (listAt S k) (netBits n) p h .1), f)
+      go : n .family ≡ S .family → refusalOf n ≡ 0 → (x : Found) → supernetL (listAt S k) (netBits n) ≡ x → memberOf n (shown 0 x (steps n)) ≡ (0, foundAs (S .family) x (steps n))
+      go f r missing h = rw (zero-add (steps n))
+      go f r (found p) h =
+          let e : length p + 1 ≡ steps n = add-one (length p) ∙ sym (steps-found (netBits n) p h) in
+          rw (zero-add (length p), e, cleared-cut n p r (supernetL-found (listAt S k) (netBits n) p h .1), f)
 
-  pub containsRule-sound : (n : Net) → containsRule w k n ≡ answered (lookupNo S k n) false (containsL (listAt S k) (netBits n))
+  pub containsRule-sound : (n : Net) → containsRule w k n
+      ≡ answered (lookupNo S k n) (false, 0) (containsL (listAt S k) (netBits n), stepsL (listAt S k) (netBits n))
   unfolding containsRule containsL
-  containsRule-sound n = by-table n false (containsL (listAt S k) (netBits n)) isMember (λ r. refl) (λ f r. go (supernetL (listAt S k) (netBits n)))
+  containsRule-sound n =
+      by-table n (false, 0) (containsL (listAt S k) (netBits n), stepsL (listAt S k) (netBits n)) isMember (λ r. refl) (λ f r. go (supernetL (listAt S k) (netBits n)) refl)
     where
-      go : (x : Found) → isMember (shown 0 x) ≡ (0, isFound x)
-      go missing = refl
-      go (found p) = refl
+      go : (x : Found) → supernetL (listAt S k) (netBits n) ≡ x → isMember (shown 0 x (steps n)) ≡ (0, (isFound x, steps n))
+      go missing h = rw (zero-add (steps n))
+      go (found p) h = rw (zero-add (length p)) (ap (λ s. (0, (true, s))) (add-one (length p) ∙ sym (steps-found (netBits n) p h)))
 
   pub emptyRule-sound : emptyRule w k ≡ answered (setNo S k) false (eqb (length (listAt S k)) 0)
   unfolding emptyRule

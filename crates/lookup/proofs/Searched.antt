@@ -1,4 +1,4 @@
--- On words that hold a trie the walk finds what the trie's search finds, by induction on the bits over the child on the side of the bit. Assumes nothing.
+-- On words that hold a trie the walk finds what the trie's search finds, and reads the nodes on its way, by induction on the bits over the child on the side of the bit. Assumes nothing.
 use mathlib.Core.Bool.{Bool, true, false, cond}
 use mathlib.Core.List.{List, [], _∷_}
 use mathlib.Core.Path.{_≡_, refl, ap, sym, _∙_}
@@ -11,7 +11,7 @@ use borrow.Author.Tests.{ne-eqb}
 use Rattle.nets.specs.Bits.{Bits}
 use Rattle.nets.specs.Tries.{Trie, none, node, leaf, size, bare, side, fork, insertT, trieOf}
 use Rattle.nets.specs.Lists.{Found, found, missing}
-use Rattle.nets.specs.TrieOps.{searchT, under}
+use Rattle.nets.specs.TrieOps.{searchT, under, stepsT}
 use Rattle.nodes.specs.Words.{Has, link0, link1, word, enc, place, wordAt}
 use Rattle.nodes.specs.Parse.{Stands}
 use Rattle.nodes.proofs.Has.{has-at}
@@ -22,19 +22,19 @@ use Rattle.lookup.specs.declared.walking.Shown.{Shown}
 use Rattle.lookup.specs.declared.walking.Shown.the-variants.{Member, Nothing}
 use Rattle.lookup.proofs.Turns.{walkFrom-none, walkFrom-node, areNodes-in, onward, walk-shows}
 
--- what a search that begins d bits down shows
-abbrev pub shown : ℕ → Found → Shown
-shown d (found p) = Member (d + length p)
-shown d missing = Nothing
+-- what a search that begins d bits down and goes through s nodes shows
+abbrev pub shown : ℕ → Found → ℕ → Shown
+shown d (found p) s = Member (d + length p)
+shown d missing s = Nothing (d + s)
 
-shown-under : (c : Bool) (d : ℕ) (f : Found) → shown (d + 1) f ≡ shown d (under c f)
-shown-under c d (found p) = let e : d + 1 + length p ≡ d + suc (length p) = omega arith in ap Member e
-shown-under c d missing = refl
+shown-under : (c : Bool) (d : ℕ) (f : Found) (s : ℕ) → shown (d + 1) f s ≡ shown d (under c f) (suc s)
+shown-under c d (found p) s = let e : d + 1 + length p ≡ d + suc (length p) = omega arith in ap Member e
+shown-under c d missing s = let e : d + 1 + s ≡ d + suc s = omega arith in ap Nothing e
 
-search-none : (q : Bits) → searchT q none ≡ missing
-unfolding searchT
-search-none [] = refl
-search-none (b ∷ q) = refl
+search-none : (q : Bits) → (searchT q none ≡ missing) × (stepsT q none ≡ 0)
+unfolding searchT stepsT
+search-none [] = (refl, refl)
+search-none (b ∷ q) = (refl, refl)
 
 -- The child on the side of the bit: how far it is, and its words.
 abbrev step : Bool → Trie → ℕ
@@ -62,32 +62,34 @@ module _ {w : List ℕ} {b n i : ℕ} {l r : Trie} (h : At w b n i (node l r)) w
   at-nodes = areNodes-in n i (word l r) (omega (arith, size-node, word-le l r)) (omega (arith, size-node, word-le l r))
 
 -- an absent child shows nothing, and another is walked to
-toward-child : (c : Bool) (l r : Trie) (i d : ℕ) (q : Bits) (next : ℕ → Shown) → ((side c l r ≡ none → ⊥) → next (i + step c l) ≡ shown d (searchT q (side c l r)))
-    → cond (eqb (toward c (word l r)) 0) Nothing (next (i + toward c (word l r))) ≡ shown d (searchT q (side c l r))
+toward-child : (c : Bool) (l r : Trie) (i d : ℕ) (q : Bits) (next : ℕ → Shown) → ((side c l r ≡ none → ⊥) → next (i + step c l) ≡ shown d (searchT q (side c l r)) (stepsT q (side c l r)))
+    → cond (eqb (toward c (word l r)) 0) (Nothing d) (next (i + toward c (word l r))) ≡ shown d (searchT q (side c l r)) (stepsT q (side c l r))
 unfolding link0 link1
-toward-child false none r i d q next f = rw (word-first none r, search-none q)
+toward-child false none r i d q next f = rw (word-first none r, search-none q .0, search-none q .1) (ap Nothing (sym (add-zero d)))
 toward-child false (node x y) r i d q next f = rw (word-first (node x y) r) (f (some x y))
-toward-child true l none i d q next f = rw (word-second l none, search-none q)
+toward-child true l none i d q next f = rw (word-second l none, search-none q .0, search-none q .1) (ap Nothing (sym (add-zero d)))
 toward-child true l (node x y) i d q next f = rw (word-second l (node x y), ne-eqb (1 + size l) 0 (omega arith)) (f (some x y))
 
 -- what a node shows is what the search finds, where the way on does
-shows-search : (w : List ℕ) (b n d i : ℕ) (l r : Trie) (s : Shown) (f : Found) → At w b n i (node l r) → s ≡ shown d f → shows n d i (wordAt w b i) s ≡ shown d (cond (bare l r) (found []) f)
-shows-search w b n d i l r s f h e = rw (split h .root, word-leaf l r, at-nodes h, e) (go (bare l r))
+shows-search : (w : List ℕ) (b n d i : ℕ) (l r : Trie) (s : Shown) (f : Found) (k : ℕ) → At w b n i (node l r) → s ≡ shown d f k
+    → shows n d i (wordAt w b i) s ≡ shown d (cond (bare l r) (found []) f) k
+shows-search w b n d i l r s f k h e = rw (split h .root, word-leaf l r, at-nodes h, e) (go (bare l r))
   where
-    go : (t : Bool) → cond t (Member d) (shown d f) ≡ shown d (cond t (found []) f)
+    go : (t : Bool) → cond t (Member d) (shown d f k) ≡ shown d (cond t (found []) f) k
     go true = ap Member (sym (add-zero d))
     go false = refl
 
 module _ (w : List ℕ) (b n : ℕ) where
-  walk-search : (q : Bits) (t : Trie) (d i : ℕ) → (t ≡ none → ⊥) → At w b n i t → walk w b n d i q ≡ shown d (searchT q t)
-  unfolding searchT
+  walk-search : (q : Bits) (t : Trie) (d i : ℕ) → (t ≡ none → ⊥) → At w b n i t → walk w b n d i q ≡ shown d (searchT q t) (stepsT q t)
+  unfolding searchT stepsT
   walk-search [] none d i ne h = absurd (ne refl)
-  walk-search [] (node l r) d i ne h = walk-shows w b n d i [] ∙ shows-search w b n d i l r Nothing missing h refl
+  walk-search [] (node l r) d i ne h = walk-shows w b n d i [] ∙ shows-search w b n d i l r (Nothing (d + 1)) missing 1 h refl
   walk-search (c ∷ q) none d i ne h = absurd (ne refl)
   walk-search (c ∷ q) (node l r) d i ne h =
       let e = toward-child c l r i (d + 1) q (λ j. walk w b n (d + 1) j q) (λ so. walk-search q (side c l r) (d + 1) (i + step c l) so (at-child h c)) in
       walk-shows w b n d i (c ∷ q)
-      ∙ shows-search w b n d i l r (onward w b n d i (c ∷ q)) (under c (searchT q (side c l r))) h (rw (split h .root) (e ∙ shown-under c d (searchT q (side c l r))))
+      ∙ shows-search w b n d i l r (onward w b n d i (c ∷ q)) (under c (searchT q (side c l r))) (suc (stepsT q (side c l r))) h
+      (rw (split h .root) (e ∙ shown-under c d (searchT q (side c l r)) (stepsT q (side c l r))))
 
 -- The root of a list.
 insertT-some : (p : Bits) (t : Trie) → insertT p t ≡ none → ⊥
@@ -114,9 +116,9 @@ module _ {w : List ℕ} {b n f i : ℕ} (pos : 1 ≤ i) where
       (omega (arith, s .within, size-some (insertT p (trieOf l)) (insertT-some p (trieOf l))), ne-eqb i 0 (omega arith) ∙ sym (ne-eqb (suc (length l)) 0 (omega arith)))
 
   -- from it the walk finds what the search in the list's trie finds
-  pub walkFrom-search : (l : List Bits) (q : Bits) → Stands w b n f i (trieOf l) → walkFrom w b n q (rootAt i l) ≡ shown 0 (searchT q (trieOf l))
+  pub walkFrom-search : (l : List Bits) (q : Bits) → Stands w b n f i (trieOf l) → walkFrom w b n q (rootAt i l) ≡ shown 0 (searchT q (trieOf l)) (stepsT q (trieOf l))
   unfolding trieOf
-  walkFrom-search [] q s = sym (walkFrom-none w b n q 0 refl) ∙ rw (search-none q)
+  walkFrom-search [] q s = sym (walkFrom-none w b n q 0 refl) ∙ rw (search-none q .0, search-none q .1)
   walkFrom-search (p ∷ l) q s =
       sym (walkFrom-node w b n q i (omega arith) (rootAt-node (p ∷ l) s .0))
       ∙ walk-search w b n q (insertT p (trieOf l)) 0 i (insertT-some p (trieOf l)) (record { one = pos; within = s .within; has = s .has })

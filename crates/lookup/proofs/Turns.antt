@@ -21,7 +21,7 @@ use Rattle.lookup.specs.declared.walking.Shown.the-variants.{Member, Not
 
 -- The start.
 module _ (w : List ℕ) (b n : ℕ) (q : Bits) (r : ℕ) where
-  pub walkFrom-none : r ≡ 0 → Nothing ≡ walkFrom w b n q r
+  pub walkFrom-none : r ≡ 0 → Nothing 0 ≡ walkFrom w b n q r
   unfolding walkFrom
   walkFrom-none z = rw (eq-eqb r 0 z)
 
@@ -49,8 +49,8 @@ areNodes-in n i x p q = rw (childAt-in n i (x % 2) p) (childAt-in n i (x / 2) q)
 
 -- What a node shows, by its word.
 abbrev pub onward : List ℕ → ℕ → ℕ → ℕ → ℕ → Bits → Shown
-onward w b n d i [] = Nothing
-onward w b n d i (c ∷ q) = cond (eqb (toward c (wordAt w b i)) 0) Nothing (walk w b n (d + 1) (i + toward c (wordAt w b i)) q)
+onward w b n d i [] = Nothing (d + 1)
+onward w b n d i (c ∷ q) = cond (eqb (toward c (wordAt w b i)) 0) (Nothing (d + 1)) (walk w b n (d + 1) (i + toward c (wordAt w b i)) q)
 
 pub walk-shows : (w : List ℕ) (b n d i : ℕ) (q : Bits) → walk w b n d i q ≡ shows n d i (wordAt w b i) (onward w b n d i q)
 unfolding walk
@@ -97,18 +97,18 @@ module _ {w : List ℕ} {b n root : ℕ} {bits : PrefixBits} {i d : ℕ} {left :
   handed-next : bitsLeft left ≡ handed (nextOf left)
   handed-next = bitsLeft-next left (omega (arith, g .down .few))
 
-  pub inner-end : nextOf left ≡ nextAs End → Nothing ≡ walkFrom w b n (bitsLeft bits) root
+  pub inner-end : nextOf left ≡ nextAs End → Nothing (d + 1) ≡ walkFrom w b n (bitsLeft bits) root
   inner-end e =
       let h : bitsLeft left ≡ [] = handed-next ∙ ap handed e in
       rw h at on
 
 module _ {w : List ℕ} {b n root : ℕ} {bits : PrefixBits} {i d : ℕ} {left : PrefixBits} {x c : ℕ} {bit : Bool} {later : PrefixBits} (g : Turned w b n root bits i d left x c bit later) where
-  by-bit : cond (eqb c 0) Nothing (walk w b n (d + 1) (i + c) (bitsLeft later)) ≡ walkFrom w b n (bitsLeft bits) root
+  by-bit : cond (eqb c 0) (Nothing (d + 1)) (walk w b n (d + 1) (i + c) (bitsLeft later)) ≡ walkFrom w b n (bitsLeft bits) root
   by-bit =
       let h : bitsLeft left ≡ bit ∷ bitsLeft later = handed-next (g .inner) ∙ ap handed (g .next) in
       rw (g .by, g .inner .is) (rw h at (on (g .inner)))
 
-  pub turned-none : c ≡ 0 → Nothing ≡ walkFrom w b n (bitsLeft bits) root
+  pub turned-none : c ≡ 0 → Nothing (d + 1) ≡ walkFrom w b n (bitsLeft bits) root
   turned-none z = rw (eq-eqb c 0 z) at by-bit
 
   pub turned-less : left .len ≡ later .len + 1

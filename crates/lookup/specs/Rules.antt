@@ -6,7 +6,7 @@
 --   setNo, lookupNo, foundAs                   the same of a sound pool, by its lists: proofs/OnLists.antt
 use mathlib.Core.Bool.{Bool, true, false, cond}
 use mathlib.Core.List.{List, [], _∷_}
-use Prim.Native.Nat.{ℕ}
+use Prim.Native.Nat.{ℕ, _+_}
 use lib.Dec.{eqb, leb, ltb}
 use lib.ListN.{getD}
 use Rattle.nets.specs.Lists.{Found, found, missing}
@@ -24,6 +24,8 @@ use Rattle.lookup.specs.declared.walking.Shown.{Shown}
 use Rattle.lookup.specs.declared.walking.Shown.the-variants.{Member, Nothing, Refused}
 use Rattle.lookup.specs.declared.Covering.{Covering}
 use Rattle.lookup.specs.declared.Covering.the-variants as covering
+use Rattle.lookup.specs.declared.Contained.{Contained}
+use Rattle.lookup.specs.declared.Contained.the-variants as contained
 
 unfoldable pub onRoot : {A : Type 0} → List ℕ → ℕ → (Refusal → A) → (ℕ → A) → A
 onRoot w k refuse f = cond (isHeader w) (cond (ltb k (getD w 2 0)) (f (getD w (recordAt k) 0)) (refuse NoSet)) (refuse Damaged)
@@ -37,27 +39,32 @@ query w n r =
 unfoldable pub lookup : List ℕ → ℕ → Net → Shown
 lookup w k n = onRoot w k Refused (query w n)
 
--- the number and the values of an answer: a refusal has its number and zeros
-abbrev pub supernetAs : Covering → ℕ × (Bool × Net)
-supernetAs (covering.Member m) = (0, (true, m))
-supernetAs covering.Nothing = (0, (false, noNet))
-supernetAs (covering.Refused r) = (number r, (false, noNet))
+-- the number and the values of an answer: a refusal has its number and zeros. The values of a lookup stand in pairs to the right, so that one more goes behind the last:
+-- found or not, the member, and the nodes that were read
+abbrev pub supernetAs : Covering → ℕ × (Bool × (Net × ℕ))
+supernetAs (covering.Member m s) = (0, (true, (m, s)))
+supernetAs (covering.Nothing s) = (0, (false, (noNet, s)))
+supernetAs (covering.Refused r) = (number r, (false, (noNet, 0)))
 
--- the member that a path shows is the query, cut to the member's length
-abbrev pub memberOf : Net → Shown → ℕ × (Bool × Net)
-memberOf n (Member d) = (0, (true, cleared (withLen n d)))
-memberOf n Nothing = (0, (false, noNet))
-memberOf n (Refused r) = (number r, (false, noNet))
+abbrev pub containsAs : Contained → ℕ × (Bool × ℕ)
+containsAs (contained.Is b s) = (0, (b, s))
+containsAs (contained.Refused r) = (number r, (false, 0))
 
-abbrev pub isMember : Shown → ℕ × Bool
-isMember (Member d) = (0, true)
-isMember Nothing = (0, false)
-isMember (Refused r) = (number r, false)
+-- the member that a path shows is the query, cut to the member's length: the nodes read are one more than that
+abbrev pub memberOf : Net → Shown → ℕ × (Bool × (Net × ℕ))
+memberOf n (Member d) = (0, (true, (cleared (withLen n d), d + 1)))
+memberOf n (Nothing s) = (0, (false, (noNet, s)))
+memberOf n (Refused r) = (number r, (false, (noNet, 0)))
 
-unfoldable pub supernetRule : List ℕ → ℕ → Net → ℕ × (Bool × Net)
+abbrev pub isMember : Shown → ℕ × (Bool × ℕ)
+isMember (Member d) = (0, (true, d + 1))
+isMember (Nothing s) = (0, (false, s))
+isMember (Refused r) = (number r, (false, 0))
+
+unfoldable pub supernetRule : List ℕ → ℕ → Net → ℕ × (Bool × (Net × ℕ))
 supernetRule w k n = memberOf n (lookup w k n)
 
-unfoldable pub containsRule : List ℕ → ℕ → Net → ℕ × Bool
+unfoldable pub containsRule : List ℕ → ℕ → Net → ℕ × (Bool × ℕ)
 containsRule w k n = isMember (lookup w k n)
 
 -- the emptiness test, by the root's number r in a pool of n nodes
@@ -74,6 +81,7 @@ setNo S k = firstNo (unknown S k ∷ [])
 abbrev pub lookupNo : State → ℕ → Net → ℕ
 lookupNo S k n = firstNo (unknown S k ∷ netRules n S)
 
-abbrev pub foundAs : ℕ → Found → Bool × Net
-foundAs f (found p) = (true, netFrom f p)
-foundAs f missing = (false, noNet)
+-- with the nodes that were read
+abbrev pub foundAs : ℕ → Found → ℕ → Bool × (Net × ℕ)
+foundAs f (found p) s = (true, (netFrom f p, s))
+foundAs f missing s = (false, (noNet, s))

@@ -1,7 +1,7 @@
 -- The walk of a lookup: down from a root's number by the bits of the query, one word a level.
 --
 --   childAt i x           the number of the child that stands x nodes behind node i: 0, the mark for absence, where x is 0
---   walk w b n d i q      what node i of n shows, d bits down, where the bits q are still to come: a leaf is a member of length d
+--   walk w b n d i q      what node i of n shows, d bits down, where the bits q are still to come: a leaf is a member of length d, and down to here d + 1 nodes are read
 --   walkFrom w b n q r    what the root's number r shows
 use mathlib.Core.Bool.{Bool, cond, _&&_}
 use mathlib.Core.List.{List, [], _∷_}
@@ -30,9 +30,9 @@ abbrev pub shows : ℕ → ℕ → ℕ → ℕ → Shown → Shown
 shows n d i x s = cond (eqb x 0) (Member d) (cond (areNodes n i x) s (Refused Damaged))
 
 unfoldable pub walk : List ℕ → ℕ → ℕ → ℕ → ℕ → Bits → Shown
-walk w b n d i [] = shows n d i (wordAt w b i) Nothing
+walk w b n d i [] = shows n d i (wordAt w b i) (Nothing (d + 1))
 walk w b n d i (c ∷ q) =
-    shows n d i (wordAt w b i) (cond (eqb (toward c (wordAt w b i)) 0) Nothing (walk w b n (d + 1) (i + toward c (wordAt w b i)) q))
+    shows n d i (wordAt w b i) (cond (eqb (toward c (wordAt w b i)) 0) (Nothing (d + 1)) (walk w b n (d + 1) (i + toward c (wordAt w b i)) q))
 
 unfoldable pub walkFrom : List ℕ → ℕ → ℕ → Bits → ℕ → Shown
-walkFrom w b n q r = cond (eqb r 0) Nothing (cond (leb r n) (walk w b n 0 r q) (Refused Damaged))
+walkFrom w b n q r = cond (eqb r 0) (Nothing 0) (cond (leb r n) (walk w b n 0 r q) (Refused Damaged))

@@ -9,52 +9,59 @@ use walking::lookup;
 use walking::root;
 ghost use mathlib.Core.Bool.{true};
 ghost use mathlib.Core.Path.{_≡_};
+ghost use Prim.Native.Nat.{_+_, _≤_};
 ghost use Rattle.nets.specs.Networks.{withLen, withLenNo, cleared};
 ghost use Rattle.pool_state.specs.Rules.{toldAs};
-ghost use Rattle.lookup.specs.Rules.{supernetAs, supernetRule, containsRule, emptyRule};
+ghost use Rattle.lookup.specs.Rules.{supernetAs, containsAs, supernetRule, containsRule, emptyRule};
 
 mod walking;
 
-// What supernet answers: the member that contains the query.
+// What supernet answers: the member that contains the query, or that there is none; and how many nodes were read.
 pub enum Covering {
-    Member(Net),
-    Nothing,
+    Member(Net, u8),
+    Nothing(u8),
     Refused(Refusal),
 }
 
-// The member of that length around the query.
+// What contains answers: whether there is such a member, and how many nodes were read.
+pub enum Contained {
+    Is(bool, u8),
+    Refused(Refusal),
+}
+
+// The member of that length around the query: it and each node above it were read.
 fn member(net: Net, len: u8) -> Covering
-    requires { ⌜ withLenNo net len ≡ 0 ⌝ }
-    ensures { λ r. ⌜ supernetAs r ≡ (0, (true, cleared (withLen net len))) ⌝ }
+    requires { ⌜ (withLenNo net len ≡ 0) × (len ≤ 128) ⌝ }
+    ensures { λ r. ⌜ supernetAs r ≡ (0, (true, (cleared (withLen net len), len + 1))) ⌝ }
 {
     let t = net.with_new_prefix(len);
     match t {
-        Taken::Network(m) => Covering::Member(m),
+        Taken::Network(m) => Covering::Member(m, len + 1),
         Taken::Refused(no) => Covering::Refused(no),
     }
 }
 
-// The member of a set that contains the whole network.
+// The member of a set that contains the whole network, and how many nodes were read.
 pub fn supernet(pool: &[u32], set: u32, net: Net) -> Covering
     ensures { λ r. ⌜ supernetAs r ≡ supernetRule (now (pool .entry)) set net ⌝ }
 {
     let s = lookup(pool, set, net);
     match s {
         Shown::Member(len) => member(net, len),
-        Shown::Nothing => Covering::Nothing,
+        Shown::Nothing(steps) => Covering::Nothing(steps),
         Shown::Refused(no) => Covering::Refused(no),
     }
 }
 
-// Whether a member of a set contains the whole network.
-pub fn contains(pool: &[u32], set: u32, net: Net) -> Told
-    ensures { λ r. ⌜ toldAs r ≡ containsRule (now (pool .entry)) set net ⌝ }
+// Whether a member of a set contains the whole network, and how many nodes were read.
+pub fn contains(pool: &[u32], set: u32, net: Net) -> Contained
+    ensures { λ r. ⌜ containsAs r ≡ containsRule (now (pool .entry)) set net ⌝ }
 {
     let s = lookup(pool, set, net);
     match s {
-        Shown::Member(_) => Told::Is(true),
-        Shown::Nothing => Told::Is(false),
-        Shown::Refused(no) => Told::Refused(no),
+        Shown::Member(len) => Contained::Is(true, len + 1),
+        Shown::Nothing(steps) => Contained::Is(false, steps),
+        Shown::Refused(no) => Contained::Refused(no),
     }
 }
 

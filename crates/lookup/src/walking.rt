@@ -18,10 +18,10 @@ ghost use Rattle.pool_state.specs.Decode.{isHeader};
 ghost use Rattle.lookup.specs.Walks.{toward, walkFrom};
 ghost use Rattle.lookup.specs.Rules.{onRoot, query, lookup};
 
-// What a path shows: a member of that length, nothing, or why there is no answer.
+// What a path shows: a member of that length, which is one less than the nodes read; nothing, and how many nodes were read; or why there is no answer.
 pub enum Shown {
     Member(u8),
-    Nothing,
+    Nothing(u8),
     Refused(Refusal),
 }
 
@@ -54,7 +54,7 @@ fn walk_from(w: &[u32], b: usize, n: u32, root: u32, bits: PrefixBits) -> Shown
     ensures { λ r. ⌜ r ≡ walkFrom (now (w .entry)) b n (bitsLeft bits) root ⌝ }
 {
     if root == 0 {
-        return Shown::Nothing;
+        return Shown::Nothing(0);
     }
     if n < root {
         return Shown::Refused(Refusal::Damaged);
@@ -75,11 +75,11 @@ fn walk_from(w: &[u32], b: usize, n: u32, root: u32, bits: PrefixBits) -> Shown
         }
         let next = left.next();
         match next {
-            NextBit::End => return Shown::Nothing,
+            NextBit::End => return Shown::Nothing(d + 1),
             NextBit::Bit(bit, later) => {
                 let c = turn(bit, x);
                 if c == 0 {
-                    return Shown::Nothing;
+                    return Shown::Nothing(d + 1);
                 }
                 i += c;
                 d += 1;

@@ -8,6 +8,7 @@ pub mod Listing
 pub mod Glue
 pub mod Nodes
 pub mod Lookups
+pub mod Steps
 pub mod Adding
 pub mod Removing
 pub mod TrieOf

@@ -63,7 +63,7 @@ member-keep f q l =
     rw s (and-both (member (r .0) l) (f (r .0)) (r .1) (and-left (f (r .0)) (equal q (r .0)) (r .2))))
     (λ e. anyOf-keep f (equal q) l ∙ anyOf-in (λ m. f m && equal q m) q l (and-left (member q l) (f q) e) (and-both (f q) (equal q q) (and-right (member q l) (f q) e) (equal-refl q)))
 
-length-keep : (f : Bits → Bool) (l : List Bits) → length (keep f l) ≤ length l
+pub length-keep : (f : Bits → Bool) (l : List Bits) → length (keep f l) ≤ length l
 length-keep f [] = omega arith
 length-keep f (m ∷ l) =
     let ih = length-keep f l in

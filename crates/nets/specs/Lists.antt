@@ -4,7 +4,7 @@
 --   isList w l                 ascending, no member inside another, no length above the width w
 --   nodesL l                   how many different leading bit strings the members have, the empty one and themselves included
 --   addL removeL simplifyL mergeL intersectL excludeL     what a changing call leaves
---   supernetL containsL nextL  what a lookup finds
+--   supernetL containsL nextL  what a lookup finds;  stepsL l q: how many nodes it reads for q
 --   Simplified l               no two halves of one block are both listed
 use mathlib.Core.Bool.{Bool, true, false, not, cond, _&&_, _||_}
 use mathlib.Core.List.{List, [], _∷_, _++_, map}
@@ -123,6 +123,10 @@ isFound missing = false
 
 unfoldable pub containsL : List Bits → Bits → Bool
 containsL l q = isFound (supernetL l q)
+
+-- the leading bit strings of the query, the empty one included, that are leading bit strings of some member too
+unfoldable pub stepsL : List Bits → Bits → ℕ
+stepsL l q = length (keep (λ p. leadsAny p l) (leadings q))
 
 -- a place in a list: before its first member, or behind a network that need not be a member
 pub data Place : Type 0 where

@@ -1,6 +1,6 @@
 -- What the calls do to tries: the road on which the lists are reached. No contract needs to be believed through these; the laws tie each to its list.
 --
---   removeT, searchT      remove, supernet
+--   removeT, searchT      remove, supernet;  stepsT: the nodes on the way down
 --   opT j f k t u         the set operation f on two tries of at most k levels; j: two full halves are joined
 --   unionT, commonT, exceptT      its three uses
 use mathlib.Core.Bool.{Bool, true, false, not, cond, _&&_, _||_}
@@ -32,6 +32,12 @@ searchT [] none = missing
 searchT [] (node l r) = cond (bare l r) (found []) missing
 searchT (b ∷ q) none = missing
 searchT (b ∷ q) (node l r) = cond (bare l r) (found []) (under b (searchT q (side b l r)))
+
+unfoldable pub stepsT : Bits → Trie → ℕ
+stepsT [] none = 0
+stepsT [] (node l r) = 1
+stepsT (b ∷ q) none = 0
+stepsT (b ∷ q) (node l r) = suc (stepsT q (side b l r))
 
 -- a trie is empty, full, or neither; and what a set operation makes of two, where that settles it
 pub data Kind : Type 0 where

@@ -11,9 +11,9 @@ supernet-spec =
     (tie.spec
     (λ c κs. search needs)
     (λ c. search needs)
-    (λ c κs. shown-cut _ _ _ _ _ (c .before .before .before .lookup .ensures) (c .before .s .given .1))
+    (λ c κs. let h = shown-cut _ _ _ _ _ (c .before .before .before .lookup .ensures) (c .before .s .given .1) in (h .0, h .1))
     (λ c. search needs)
     (λ c. search needs)
     (λ c. c .member .ensures ∙ supernet-by _ _ _ _ _ (c .before .before .before .before .lookup .ensures) (c .before .before .s .given .1))
-    (λ c. supernet-by _ _ _ _ _ (c .before .before .lookup .ensures) (c .enum-told .given .1))
-    (λ c. supernet-by _ _ _ _ _ (c .before .before .before .lookup .ensures) (c .before .s2 .given .1)))
+    (λ c. supernet-by _ _ _ _ _ (c .before .before .before .lookup .ensures) (c .before .s2 .given .1))
+    (λ c. supernet-by _ _ _ _ _ (c .before .before .before .lookup .ensures) (c .before .s3 .given .1)))

@@ -1,0 +1,15 @@
+-- `of_contained` meets its contract, arm by arm. Assumes nothing.
+use borrow.Author.Needs.{needs}
+use Rattle.calls_replies.proofs.of_contained.Statement.{statement}
+use Rattle.calls_replies.proofs.of_contained.Tie as tie
+
+pub of-contained-spec : {M : Type 1} → statement M
+of-contained-spec =
+    tie.close
+    (tie.spec
+    (λ c. search needs)
+    (λ c κs. search needs)
+    (λ c. search needs)
+    (λ c κs. search needs)
+    (λ c. rw (c .before .before .a .given .1) (c .of-lookup .ensures))
+    (λ c. rw (c .before .before .a2 .given .1) (c .refused .ensures)))
