@@ -21,14 +21,14 @@ use nets::PrefixBits;
 fn octets(s: &[u8]) -> Net
     ensures { λ r. ⌜ r ≡ octetsOf (now (s .entry)) ⌝ }
 {
-    nets::octets_to_network([byte_at(s, 1), byte_at(s, 2), byte_at(s, 3), byte_at(s, 4)])
+    addresses::octets_to_network([byte_at(s, 1), byte_at(s, 2), byte_at(s, 3), byte_at(s, 4)])
 }
 
 // The network of the bytes of hi and lo.
 fn sixteen(s: &[u8]) -> Net
     ensures { λ r. ⌜ r ≡ bytesOf (now (s .entry)) ⌝ }
 {
-    nets::bytes_to_network([
+    addresses::bytes_to_network([
         byte_at(s, 14),
         byte_at(s, 15),
         byte_at(s, 16),
@@ -52,7 +52,7 @@ fn sixteen(s: &[u8]) -> Net
 fn groups(s: &[u8]) -> Net
     ensures { λ r. ⌜ r ≡ groupsOf (now (s .entry)) ⌝ }
 {
-    nets::groups_to_network([
+    addresses::groups_to_network([
         u16_at(s, 14),
         u16_at(s, 16),
         u16_at(s, 18),
@@ -84,7 +84,7 @@ fn made(s: &[u8], c: Call) -> Reply
         table::OCTETS => of_net(octets(s)),
         table::BYTES => of_net(sixteen(s)),
         table::GROUPS => of_net(groups(s)),
-        _ => of_taken(nets::words_to_network(c.net.family, c.net.hi, c.net.lo)),
+        _ => of_taken(addresses::words_to_network(c.net.family, c.net.hi, c.net.lo)),
     }
 }
 

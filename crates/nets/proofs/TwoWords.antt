@@ -1,7 +1,6 @@
 -- A number v in two words, hi and lo: what clearing its low bits, moving it to the left and taking its first bit make of the words.
 -- `omega` stops at numbers as long as 2^128, so a word is split off by the laws of lib.Pow. Assumes nothing.
 use mathlib.Core.Bool.{Bool, true, false, _&&_, and-true}
-use mathlib.Core.List.{List, [], _∷_}
 use mathlib.Core.Path.{_≡_, refl, ap, sym, _∙_}
 use Prim.Native.Nat.{ℕ, zero, suc, _+_, _-_, _*_, _/_, _%_, _^_, _≤_, _<_}
 use native.Mathlib.Nat.{add-comm, add-zero, add-mul, mul-one, zero-mul, mul-assoc, mul-add-div-right, mul-mod-left}
@@ -10,10 +9,9 @@ use native.Mathlib.Omega.{arith}
 use lib.Dec.{eqb, leb, ltb, eqb·suc-zero}
 use lib.Arith.{digits-lt}
 use lib.Bits.{bitOr, or-shifted}
-use lib.ListN.{getD}
 use lib.Pow.{pow-pos, pow-mono, pow-add, shl-shr, shr-shr, split, high, low, mod-pow-add}
 use borrow.Author.Tests.{eqb-true, eq-eqb, ne-eqb, ltb-true, ltb-false, le-ltb, lt-ltb}
-use Rattle.nets.specs.Networks.{width, value, netWords, netOf, address, bitsWords, bigEndian, inRange, refusalOf, cleared, startOf, nextAs, nextOf}
+use Rattle.nets.specs.Networks.{width, value, netWords, netOf, address, bitsWords, inRange, refusalOf, cleared, startOf, nextAs, nextOf}
 use Rattle.nets.specs.declared.Net.{Net}
 use Rattle.nets.specs.declared.PrefixBits.{PrefixBits}
 use Rattle.nets.specs.declared.NextBit.the-variants.{Bit}
@@ -146,22 +144,3 @@ pub nextOf-bit : (s : PrefixBits) → (s .len ≡ 0 → ⊥) → s .hi < 2 ^ 64 
     → nextAs (Bit (eqb (s .hi / 2 ^ 63) 1) (bitsWords (bitOr (s .hi * 2 % 2 ^ 64) (s .lo / 2 ^ 63)) (s .lo * 2 % 2 ^ 64) (s .len - 1))) ≡ nextOf s
 unfolding nextOf
 nextOf-bit s e h g = rw (ne-eqb (s .len) 0 e, value-top (s .hi) (s .lo) h g, twice-high (s .hi) (s .lo), twice-carry (s .hi) (s .lo / 2 ^ 63) (omega arith), twice-low (s .hi) (s .lo))
-
--- Bytes to groups to words.
-abbrev groupAt : List ℕ → ℕ → ℕ
-groupAt a i = getD a (2 * i) 0 * 2 ^ 8 + getD a (2 * i + 1) 0
-
-abbrev word : ℕ → ℕ → ℕ → ℕ → ℕ
-word a b c d = a * 2 ^ 48 + b * 2 ^ 32 + c * 2 ^ 16 + d
-
-pub bigEndian-octets : (a : List ℕ) → bigEndian 256 a 4 ≡ value 0 (word 0 0 (groupAt a 0) (groupAt a 1))
-unfolding bigEndian
-bigEndian-octets a = omega arith
-
-pub bigEndian-groups : (a : List ℕ) → bigEndian 65536 a 8 ≡ value (word (getD a 0 0) (getD a 1 0) (getD a 2 0) (getD a 3 0)) (word (getD a 4 0) (getD a 5 0) (getD a 6 0) (getD a 7 0))
-unfolding bigEndian
-bigEndian-groups a = omega arith
-
-pub bigEndian-bytes : (a : List ℕ) → bigEndian 256 a 16 ≡ bigEndian 65536 (groupAt a 0 ∷ groupAt a 1 ∷ groupAt a 2 ∷ groupAt a 3 ∷ groupAt a 4 ∷ groupAt a 5 ∷ groupAt a 6 ∷ groupAt a 7 ∷ []) 8
-unfolding bigEndian
-bigEndian-bytes a = omega arith

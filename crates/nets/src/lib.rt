@@ -1,14 +1,13 @@
 // Networks: the numbers of one, the refusal of numbers that are none, clearing, and the bits from the highest on.
 ghost use mathlib.Core.Path.{_≡_};
 ghost use Rattle.nets.specs.Refusals.{number, answered};
-ghost use Rattle.nets.specs.Networks.{width, netWords, netOf, refusalOf, noNet, takenAs, judged, withLen, withLenNo, cleared, bigEndian};
+ghost use Rattle.nets.specs.Networks.{netWords, refusalOf, noNet, takenAs, judged, withLen, withLenNo, cleared};
 ghost use Rattle.nets.specs.Networks.{startOf, noBits, prefixAs, nextAs, nextOf};
 
 pub mod families;
 mod rules;
 mod words;
 
-use families::width;
 pub use words::has_bit_past;
 
 // The refusals of the table, by name.
@@ -148,54 +147,4 @@ impl PrefixBits {
         self.len -= 1;
         NextBit::Bit(bit, self)
     }
-}
-
-// The network of one IPv4 address, its most significant byte first.
-pub fn octets_to_network(a: [u8; 4]) -> Net
-    ensures { λ r. ⌜ r ≡ netOf 4 (bigEndian 256 a 4) 32 ⌝ }
-{
-    let lo = words::word(0, 0, words::group(a[0], a[1]), words::group(a[2], a[3]));
-    Net {
-        family: IPV4,
-        hi: 0,
-        lo,
-        len: 32,
-    }
-}
-
-// The network of one IPv6 address of sixteen bytes, the most significant first.
-pub fn bytes_to_network(a: [u8; 16]) -> Net
-    ensures { λ r. ⌜ r ≡ netOf 6 (bigEndian 256 a 16) 128 ⌝ }
-{
-    groups_to_network([
-        words::group_at(a, 0),
-        words::group_at(a, 1),
-        words::group_at(a, 2),
-        words::group_at(a, 3),
-        words::group_at(a, 4),
-        words::group_at(a, 5),
-        words::group_at(a, 6),
-        words::group_at(a, 7),
-    ])
-}
-
-// The network of one IPv6 address of eight groups, the most significant first.
-pub fn groups_to_network(a: [u16; 8]) -> Net
-    ensures { λ r. ⌜ r ≡ netOf 6 (bigEndian 65536 a 8) 128 ⌝ }
-{
-    let hi = words::word(a[0], a[1], a[2], a[3]);
-    let lo = words::word(a[4], a[5], a[6], a[7]);
-    Net {
-        family: IPV6,
-        hi,
-        lo,
-        len: 128,
-    }
-}
-
-// The network of one address in two words.
-pub fn words_to_network(family: u8, hi: u64, lo: u64) -> Taken
-    ensures { λ r. ⌜ takenAs r ≡ judged (netWords family hi lo (width family)) ⌝ }
-{
-    Net::new(family, hi, lo, width(family))
 }

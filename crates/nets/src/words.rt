@@ -1,10 +1,9 @@
 // The arithmetic of address words.
 ghost use mathlib.Core.Path.{_≡_};
 ghost use mathlib.Core.Bool.{not};
-ghost use Prim.Native.Nat.{_+_, _-_, _*_, _/_, _%_, _^_, _<_};
+ghost use Prim.Native.Nat.{_-_, _*_, _/_, _%_, _^_};
 ghost use lib.Dec.{eqb};
 ghost use Rattle.nets.specs.Networks.{width, address, refusalOf, cleared, startOf};
-ghost use lib.ListN.{getD};
 use crate::IPV4;
 use crate::Net;
 use crate::PrefixBits;
@@ -74,26 +73,4 @@ pub fn start(n: Net) -> PrefixBits
         lo: n.lo,
         len: n.len,
     }
-}
-
-// The group of two bytes.
-pub fn group(a: u8, b: u8) -> u16
-    ensures { λ r. ⌜ r ≡ a * 2 ^ 8 + b ⌝ }
-{
-    a as u16 * 256 + b as u16
-}
-
-// The group at i of sixteen bytes.
-pub fn group_at(a: [u8; 16], i: usize) -> u16
-    requires { ⌜ i < 8 ⌝ }
-    ensures { λ r. ⌜ r ≡ getD a (2 * i) 0 * 2 ^ 8 + getD a (2 * i + 1) 0 ⌝ }
-{
-    group(a[2 * i], a[2 * i + 1])
-}
-
-// The word of four groups.
-pub fn word(a: u16, b: u16, c: u16, d: u16) -> u64
-    ensures { λ r. ⌜ r ≡ a * 2 ^ 48 + b * 2 ^ 32 + c * 2 ^ 16 + d ⌝ }
-{
-    ((a as u64 * 65536 + b as u64) * 65536 + c as u64) * 65536 + d as u64
 }

@@ -1,9 +1,10 @@
 -- `groups_to_network` meets its contract: the number of eight groups is that of two words of four. Assumes nothing.
 use native.Mathlib.Omega.{arith}
 use borrow.Author.Needs.{needs}
-use Rattle.nets.proofs.TwoWords.{netOf-value, bigEndian-groups}
-use Rattle.nets.proofs.groups_to_network.Statement.{statement}
-use Rattle.nets.proofs.groups_to_network.Tie as tie
+use Rattle.nets.proofs.TwoWords.{netOf-value}
+use Rattle.addresses.proofs.Words.{bigEndian-groups}
+use Rattle.addresses.proofs.groups_to_network.Statement.{statement}
+use Rattle.addresses.proofs.groups_to_network.Tie as tie
 
 pub groups-to-network-spec : {M : Type 1} → statement M
 groups-to-network-spec =

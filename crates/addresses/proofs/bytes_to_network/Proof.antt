@@ -1,8 +1,8 @@
 -- `bytes_to_network` meets its contract: the number of sixteen bytes is that of eight groups. Assumes nothing.
 use borrow.Author.Needs.{needs}
-use Rattle.nets.proofs.TwoWords.{bigEndian-bytes}
-use Rattle.nets.proofs.bytes_to_network.Statement.{statement}
-use Rattle.nets.proofs.bytes_to_network.Tie as tie
+use Rattle.addresses.proofs.Words.{bigEndian-bytes}
+use Rattle.addresses.proofs.bytes_to_network.Statement.{statement}
+use Rattle.addresses.proofs.bytes_to_network.Tie as tie
 
 pub bytes-to-network-spec : {M : Type 1} → statement M
 bytes-to-network-spec =

@@ -1,9 +1,10 @@
 -- `octets_to_network` meets its contract: the number of four bytes is one word. Assumes nothing.
 use native.Mathlib.Omega.{arith}
 use borrow.Author.Needs.{needs}
-use Rattle.nets.proofs.TwoWords.{netOf-value, bigEndian-octets}
-use Rattle.nets.proofs.octets_to_network.Statement.{statement}
-use Rattle.nets.proofs.octets_to_network.Tie as tie
+use Rattle.nets.proofs.TwoWords.{netOf-value}
+use Rattle.addresses.proofs.Words.{bigEndian-octets}
+use Rattle.addresses.proofs.octets_to_network.Statement.{statement}
+use Rattle.addresses.proofs.octets_to_network.Tie as tie
 
 pub octets-to-network-spec : {M : Type 1} → statement M
 octets-to-network-spec =

@@ -1,0 +1,2 @@
+-- The number that bytes and groups write, by words.
+pub mod Words
