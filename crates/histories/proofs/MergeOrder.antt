@@ -10,7 +10,7 @@ use Rattle.nets.specs.Bits.{before, bits}
 use Rattle.nets.specs.Tries.{levels, listOf, insertT, trieOf, simplifyT}
 use Rattle.nets.specs.Lists.{nodesL, addL, simplifyL, mergeL}
 use Rattle.nets.specs.Networks.{width, netBits, inRange, refusalOf}
-use Rattle.nets.specs.Groupings.{Grouping, set, both, isIn, names, mergedL}
+use Rattle.nets.specs.Groupings.{Grouping, both, isIn, names, mergedL}
 use Rattle.nets.specs.declared.Net.{Net}
 use Rattle.nets.proofs.TrieOf.{isList-within}
 use Rattle.nets.proofs.MergeOrder.{merge-order, mergedL-same}

@@ -81,7 +81,7 @@ isList-resultOf (load k d) S e a = isList-load d k S a
 pub sameAt-list : {k : ℕ} {S T : State} → SameAt k S T → listAt S k ≡ listAt T k
 sameAt-list h = ap (λ (s : SetState). s .list) (h .set)
 
-net-same : (n : Net) (k : ℕ) (S T : State) → SameAt k S T → netRules n S ≡ netRules n T
+pub net-same : (n : Net) (k : ℕ) (S T : State) → SameAt k S T → netRules n S ≡ netRules n T
 unfolding netRules
 net-same n k S T h = rw (h .family)
 
