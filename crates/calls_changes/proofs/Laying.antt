@@ -2,11 +2,10 @@
 use mathlib.Core.List.{List}
 use mathlib.Core.Path.{_≡_}
 use Prim.Native.Nat.{ℕ}
-use Rattle.pool_state.specs.Rules.{answerAs, Laid}
-use Rattle.pool_state.specs.declared.Answer.{Answer}
+use Rattle.pool_state.specs.Rules.{setup, Laid}
 use Rattle.calls_bytes.specs.declared.Reply.{Reply}
 use Rattle.calls_replies.specs.Replies.{oneReply}
 use Rattle.calls_changes.specs.Changes.{laidBy}
 
-pub laid-is : {w v xs ys : List ℕ} {f n m : ℕ} {r : Answer} {x : Reply} → Laid w f n m xs ys r v → x ≡ oneReply (answerAs r) → (x, v) ≡ laidBy w f n m xs ys
+pub laid-is : {w v xs ys : List ℕ} {f n m : ℕ} {r : ℕ × ℕ} {x : Reply} → Laid w (setup f n m xs ys) r v → x ≡ oneReply r → (x, v) ≡ laidBy w f n m xs ys
 laid-is p e = rw (e, p .answer, p .words)

@@ -9,7 +9,7 @@ use lib.Dec.{eqb}
 use Rattle.nets.specs.Bits.{Bits}
 use Rattle.nets.specs.Lists.{mergeL, intersectL, excludeL}
 use Rattle.nodes.specs.Words.{put}
-use Rattle.pool_state.specs.Rules.{layoutNo, laid}
+use Rattle.pool_state.specs.Rules.{setup, layoutNo, laid}
 use Rattle.pool_state.specs.Changes.{listAt, netRules}
 use Rattle.change.specs.Calls.{listWith, listWithout}
 use Rattle.change.specs.Simplified.{listSimple, noArgs}
@@ -17,17 +17,17 @@ use Rattle.combine.specs.Rules.{combineRules}
 use Rattle.calls_bytes.specs.Tails.{numbersFrom}
 use Rattle.calls_bytes.specs.declared.Call.{Call}
 use Rattle.calls_bytes.specs.declared.Reply.{Reply}
-use Rattle.calls_replies.specs.Replies.{noReply, changed}
+use Rattle.calls_replies.specs.Replies.{noReply, relisted}
 
 -- the list that a call makes of sets b and c goes to set a
 abbrev pub combined : (List Bits → List Bits → List Bits) → List ℕ → Call → Reply × List ℕ
-combined L w c = changed w (c .a) (combineRules (c .a) (c .b) (c .c)) (λ S. L (listAt S (c .b)) (listAt S (c .c)))
+combined L w c = relisted w (c .a) (combineRules (c .a) (c .b) (c .c)) (λ S. L (listAt S (c .b)) (listAt S (c .c)))
 
 unfoldable pub changeOf : List ℕ → Call → Reply × List ℕ
 changeOf w c =
-    cond (eqb (c .code) 8) (changed w (c .a) (netRules (c .net)) (listWith (c .a) (c .net)))
-    (cond (eqb (c .code) 9) (changed w (c .a) (netRules (c .net)) (listWithout (c .a) (c .net)))
-    (cond (eqb (c .code) 10) (changed w (c .a) noArgs (listSimple (c .a)))
+    cond (eqb (c .code) 8) (relisted w (c .a) (netRules (c .net)) (listWith (c .a) (c .net)))
+    (cond (eqb (c .code) 9) (relisted w (c .a) (netRules (c .net)) (listWithout (c .a) (c .net)))
+    (cond (eqb (c .code) 10) (relisted w (c .a) noArgs (listSimple (c .a)))
     (cond (eqb (c .code) 11) (combined mergeL w c)
     (cond (eqb (c .code) 12) (combined intersectL w c)
     (combined excludeL w c)))))
@@ -41,7 +41,7 @@ limitsOf c s = numbersFrom s (35 + 4 * c .net .len) (c .c % 256)
 
 -- the answer of layout, and the words that it leaves
 abbrev pub laidBy : List ℕ → ℕ → ℕ → ℕ → List ℕ → List ℕ → Reply × List ℕ
-laidBy w f n m xs ys = (noReply (layoutNo w f n m xs ys), cond (eqb (layoutNo w f n m xs ys) 0) (laid w f n m xs ys) w)
+laidBy w f n m xs ys = let p = setup f n m xs ys in (noReply (layoutNo w p), cond (eqb (layoutNo w p) 0) (laid w p) w)
 
 unfoldable pub layoutOf : List ℕ → Call → List ℕ → Reply × List ℕ
 layoutOf w c s = laidBy w (c .net .family) (c .a) (c .b) (sharesOf c s) (limitsOf c s)

@@ -5,7 +5,7 @@
 --   bitReply            the step of the bit iterator
 --   coverReply, containReply     a lookup: whether there is a member, the member, and the nodes that were read
 --   toldReply           the answers by a flag;  entryReply: one number, and an entry of a page
---   changed w k a f     a changing call on set k: its answer, and the words that it leaves
+--   changed w k rs f    a changing call on set k: its answer, and the words that it leaves;  relisted w k a f: one that gives it a list
 use mathlib.Core.Bool.{Bool, false, cond}
 use mathlib.Core.List.{List}
 use Prim.Native.Nat.{ℕ}
@@ -14,10 +14,10 @@ use Rattle.nets.specs.Networks.{netWords, noNet}
 use Rattle.nets.specs.Refusals.{Rule}
 use Rattle.nets.specs.declared.Net.{Net}
 use Rattle.nets.specs.declared.PrefixBits.{PrefixBits}
-use Rattle.pool_state.specs.States.{State}
+use Rattle.pool_state.specs.States.{SetState, State}
 use Rattle.pool_state.specs.Decode.{decode}
 use Rattle.pool_state.specs.Rules.{toldAs}
-use Rattle.pool_state.specs.Changes.{changeRule, wordsAfter}
+use Rattle.pool_state.specs.Changes.{changeRule, wordsAfter, relistRules, relistSet}
 use Rattle.pool_state.specs.declared.Told.{Told}
 use Rattle.calls_bytes.specs.declared.Reply.{Reply}
 
@@ -63,5 +63,9 @@ bitReply a = reply (a .0) (a .1 .0) (cond (a .1 .1 .0) 1 0) 0 (leftNet (a .1 .1 
 abbrev pub toldReply : Told → Reply
 toldReply t = flagReply (toldAs t)
 
-unfoldable pub changed : List ℕ → ℕ → (State → List Rule) → (State → List Bits) → Reply × List ℕ
-changed w k a f = (oneReply (changeRule (decode w) k a f), wordsAfter w (decode w) k a f)
+unfoldable pub changed : List ℕ → ℕ → (State → List Rule) → (State → SetState) → Reply × List ℕ
+changed w k rs f = (oneReply (changeRule (decode w) k rs f), wordsAfter w (decode w) k rs f)
+
+-- one that gives it a list
+abbrev pub relisted : List ℕ → ℕ → (State → List Rule) → (State → List Bits) → Reply × List ℕ
+relisted w k a f = changed w k (relistRules k a f) (relistSet k f)

@@ -8,8 +8,6 @@ use lib.Dec.{eqb, ltb}
 use lib.ListN.{length, take, drop, set, length-drop, drop-of-length-le}
 use lib.Seq.{take-all, drop-drop, drop-length}
 use borrow.Author.Tests.{ltb-true}
-use Rattle.pool_state.specs.Rules.{answerAs}
-use Rattle.pool_state.specs.declared.Answer.{Answer}
 use Rattle.setfile.specs.Loading.{Loaded}
 use Rattle.lines.specs.Lines.{lineFeed, lineNo}
 use Rattle.lines.specs.Reading.{places, begun, kept, pushed, endedAs, ended, stepped, fed, finished, fedAll, allRead}
@@ -22,7 +20,7 @@ use Rattle.calls_replies.proofs.Changing.{changed-is}
 use Rattle.calls_tailed.specs.Reading.{loadOf, piecesOf, readerReply, linesOf, Cut}
 
 -- the bytes behind the fixed part are the file
-pub load-is : (w s : List ℕ) (c : Call) {v : List ℕ} {a : Answer} {x : Reply} → Loaded w (c .a) (take (length s - 35) (drop 35 s)) a v → x ≡ oneReply (answerAs a) → (x, v) ≡ loadOf w c s
+pub load-is : (w s : List ℕ) (c : Call) {v : List ℕ} {a : ℕ × ℕ} {x : Reply} → Loaded w (c .a) (take (length s - 35) (drop 35 s)) a v → x ≡ oneReply a → (x, v) ≡ loadOf w c s
 unfolding loadOf
 load-is w s c l e = changed-is (rw (rest-is s 35) at l) e
 

@@ -15,13 +15,13 @@ use Rattle.lines.specs.Reading.{allRead}
 use Rattle.lines.specs.declared.Reader.{Reader}
 use Rattle.calls_bytes.specs.declared.Call.{Call}
 use Rattle.calls_bytes.specs.declared.Reply.{Reply}
-use Rattle.calls_replies.specs.Replies.{twoReply, changed}
+use Rattle.calls_replies.specs.Replies.{twoReply, relisted}
 
 abbrev pub tailOf : List ℕ → List ℕ
 tailOf s = drop 35 s
 
 unfoldable pub loadOf : List ℕ → Call → List ℕ → Reply × List ℕ
-loadOf w c s = let x = readFile (tailOf s) in changed w (c .a) (loadRules x (c .a)) (λ S. fileList x)
+loadOf w c s = let x = readFile (tailOf s) in relisted w (c .a) (loadRules x (c .a)) (λ S. fileList x)
 
 abbrev pub piecesOf : Call → List ℕ → List (List ℕ)
 piecesOf c s = take (c .b) (tailOf s) ∷ drop (c .b) (tailOf s) ∷ []

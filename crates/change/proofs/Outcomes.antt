@@ -1,4 +1,4 @@
--- What the contracts of add and remove come to: one outcome is allowed; and sound words stay sound, with the state that the rule says (`Leaves`). Assumes nothing.
+-- What the contracts of add and remove come to: one outcome is allowed; and sound words stay sound, with the state that the rule says (`RelistLeaves`). Assumes nothing.
 use mathlib.Core.Path.{_≡_}
 use mathlib.Core.List.{List}
 use Prim.Native.Nat.{ℕ}
@@ -8,25 +8,26 @@ use Rattle.nets.proofs.TrieOf.{isList-add}
 use Rattle.nets.proofs.Laws.{isList-remove}
 use Rattle.pool_state.specs.States.{State}
 use Rattle.pool_state.specs.Decode.{sound, decode}
+use Rattle.pool_state.specs.Rules.{answerAs}
 use Rattle.pool_state.specs.Changes.{listAt, netRules}
 use Rattle.pool_state.specs.declared.Answer.{Answer}
 use Rattle.pool_state.proofs.Claims.{isList-listAt}
 use Rattle.pool_state.proofs.Decoded.{decode-state}
 use Rattle.pool_state.proofs.Determined.{changed-one}
-use Rattle.pool_state.proofs.Leaves.{Leaves, changed-leaves, netRules-within}
+use Rattle.pool_state.proofs.Leaves.{RelistLeaves, relist-leaves, netRules-within}
 use Rattle.change.specs.Calls.{listWith, listWithout, Added, Removed}
 
 -- One outcome.
-pub add-one : {w v u : List ℕ} {k : ℕ} {r x : Answer} (n : Net) → Added w k n r v → Added w k n x u → (r ≡ x) × (v ≡ u)
+pub add-one : {w v u : List ℕ} {k : ℕ} {r x : Answer} (n : Net) → Added w k n (answerAs r) v → Added w k n (answerAs x) u → (r ≡ x) × (v ≡ u)
 add-one n h g = changed-one h g
 
-pub remove-one : {w v u : List ℕ} {k : ℕ} {r x : Answer} (n : Net) → Removed w k n r v → Removed w k n x u → (r ≡ x) × (v ≡ u)
+pub remove-one : {w v u : List ℕ} {k : ℕ} {r x : Answer} (n : Net) → Removed w k n (answerAs r) v → Removed w k n (answerAs x) u → (r ≡ x) × (v ≡ u)
 remove-one n h g = changed-one h g
 
 -- What is left of a sound pool.
-module _ {w v : List ℕ} {S : State} {k : ℕ} {r : Answer} (n : Net) (d : decode w ≡ sound S) where
-  pub add-leaves : Added w k n r v → Leaves S k (netRules n S) (listWith k n S) r v
-  add-leaves c = changed-leaves d (λ z. isList-add (width (S .family)) (listAt S k) (netBits n) (isList-listAt S k (decode-state w S d)) (netRules-within n S z)) c
+module _ {w v : List ℕ} {S : State} {k : ℕ} {r : ℕ × ℕ} (n : Net) (d : decode w ≡ sound S) where
+  pub add-leaves : Added w k n r v → RelistLeaves w S k (netRules n S) (listWith k n S) r v
+  add-leaves c = relist-leaves (netRules n) (listWith k n) d (λ z. isList-add (width (S .family)) (listAt S k) (netBits n) (isList-listAt S k (decode-state w S d)) (netRules-within n S z)) c
 
-  pub remove-leaves : Removed w k n r v → Leaves S k (netRules n S) (listWithout k n S) r v
-  remove-leaves c = changed-leaves d (λ z. isList-remove (width (S .family)) (listAt S k) (netBits n) (isList-listAt S k (decode-state w S d)) (netRules-within n S z)) c
+  pub remove-leaves : Removed w k n r v → RelistLeaves w S k (netRules n S) (listWithout k n S) r v
+  remove-leaves c = relist-leaves (netRules n) (listWithout k n) d (λ z. isList-remove (width (S .family)) (listAt S k) (netBits n) (isList-listAt S k (decode-state w S d)) (netRules-within n S z)) c

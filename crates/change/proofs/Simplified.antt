@@ -11,7 +11,6 @@ use Rattle.nets.specs.Lists.{nodesL, simplifyL}
 use Rattle.nets.specs.Tries.{Trie, size, simplifyT}
 use Rattle.nets.specs.Networks.{width}
 use Rattle.nets.specs.Refusals.{firstNo}
-use Rattle.nets.specs.declared.Refusal.the-variants.{Damaged, NoSet}
 use Rattle.nets.proofs.Nodes.{nodesL-listOf}
 use Rattle.nets.proofs.TrieOf.{isList-within}
 use Rattle.nets.proofs.Simplifying.{isList-simplify}
@@ -27,18 +26,17 @@ use Rattle.trie_emit.proofs.Simplify.{size-simplify}
 use Rattle.pool_state.specs.States.{State, held, roomOf}
 use Rattle.pool_state.specs.Decode.{base, sound, decode}
 use Rattle.pool_state.specs.Rules.{answerOn, answerAs, surveyOf}
-use Rattle.pool_state.specs.Changes.{setAt, listAt, withList, grantRules, changeNo, changeRule}
+use Rattle.pool_state.specs.Changes.{setAt, listAt, withSet, changeRule, setWith, grantRules, relistRules, relistSet, relistNo}
 use Rattle.pool_state.specs.Steps.{behindAt, Gap, relinked, Relink}
 use Rattle.pool_state.specs.declared.Answer.{Answer}
-use Rattle.pool_state.specs.declared.Answer.the-variants as answer
 use Rattle.pool_state.specs.declared.Survey.{Survey}
-use Rattle.pool_state.proofs.Determined.{answerAs-one, changed-one}
-use Rattle.pool_state.proofs.Leaves.{Leaves, changed-leaves}
-use Rattle.pool_state.proofs.WithList.{claim-roomOf}
+use Rattle.pool_state.proofs.Determined.{changed-one}
+use Rattle.pool_state.proofs.Leaves.{RelistLeaves, relist-leaves}
+use Rattle.pool_state.proofs.WithSet.{claim-roomOf}
 use Rattle.pool_state.proofs.Claims.{isList-listAt, held-limit}
 use Rattle.pool_state.proofs.Holds.{set-size}
 use Rattle.pool_state.proofs.Decoded.{decode-state, decode-set}
-use Rattle.pool_state.proofs.Judged.{changeNo-known}
+use Rattle.pool_state.proofs.Judged.{relistNo-known}
 use Rattle.pool_state.proofs.Seen.{Seen, behind, refuses-damaged, refuses-noset, seen-header, seen-figures, trieAt, seen-segment}
 use Rattle.pool_state.proofs.Changed.{withTrie, behind-last, relink-asks, gap-asks}
 use Rattle.pool_state.proofs.Returns.{change-seat, change-granted, changed}
@@ -88,15 +86,15 @@ module _ (w : List ℕ) (S : State) (k : ℕ) (d : decode w ≡ sound S) (lt : k
       let n = nodesL-simplify S k in
       rw (le-ltb (setAt S k .limit) (nodesL (listSimple k S)) (omega (arith, in-limit)), le-ltb (roomOf S k) (nodesL (listSimple k S)) (omega (arith, in-room)))
 
-  pub changeNo-simplify : changeNo S k [] (simplifyL (listAt S k)) ≡ 0
-  changeNo-simplify = changeNo-known S k [] (simplifyL (listAt S k)) lt ∙ grant-simplify
+  pub relistNo-simplify : relistNo S k [] (simplifyL (listAt S k)) ≡ 0
+  relistNo-simplify = relistNo-known S k [] (simplifyL (listAt S k)) lt ∙ grant-simplify
 
 -- The returns of the call.
 module _ {w : List ℕ} {k : ℕ} {v : Survey} (e : v ≡ surveyOf (decode w) k) where
-  pub return-damaged : v .sound ≡ false → Simplifies w k (answer.Refused Damaged) w
+  pub return-damaged : v .sound ≡ false → Simplifies w k (2, 0) w
   return-damaged q = changed (change-seat noArgs (listSimple k) w k (refuses-damaged w k v e q))
 
-  pub return-noset : v .sound ≡ true → getD w 2 0 ≤ k → Simplifies w k (answer.Refused NoSet) w
+  pub return-noset : v .sound ≡ true → getD w 2 0 ≤ k → Simplifies w k (3, 0) w
   return-noset q le = changed (change-seat noArgs (listSimple k) w k (refuses-noset w k v e q le))
 
 module _ {w : List ℕ} {S : State} {k : ℕ} {v : Survey} (h : Seen w S k v) where
@@ -125,26 +123,26 @@ module _ {w : List ℕ} {S : State} {k : ℕ} {v : Survey} (h : Seen w S k v) wh
       pub roots-move : Relink x k (v .held) n
       roots-move = relink-asks h (enc (simpleAt S k) ++ behind S k) fits closed
 
-      pub return-granted : {a : Answer} {y : List ℕ} → (answerAs a ≡ (0, n)) × (y ≡ relinked x k (v .at) (v .held) n) → Simplifies w k a y
+      pub return-granted : {a : ℕ × ℕ} {y : List ℕ} → (a ≡ (0, n)) × (y ≡ relinked x k (v .at) (v .held) n) → Simplifies w k a y
       unfolding simplifyL
       return-granted q =
           changed (rw (q .0) (change-granted noArgs (listSimple k) h refl (sym (grant-simplify w S k (h .decoded) (h .known))) (simpleAt S k) refl refl (sym (s .nodes)) closed (q .1)))
 
 -- One outcome.
-pub simplify-one : {w v u : List ℕ} {k : ℕ} {r s : Answer} → Simplifies w k r v → Simplifies w k s u → (r ≡ s) × (v ≡ u)
+pub simplify-one : {w v u : List ℕ} {k : ℕ} {r s : Answer} → Simplifies w k (answerAs r) v → Simplifies w k (answerAs s) u → (r ≡ s) × (v ≡ u)
 simplify-one g h = changed-one g h
 
 -- What is left of a sound pool: a call on a set that is there is granted, and leaves the state with the list simplified.
-module _ {w v : List ℕ} {k : ℕ} {r : Answer} (h : Simplifies w k r v) where
+module _ {w v : List ℕ} {k : ℕ} {r : ℕ × ℕ} (h : Simplifies w k r v) where
   module _ (S : State) (d : decode w ≡ sound S) where
-    pub simplify-granted : k < length (S .sets) → r ≡ answer.Granted (nodesL (simplifyL (listAt S k)))
-    unfolding changeRule answerOn
-    simplify-granted lt = answerAs-one r (answer.Granted (nodesL (simplifyL (listAt S k)))) (h .answer ∙ rw (d, changeNo-simplify w S k d lt))
+    pub simplify-granted : k < length (S .sets) → r ≡ (0, nodesL (simplifyL (listAt S k)))
+    unfolding changeRule answerOn relistRules relistSet
+    simplify-granted lt = h .answer ∙ rw (d, relistNo-simplify w S k d lt)
 
-    pub simplify-leaves : Leaves S k [] (simplifyL (listAt S k)) r v
+    pub simplify-leaves : RelistLeaves w S k [] (simplifyL (listAt S k)) r v
     simplify-leaves =
         let f = width (S .family) in
-        changed-leaves d (λ z. isList-simplify f (listAt S k) (isList-within f (listAt S k) (isList-listAt S k (decode-state w S d)))) h
+        relist-leaves noArgs (listSimple k) d (λ z. isList-simplify f (listAt S k) (isList-within f (listAt S k) (isList-listAt S k (decode-state w S d)))) h
 
-    pub simplify-state : k < length (S .sets) → decode v ≡ sound (withList S k (simplifyL (listAt S k)))
-    simplify-state lt = rw (changeNo-simplify w S k d lt) at (simplify-leaves .holds)
+    pub simplify-state : k < length (S .sets) → decode v ≡ sound (withSet S k (setWith (setAt S k) (simplifyL (listAt S k))))
+    simplify-state lt = rw (relistNo-simplify w S k d lt) at (simplify-leaves .leaves .holds)

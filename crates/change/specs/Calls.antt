@@ -9,8 +9,7 @@ use Rattle.nets.specs.Lists.{addL, removeL}
 use Rattle.nets.specs.Networks.{netBits}
 use Rattle.nets.specs.declared.Net.{Net}
 use Rattle.pool_state.specs.States.{State}
-use Rattle.pool_state.specs.Changes.{listAt, Changed, netRules}
-use Rattle.pool_state.specs.declared.Answer.{Answer}
+use Rattle.pool_state.specs.Changes.{listAt, Relisted, netRules}
 
 abbrev pub listWith : ℕ → Net → State → List Bits
 listWith k n S = addL (listAt S k) (netBits n)
@@ -18,8 +17,8 @@ listWith k n S = addL (listAt S k) (netBits n)
 abbrev pub listWithout : ℕ → Net → State → List Bits
 listWithout k n S = removeL (listAt S k) (netBits n)
 
-abbrev pub Added : List ℕ → ℕ → Net → Answer → List ℕ → Type 0
-Added w k n r v = Changed w k (netRules n) (listWith k n) r v
+abbrev pub Added : List ℕ → ℕ → Net → ℕ × ℕ → List ℕ → Type 0
+Added w k n r v = Relisted w k (netRules n) (listWith k n) r v
 
-abbrev pub Removed : List ℕ → ℕ → Net → Answer → List ℕ → Type 0
-Removed w k n r v = Changed w k (netRules n) (listWithout k n) r v
+abbrev pub Removed : List ℕ → ℕ → Net → ℕ × ℕ → List ℕ → Type 0
+Removed w k n r v = Relisted w k (netRules n) (listWithout k n) r v

@@ -11,8 +11,7 @@ use Rattle.nets.specs.Refusals.{Rule}
 use Rattle.nets.specs.Tries.{Trie, size, simplifyT}
 use Rattle.nodes.specs.Words.{put, place, enc}
 use Rattle.pool_state.specs.States.{State}
-use Rattle.pool_state.specs.Changes.{listAt, Changed}
-use Rattle.pool_state.specs.declared.Answer.{Answer}
+use Rattle.pool_state.specs.Changes.{listAt, Relisted}
 
 -- the list of set k, simplified; and no argument but the set, so no rule for any
 abbrev pub listSimple : ℕ → State → List Bits
@@ -21,8 +20,8 @@ listSimple k S = simplifyL (listAt S k)
 abbrev pub noArgs : State → List Rule
 noArgs S = []
 
-abbrev pub Simplifies : List ℕ → ℕ → Answer → List ℕ → Type 0
-Simplifies w k r v = Changed w k noArgs (listSimple k) r v
+abbrev pub Simplifies : List ℕ → ℕ → ℕ × ℕ → List ℕ → Type 0
+Simplifies w k r v = Relisted w k noArgs (listSimple k) r v
 
 pub record Shrunk (w v : List ℕ) (b i : ℕ) (t : Trie) (n : ℕ) : Type 0 where
   pub nodes : n ≡ size (simplifyT t)

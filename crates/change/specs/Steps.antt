@@ -9,14 +9,13 @@ use Prim.Native.Nat.{ℕ, _+_, _≤_}
 use lib.ListN.{getD}
 use Rattle.nets.specs.Bits.{Bits}
 use Rattle.nets.specs.Networks.{netBits, bitsLeft}
-use Rattle.nets.specs.Refusals.{firstNo}
+use Rattle.nets.specs.Refusals.{number, firstNo}
 use Rattle.nets.specs.declared.Net.{Net}
 use Rattle.nets.specs.declared.PrefixBits.{PrefixBits}
 use Rattle.pool_state.specs.States.{State}
 use Rattle.pool_state.specs.Decode.{base, sound, decode}
-use Rattle.pool_state.specs.Changes.{Changed, netRules}
+use Rattle.pool_state.specs.Changes.{Relisted, netRules}
 use Rattle.pool_state.specs.Steps.{Surveyed}
-use Rattle.pool_state.specs.declared.Answer.the-variants as answer
 use Rattle.pool_state.specs.declared.Survey.{Survey}
 use Rattle.change.specs.declared.calling.Asked.{Asked}
 use Rattle.change.specs.declared.calling.Asked.the-variants.{Go, Refused}
@@ -30,7 +29,7 @@ pub record Ready (w : List ℕ) (k : ℕ) (n : Net) (v : Survey) (s : PrefixBits
 
 abbrev pub Asks : List ℕ → ℕ → Net → Asked → Type 0
 Asks w k n (Go v s) = Ready w k n v s
-Asks w k n (Refused x) = (f : State → List Bits) → Changed w k (netRules n) f (answer.Refused x) w
+Asks w k n (Refused x) = (f : State → List Bits) → Relisted w k (netRules n) f (number x, 0) w
 
 abbrev pub seatOf : List ℕ → Survey → Seat
 seatOf w v = record { base = base (getD w 2 0); first = v .at; end = v .at + v .held; used = v .used + 1 }

@@ -14,6 +14,7 @@ use pool_check::survey;
 use pool_state::Answer;
 use pool_state::Verdict;
 use shrinking::shrink;
+ghost use Rattle.pool_state.specs.Rules.{answerAs};
 ghost use Rattle.change.specs.Calls.{Added, Removed};
 ghost use Rattle.change.specs.Simplified.{Simplifies};
 
@@ -22,7 +23,7 @@ mod shrinking;
 
 // Adds a network to a set: where no member contains it, the members inside it go and it joins. Answers the nodes of the set.
 pub fn add(pool: &mut [u32], set: u32, net: Net) -> Answer
-    ensures { λ r. ⌜ Added (now (pool .entry)) set net r (now (pool .exit)) ⌝ }
+    ensures { λ r. ⌜ Added (now (pool .entry)) set net (answerAs r) (now (pool .exit)) ⌝ }
 {
     let asked = ask(pool, set, net);
     match asked {
@@ -44,7 +45,7 @@ pub fn add(pool: &mut [u32], set: u32, net: Net) -> Answer
 
 // Removes a network from a set: the members inside it go, and one that contains it gives way to the blocks beside the path. Answers the nodes of the set.
 pub fn remove(pool: &mut [u32], set: u32, net: Net) -> Answer
-    ensures { λ r. ⌜ Removed (now (pool .entry)) set net r (now (pool .exit)) ⌝ }
+    ensures { λ r. ⌜ Removed (now (pool .entry)) set net (answerAs r) (now (pool .exit)) ⌝ }
 {
     let asked = ask(pool, set, net);
     match asked {
@@ -67,7 +68,7 @@ pub fn remove(pool: &mut [u32], set: u32, net: Net) -> Answer
 // Simplifies a set: the same addresses, and afterwards no two halves of one block are both listed. Answers the nodes of the set. The result never has more nodes than
 // the set, so nothing is counted before it is written.
 pub fn simplify(pool: &mut [u32], set: u32) -> Answer
-    ensures { λ r. ⌜ Simplifies (now (pool .entry)) set r (now (pool .exit)) ⌝ }
+    ensures { λ r. ⌜ Simplifies (now (pool .entry)) set (answerAs r) (now (pool .exit)) ⌝ }
 {
     let found = survey(pool, set);
     if !found.sound {

@@ -10,21 +10,20 @@ use Rattle.nets.specs.Lists.{mergeL, intersectL, excludeL}
 use Rattle.nets.specs.Refusals.{Rule}
 use Rattle.pool_state.specs.States.{State}
 use Rattle.pool_state.specs.Rules.{unknown}
-use Rattle.pool_state.specs.Changes.{listAt, occupied, Changed}
-use Rattle.pool_state.specs.declared.Answer.{Answer}
+use Rattle.pool_state.specs.Changes.{listAt, occupied, Relisted}
 
 unfoldable pub combineRules : ℕ → ℕ → ℕ → State → List Rule
 combineRules to first second S = unknown S first ∷ unknown S second ∷ occupied S to ∷ []
 
 -- a source that is the destination is empty, as that has to be
-abbrev pub Combined : (List Bits → List Bits → List Bits) → List ℕ → ℕ → ℕ → ℕ → Answer → List ℕ → Type 0
-Combined L w to first second r v = Changed w to (combineRules to first second) (λ S. L (listAt S first) (listAt S second)) r v
+abbrev pub Combined : (List Bits → List Bits → List Bits) → List ℕ → ℕ → ℕ → ℕ → ℕ × ℕ → List ℕ → Type 0
+Combined L w to first second r v = Relisted w to (combineRules to first second) (λ S. L (listAt S first) (listAt S second)) r v
 
-abbrev pub Merged : List ℕ → ℕ → ℕ → ℕ → Answer → List ℕ → Type 0
+abbrev pub Merged : List ℕ → ℕ → ℕ → ℕ → ℕ × ℕ → List ℕ → Type 0
 Merged = Combined mergeL
 
-abbrev pub Intersected : List ℕ → ℕ → ℕ → ℕ → Answer → List ℕ → Type 0
+abbrev pub Intersected : List ℕ → ℕ → ℕ → ℕ → ℕ × ℕ → List ℕ → Type 0
 Intersected = Combined intersectL
 
-abbrev pub Excluded : List ℕ → ℕ → ℕ → ℕ → Answer → List ℕ → Type 0
+abbrev pub Excluded : List ℕ → ℕ → ℕ → ℕ → ℕ × ℕ → List ℕ → Type 0
 Excluded = Combined excludeL

@@ -16,14 +16,14 @@ use Rattle.nets.specs.Bits.{Bits}
 use Rattle.nets.specs.Lists.{mergeL, intersectL, excludeL}
 use Rattle.nets.specs.Tries.{Trie, size}
 use Rattle.nets.specs.Networks.{width}
+use Rattle.nets.specs.Refusals.{number}
 use Rattle.nodes.specs.Words.{put, place, enc}
 use Rattle.nodes.specs.Parse.{Room}
 use Rattle.trie_emit.specs.Combine.{opOn, Inputs}
 use Rattle.pool_state.specs.States.{State}
 use Rattle.pool_state.specs.Decode.{recordAt, base}
-use Rattle.pool_state.specs.Changes.{Changed}
+use Rattle.pool_state.specs.Changes.{Relisted}
 use Rattle.pool_state.specs.Steps.{Surveyed, behindAt, Gap}
-use Rattle.pool_state.specs.declared.Answer.the-variants as answer
 use Rattle.pool_state.specs.declared.Survey.{Survey}
 use Rattle.combine.specs.Rules.{combineRules}
 use Rattle.combine.specs.declared.asking.Asked.{Asked}
@@ -48,7 +48,7 @@ pub record Ready (w : List ℕ) (to first second : ℕ) (v : Survey) : Type 0 wh
 -- a refusal is that of every operation
 abbrev pub Asks : List ℕ → ℕ → ℕ → ℕ → Asked → Type 0
 Asks w to first second (Go v) = Ready w to first second v
-Asks w to first second (Refused x) = (f : State → List Bits) → Changed w to (combineRules to first second) f (answer.Refused x) w
+Asks w to first second (Refused x) = (f : State → List Bits) → Relisted w to (combineRules to first second) f (number x, 0) w
 
 abbrev pub sourcesOf : List ℕ → ℕ → ℕ → Sources
 sourcesOf w first second =

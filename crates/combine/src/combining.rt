@@ -19,6 +19,7 @@ ghost use mathlib.Core.Path.{_≡_};
 ghost use Prim.Native.Nat.{_+_, _<_};
 ghost use Rattle.nets.specs.Tries.{Trie, size};
 ghost use Rattle.trie_emit.specs.Combine.{opOn};
+ghost use Rattle.pool_state.specs.Rules.{answerAs};
 ghost use Rattle.combine.specs.Rules.{Combined};
 ghost use Rattle.combine.specs.Steps.{Operation, combineL, Reads, movedTo, Writable, written};
 
@@ -64,7 +65,7 @@ fn write(pool: &mut [u32], op: usize, s: Sources, v: Survey, n: u32)
 // Writes what an operation makes of two sets into an empty one. Answers its nodes.
 pub fn combine(pool: &mut [u32], op: usize, to: u32, first: u32, second: u32) -> Answer
     requires { ⌜ Operation op ⌝ }
-    ensures { λ r. ⌜ Combined (combineL op) (now (pool .entry)) to first second r (now (pool .exit)) ⌝ }
+    ensures { λ r. ⌜ Combined (combineL op) (now (pool .entry)) to first second (answerAs r) (now (pool .exit)) ⌝ }
 {
     let asked = ask(pool, to, first, second);
     match asked {

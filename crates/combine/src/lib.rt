@@ -1,6 +1,7 @@
 // Combining two sets of a pool into a third. Where a call is refused, no word changes.
 use combining::combine;
 use pool_state::Answer;
+ghost use Rattle.pool_state.specs.Rules.{answerAs};
 ghost use Rattle.combine.specs.Rules.{Merged, Intersected, Excluded};
 
 mod asking;
@@ -16,21 +17,21 @@ const EXCLUDE: usize = 3;
 
 // Writes the union of two sets, simplified, into an empty one. Answers its nodes.
 pub fn merge(pool: &mut [u32], to: u32, first: u32, second: u32) -> Answer
-    ensures { λ r. ⌜ Merged (now (pool .entry)) to first second r (now (pool .exit)) ⌝ }
+    ensures { λ r. ⌜ Merged (now (pool .entry)) to first second (answerAs r) (now (pool .exit)) ⌝ }
 {
     combine(pool, MERGE, to, first, second)
 }
 
 // Writes what two sets have in common, simplified, into an empty one. Answers its nodes.
 pub fn intersect(pool: &mut [u32], to: u32, first: u32, second: u32) -> Answer
-    ensures { λ r. ⌜ Intersected (now (pool .entry)) to first second r (now (pool .exit)) ⌝ }
+    ensures { λ r. ⌜ Intersected (now (pool .entry)) to first second (answerAs r) (now (pool .exit)) ⌝ }
 {
     combine(pool, INTERSECT, to, first, second)
 }
 
 // Writes what the first set has and the second has not into an empty one: what is left of each member by itself. Answers its nodes.
 pub fn exclude(pool: &mut [u32], to: u32, first: u32, second: u32) -> Answer
-    ensures { λ r. ⌜ Excluded (now (pool .entry)) to first second r (now (pool .exit)) ⌝ }
+    ensures { λ r. ⌜ Excluded (now (pool .entry)) to first second (answerAs r) (now (pool .exit)) ⌝ }
 {
     combine(pool, EXCLUDE, to, first, second)
 }

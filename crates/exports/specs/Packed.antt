@@ -6,7 +6,7 @@ use mathlib.Core.Bool.{Bool, cond}
 use mathlib.Core.List.{List}
 use Prim.Native.Nat.{ℕ, _+_, _*_}
 use Rattle.pool_state.specs.Decode.{decode}
-use Rattle.pool_state.specs.Changes.{changeRule, wordsAfter}
+use Rattle.pool_state.specs.Changes.{changeRule, wordsAfter, relistRules, relistSet}
 use Rattle.setfile_format.specs.Files.{readFile}
 use Rattle.setfile.specs.Loading.{loadRules, fileList}
 
@@ -17,7 +17,7 @@ abbrev pub packedSteps : ℕ × (Bool × ℕ) → ℕ
 packedSteps a = packed (a .0, cond (a .1 .0) 1 0 + 2 * a .1 .1)
 
 abbrev pub loadRule : List ℕ → ℕ → List ℕ → ℕ × ℕ
-loadRule w k d = changeRule (decode w) k (loadRules (readFile d) k) (λ S. fileList (readFile d))
+loadRule w k d = changeRule (decode w) k (relistRules k (loadRules (readFile d) k) (λ S. fileList (readFile d))) (relistSet k (λ S. fileList (readFile d)))
 
 abbrev pub loadWords : List ℕ → ℕ → List ℕ → List ℕ
-loadWords w k d = wordsAfter w (decode w) k (loadRules (readFile d) k) (λ S. fileList (readFile d))
+loadWords w k d = wordsAfter w (decode w) k (relistRules k (loadRules (readFile d) k) (λ S. fileList (readFile d))) (relistSet k (λ S. fileList (readFile d)))

@@ -2,14 +2,13 @@
 use mathlib.Core.List.{List}
 use Prim.Native.Nat.{ℕ}
 use Rattle.nets.specs.declared.Net.{Net}
-use Rattle.pool_state.specs.declared.Answer.{Answer}
 use Rattle.change.specs.Calls.{Added, Removed}
 use Rattle.change.specs.Simplified.{Simplifies}
 use Rattle.combine.specs.Rules.{Merged, Intersected, Excluded}
 use Rattle.setfile.specs.Loading.{Loaded}
 use Rattle.histories.specs.Calls.{add, remove, simplify, merge, intersect, exclude, load, Outcome}
 
-module _ {w v : List ℕ} {r : Answer} (k : ℕ) where
+module _ {w v : List ℕ} {r : ℕ × ℕ} (k : ℕ) where
   pub added : (n : Net) → Added w k n r v → Outcome w (add k n) r v
   added n h = h
 

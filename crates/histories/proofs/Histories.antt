@@ -1,8 +1,8 @@
--- Every sequence of calls from a granted layout on, by its last call. Each beginning of a history is a history, so what holds of every history holds after every step.
--- Assumes nothing.
+-- Every sequence of calls from words that hold a state on, by its last call. Each beginning of a history is a history, so what holds of every history holds after every step.
+-- A granted layout leaves such words (`layout-begins`), and so does every history. Assumes nothing.
 use mathlib.Core.Path.{_≡_, refl, sym, ap, _∙_}
 use mathlib.Core.Bool.{true}
-use mathlib.Core.List.{List, [], _∷_, map}
+use mathlib.Core.List.{List, [], _∷_}
 use Prim.Native.Nat.{ℕ, _+_, _≤_, _<_}
 use native.Mathlib.Omega.{arith}
 use lib.ListN.{length}
@@ -11,129 +11,137 @@ use Rattle.nets.specs.Bits.{before, bits}
 use Rattle.nets.specs.Lists.{isList, nodesL, addL}
 use Rattle.nets.specs.Networks.{width, netBits, inRange, refusalOf}
 use Rattle.nets.specs.declared.Net.{Net}
-use Rattle.nets.specs.declared.Refusal.{Refusal}
-use Rattle.nets.proofs.Answers.{number-some}
-use Rattle.pool_state.specs.States.{SetState, held, used, claimed, claimedBut, freeOf, roomOf, isState}
-use Rattle.pool_state.specs.Decode.{sound, decode}
-use Rattle.pool_state.specs.Rules.{answerOn, answerAs, layoutNo, freeRule}
-use Rattle.pool_state.specs.Changes.{setAt, listAt, withList, changeRules, netRules, changeRule, wordsAfter}
-use Rattle.pool_state.specs.declared.Answer.{Answer}
-use Rattle.pool_state.specs.declared.Answer.the-variants as answer
+use Rattle.pool_state.specs.States.{SetState, State, held, used, claimed, claimedBut, freeOf, roomOf, isState}
+use Rattle.pool_state.specs.Decode.{leastWords, sound, decode}
+use Rattle.pool_state.specs.Rules.{answerOn, Setup, setup, emptyState, layoutNo, Laid, freeRule}
+use Rattle.pool_state.specs.Changes.{setAt, listAt, withSet, changeRules, changeRule, wordsAfter, relistRules, relistSet, netRules}
 use Rattle.pool_state.proofs.Answered.{leftOn-refused}
 use Rattle.pool_state.proofs.Claims.{isList-listAt, held-limit, freeOf-is}
 use Rattle.pool_state.proofs.Decoded.{decode-state, decode-laid}
-use Rattle.pool_state.proofs.Determined.{answerAs-one}
+use Rattle.pool_state.proofs.Determined.{changed-same}
+use Rattle.pool_state.proofs.Past.{Past, past-refl, past-trans}
 use Rattle.histories.specs.Calls.{Call, add, target, argsNo, resultOf, callNo, answerOf, stateAfter, Outcome}
-use Rattle.histories.specs.Histories.{Setup, stateOf, answersOf, History, begin, step}
-use Rattle.histories.proofs.Step.{callNo-share, callNo-room, answerAs-outcome, stateAfter-numbers, stateAfter-plan, stateAfter-other, decode-outcome}
+use Rattle.histories.specs.Histories.{stateFrom, answersFrom, History, begin, step}
+use Rattle.histories.proofs.Step.{callNo-share, callNo-room, outcome-answer, stateAfter-numbers, stateAfter-plan, stateAfter-other, outcome-decode, outcome-past}
 
 -- One call from any words.
 
 -- "We want a proof that two outcomes allowed by it are equal". Those of layout and of the reports are in the proofs of pool.
-pub call-determined : {w u v : List ℕ} {r s : Answer} (c : Call) → Outcome w c r u → Outcome w c s v → (r ≡ s) × (u ≡ v)
-call-determined {r = r} {s = s} c h k = (answerAs-one r s (h .answer ∙ sym (k .answer)), h .words ∙ sym (k .words))
+pub call-determined : {w u v : List ℕ} {r s : ℕ × ℕ} (c : Call) → Outcome w c r u → Outcome w c s v → (r ≡ s) × (u ≡ v)
+call-determined c h k = changed-same h k
 
 -- "A refusal returns its number and zeros elsewhere, and no lent word changes."
-pub refused-same : {w v : List ℕ} {x : Refusal} (c : Call) → Outcome w c (answer.Refused x) v → v ≡ w
+pub refused-same : {w v : List ℕ} {r : ℕ × ℕ} (c : Call) → Outcome w c r v → (r .0 ≡ 0 → ⊥) → v ≡ w
 unfolding changeRule wordsAfter
-refused-same {w} {x = x} c o = o .words ∙ leftOn-refused _ 0 _ w _ (decode w) (λ q. number-some x (ap (λ a. a .0) (o .answer) ∙ q))
+refused-same {w} c o ne = o .words ∙ leftOn-refused _ 0 _ w _ (decode w) (λ q. ne (ap (λ a. a .0) (o .answer) ∙ q))
+
+-- so the first words and the calls determine a history
+pub history-determined : {w u v : List ℕ} {cs : List Call} {rs ss : List (ℕ × ℕ)} → History w cs rs u → History w cs ss v → (rs ≡ ss) × (u ≡ v)
+history-determined begin begin = (refl, refl)
+history-determined (step {c = c} h o) (step g q) =
+    let (e, f) = history-determined h g in
+    let (x, y) = call-determined c o (rw (← f) at q) in
+    (rw (e, x), y)
 
 -- The state of a history.
-stateOf-numbers : (p : Setup) (cs : List Call) → (stateOf p cs .family ≡ p .family) × (stateOf p cs .nodes ≡ p .nodes)
-unfolding stateOf
-stateOf-numbers p [] = (refl, refl)
-stateOf-numbers p (c ∷ cs) =
-    let h = stateOf-numbers p cs in
-    let n = stateAfter-numbers (stateOf p cs) c in
-    (n .0 ∙ h .0, n .1 ∙ h .1)
+pub stateFrom-numbers : (S : State) (cs : List Call)
+    → (stateFrom S cs .family ≡ S .family) × (stateFrom S cs .nodes ≡ S .nodes) × (length (stateFrom S cs .sets) ≡ length (S .sets))
+unfolding stateFrom
+stateFrom-numbers S [] = (refl, refl, refl)
+stateFrom-numbers S (c ∷ cs) =
+    let h = stateFrom-numbers S cs in
+    let n = stateAfter-numbers (stateFrom S cs) c in
+    (n .0 ∙ h .0, n .1 ∙ h .1, n .2 ∙ h .2)
 
--- "Every memory reached from a layout by these calls is sound." It holds the lists that the calls make, and no others.
-pub history-sound : {p : Setup} {cs : List Call} {rs : List Answer} {v : List ℕ} → History p cs rs v → decode v ≡ sound (stateOf p cs)
-unfolding stateOf
-history-sound {p} (begin {w = w} h) =
-    let e : layoutNo w (p .family) (p .sets) (p .nodes) (p .shares) (p .limits) ≡ 0 = sym (ap (λ a. a .0) (h .answer)) in
-    rw (h .words, e) (decode-laid w (p .family) (p .sets) (p .nodes) (p .shares) (p .limits) e)
-history-sound {p} (step {cs = cs} {c = c} h o) = decode-outcome (stateOf p cs) c (history-sound h) o
+-- "Every memory reached from a layout by these calls is sound." It holds the lists that the calls make, and no others. A layout begins a history, where it is granted.
+pub layout-begins : {w v : List ℕ} {p : Setup} {n : ℕ} → Laid w p (0, n) v → decode v ≡ sound (emptyState p)
+layout-begins {w} {p = p} h =
+    let e : layoutNo w p ≡ 0 = sym (ap (λ a. a .0) (h .answer)) in
+    rw (h .words, e) (decode-laid w p e)
 
-module _ {p : Setup} {cs : List Call} {rs : List Answer} {v : List ℕ} (h : History p cs rs v) where
-  -- the rules of a state hold
-  pub history-state : isState (stateOf p cs) ≡ true
-  history-state = decode-state v (stateOf p cs) (history-sound h)
+module _ {w : List ℕ} {S : State} (d : decode w ≡ sound S) where
+  pub history-sound : {cs : List Call} {rs : List (ℕ × ℕ)} {v : List ℕ} → History w cs rs v → decode v ≡ sound (stateFrom S cs)
+  unfolding stateFrom
+  history-sound begin = d
+  history-sound (step {cs = cs} {c = c} h o) = outcome-decode (stateFrom S cs) c (history-sound h) o
 
-  -- "Sound memory gives each set one list within its limit".
-  pub history-limit : (k : ℕ) → held (setAt (stateOf p cs) k) ≤ setAt (stateOf p cs) k .limit
-  history-limit k = held-limit (stateOf p cs) k history-state
+  -- "No call touches words past the smallest buffer."
+  pub history-past : {cs : List Call} {rs : List (ℕ × ℕ)} {v : List ℕ} → History w cs rs v → Past (leastWords (length (S .sets)) (S .nodes)) w v
+  history-past begin = past-refl _ w
+  history-past (step {cs = cs} {c = c} h o) =
+      let n = stateFrom-numbers S cs in
+      past-trans (history-past h) (rw (n .1, n .2) at (outcome-past (stateFrom S cs) c (history-sound h) o))
 
-  -- "A set's list holds its networks in the order of the Rust's iteration: shorter length first, then smaller address. No member lies inside another." The laws of nets on
-  -- what the calls cover ask no more.
-  pub lists-valid : (k : ℕ) → isList (width (p .family)) (listAt (stateOf p cs) k) ≡ true
-  lists-valid k = rw (stateOf-numbers p cs .0) at (isList-listAt (stateOf p cs) k history-state)
+  module _ {cs : List Call} {rs : List (ℕ × ℕ)} {v : List ℕ} (h : History w cs rs v) where
+    -- the rules of a state hold
+    pub history-state : isState (stateFrom S cs) ≡ true
+    history-state = decode-state v (stateFrom S cs) (history-sound h)
 
-  -- "The free report equals the pool's nodes less the nodes of all lists."
-  pub free-exact : (freeRule (decode v) ≡ (0, freeOf (stateOf p cs))) × (freeOf (stateOf p cs) + used (stateOf p cs .sets) ≡ p .nodes)
-  unfolding freeRule answerOn
-  free-exact = (rw (history-sound h), freeOf-is (stateOf p cs) history-state ∙ stateOf-numbers p cs .1)
+    -- "Sound memory gives each set one list within its limit".
+    pub history-limit : (k : ℕ) → held (setAt (stateFrom S cs) k) ≤ setAt (stateFrom S cs) k .limit
+    history-limit k = held-limit (stateFrom S cs) k history-state
 
--- A further call.
-module _ {p : Setup} {cs : List Call} {rs : List Answer} {w v : List ℕ} {r : Answer} (c : Call) (h : History p cs rs w) (o : Outcome w c r v) where
-  -- "The smallest number that applies is answered." "A granted changing call returns the nodes of its result."
-  pub history-answer : answerAs r ≡ answerOf (stateOf p cs) c
-  history-answer = answerAs-outcome (stateOf p cs) c (history-sound h) o
+    -- "A set's list holds its networks in the order of the Rust's iteration: shorter length first, then smaller address. No member lies inside another." The laws of nets on
+    -- what the calls cover ask no more.
+    pub lists-valid : (k : ℕ) → isList (width (S .family)) (listAt (stateFrom S cs) k) ≡ true
+    lists-valid k = rw (stateFrom-numbers S cs .0) at (isList-listAt (stateFrom S cs) k history-state)
 
-  number-is : answerAs r .0 ≡ callNo (stateOf p cs) c
-  number-is = ap (λ a. a .0) history-answer
+    -- "The free report equals the pool's nodes less the nodes of all lists."
+    pub free-exact : (freeRule (decode v) ≡ (0, freeOf (stateFrom S cs))) × (freeOf (stateFrom S cs) + used (stateFrom S cs .sets) ≡ S .nodes)
+    unfolding freeRule answerOn
+    free-exact = (rw (history-sound h), freeOf-is (stateFrom S cs) history-state ∙ stateFrom-numbers S cs .1)
 
-  -- "the sum over all sets of the larger of share and nodes is at most the pool's": so a result within the share is never refused for room.
-  pub share-granted : nodesL (resultOf c (stateOf p cs)) ≤ setAt (stateOf p cs) (target c) .share → answerAs r .0 ≡ 10 → ⊥
-  share-granted le e = omega (arith, number-is, callNo-share (stateOf p cs) c (history-state h) le)
+    -- A further call.
+    module _ {u : List ℕ} {r : ℕ × ℕ} (c : Call) (o : Outcome v c r u) where
+      -- "The smallest number that applies is answered." "A granted changing call returns the nodes of its result."
+      pub history-answer : r ≡ answerOf (stateFrom S cs) c
+      history-answer = outcome-answer (stateFrom S cs) c (history-sound h) o
 
-  -- "Room for a set is the pool's nodes less, for every other set, the larger of its share and the nodes of its list. A changing call is judged by the nodes of its result alone".
-  pub room-exact : target c < length (stateOf p cs .sets) → argsNo c (stateOf p cs) ≡ 0
-      → nodesL (resultOf c (stateOf p cs)) ≤ setAt (stateOf p cs) (target c) .limit
-      → (nodesL (resultOf c (stateOf p cs)) ≤ roomOf (stateOf p cs) (target c) → answerAs r .0 ≡ 0)
-      × (roomOf (stateOf p cs) (target c) < nodesL (resultOf c (stateOf p cs)) → answerAs r .0 ≡ 10)
-  room-exact lt a le =
-      let e = number-is ∙ callNo-room (stateOf p cs) c lt a le in
-      (λ k. rw (le-ltb _ _ k) at e, λ k. rw (lt-ltb _ _ k) at e)
+      number-is : r .0 ≡ callNo (stateFrom S cs) c
+      number-is = ap (λ a. a .0) history-answer
+
+      -- "the sum over all sets of the larger of share and nodes is at most the pool's": so a result within the share is never refused for room.
+      pub share-granted : nodesL (resultOf c (stateFrom S cs)) ≤ setAt (stateFrom S cs) (target c) .share → r .0 ≡ 10 → ⊥
+      share-granted le e = omega (arith, number-is, callNo-share (stateFrom S cs) c history-state le)
+
+      -- "Room for a set is the pool's nodes less, for every other set, the larger of its share and the nodes of its list. A changing call is judged by the nodes of its result alone".
+      pub room-exact : target c < length (stateFrom S cs .sets) → argsNo c (stateFrom S cs) ≡ 0
+          → nodesL (resultOf c (stateFrom S cs)) ≤ setAt (stateFrom S cs) (target c) .limit
+          → (nodesL (resultOf c (stateFrom S cs)) ≤ roomOf (stateFrom S cs) (target c) → r .0 ≡ 0)
+          × (roomOf (stateFrom S cs) (target c) < nodesL (resultOf c (stateFrom S cs)) → r .0 ≡ 10)
+      room-exact lt a le =
+          let e = number-is ∙ callNo-room (stateFrom S cs) c lt a le in
+          (λ k. rw (le-ltb _ _ k) at e, λ k. rw (lt-ltb _ _ k) at e)
+
+  -- "demand 2 holds after each step": all answers of a history are those of the rules, and so the state and the calls determine them.
+  pub history-answers : {cs : List Call} {rs : List (ℕ × ℕ)} {v : List ℕ} → History w cs rs v → rs ≡ answersFrom S cs
+  unfolding answersFrom
+  history-answers begin = refl
+  history-answers (step {c = c} h o) = rw (history-answer h c o, history-answers h)
 
 -- "merge, intersect and exclude write a third set": every call writes one set; the list of no other changes, and no share and no limit.
-pub only-written : (p : Setup) (cs : List Call) (c : Call) (j : ℕ)
-    → ((j ≡ target c → ⊥) → listAt (stateOf p (c ∷ cs)) j ≡ listAt (stateOf p cs) j)
-    × (setAt (stateOf p (c ∷ cs)) j .share ≡ setAt (stateOf p cs) j .share)
-    × (setAt (stateOf p (c ∷ cs)) j .limit ≡ setAt (stateOf p cs) j .limit)
-unfolding stateOf
-only-written p cs c j =
-    let h = stateAfter-plan (stateOf p cs) c j in
-    (λ ne. ap (λ (s : SetState). s .list) (stateAfter-other (stateOf p cs) c j ne), h .0, h .1)
-
--- "demand 2 holds after each step": all answers of a history are those of the rules, and so the layout and the calls determine them.
-pub history-answers : {p : Setup} {cs : List Call} {rs : List Answer} {v : List ℕ} → History p cs rs v → map answerAs rs ≡ answersOf p cs
-unfolding answersOf
-history-answers (begin h) = refl
-history-answers (step {c = c} h o) = rw (history-answer c h o, history-answers h)
-
-pub answers-one : (rs ss : List Answer) → map answerAs rs ≡ map answerAs ss → rs ≡ ss
-answers-one [] [] e = refl
-answers-one [] (s ∷ ss) e = let z : _≡_ {A = ℕ} 0 1 = cc in absurd (omega arith)
-answers-one (r ∷ rs) [] e = let z : _≡_ {A = ℕ} 0 1 = cc in absurd (omega arith)
-answers-one (r ∷ rs) (s ∷ ss) e = let x = answerAs-one r s (cc) in let y = answers-one rs ss (cc) in cc
-
-pub history-determined : {p : Setup} {cs : List Call} {rs ss : List Answer} {u v : List ℕ} → History p cs rs u → History p cs ss v → rs ≡ ss
-history-determined {rs = rs} {ss = ss} h k = answers-one rs ss (history-answers h ∙ sym (history-answers k))
+pub only-written : (S : State) (cs : List Call) (c : Call) (j : ℕ)
+    → ((j ≡ target c → ⊥) → listAt (stateFrom S (c ∷ cs)) j ≡ listAt (stateFrom S cs) j)
+    × (setAt (stateFrom S (c ∷ cs)) j .share ≡ setAt (stateFrom S cs) j .share)
+    × (setAt (stateFrom S (c ∷ cs)) j .limit ≡ setAt (stateFrom S cs) j .limit)
+unfolding stateFrom
+only-written S cs c j =
+    let h = stateAfter-plan (stateFrom S cs) c j in
+    (λ ne. ap (λ (s : SetState). s .list) (stateAfter-other (stateFrom S cs) c j ne), h .0, h .1)
 
 -- "IPv6 pool, 100 nodes, shares 40 and 30, limits 60 and 80, both sets empty. On set 1, adding a /59 (60 nodes) is granted; a /60 or /79 instead gets 10, a /80 gets 9. With the
 -- /59 there, set 0 may add a /39; a /40 gets 10."
-abbrev pool100 : Setup
-pool100 = record { family = 6; sets = 2; nodes = 100; shares = 40 ∷ 30 ∷ []; limits = 60 ∷ 80 ∷ [] }
+abbrev pool100 : State
+pool100 = emptyState (setup 6 2 100 (40 ∷ 30 ∷ []) (60 ∷ 80 ∷ []))
 
 abbrev net : ℕ → Net
 net n = record { family = 6; hi = 0; lo = 0; len = n }
 
-pub worked-pool : (answersOf pool100 (add 1 (net 59) ∷ []) ≡ (0, 60) ∷ [])
-    × (answersOf pool100 (add 1 (net 60) ∷ []) ≡ (10, 0) ∷ [])
-    × (answersOf pool100 (add 1 (net 79) ∷ []) ≡ (10, 0) ∷ [])
-    × (answersOf pool100 (add 1 (net 80) ∷ []) ≡ (9, 0) ∷ [])
-    × (answersOf pool100 (add 0 (net 39) ∷ add 1 (net 59) ∷ []) ≡ (0, 40) ∷ (0, 60) ∷ [])
-    × (answersOf pool100 (add 0 (net 40) ∷ add 1 (net 59) ∷ []) ≡ (10, 0) ∷ (0, 60) ∷ [])
-unfolding stateOf answersOf stateAfter changeRules withList netRules refusalOf inRange width netBits bits addL nodesL before claimedBut claimed
+pub worked-pool : (answersFrom pool100 (add 1 (net 59) ∷ []) ≡ (0, 60) ∷ [])
+    × (answersFrom pool100 (add 1 (net 60) ∷ []) ≡ (10, 0) ∷ [])
+    × (answersFrom pool100 (add 1 (net 79) ∷ []) ≡ (10, 0) ∷ [])
+    × (answersFrom pool100 (add 1 (net 80) ∷ []) ≡ (9, 0) ∷ [])
+    × (answersFrom pool100 (add 0 (net 39) ∷ add 1 (net 59) ∷ []) ≡ (0, 40) ∷ (0, 60) ∷ [])
+    × (answersFrom pool100 (add 0 (net 40) ∷ add 1 (net 59) ∷ []) ≡ (10, 0) ∷ (0, 60) ∷ [])
+unfolding stateFrom answersFrom stateAfter changeRules withSet relistRules relistSet netRules refusalOf inRange width netBits bits addL nodesL before claimedBut claimed
 worked-pool = (refl, refl, refl, refl, refl, refl)

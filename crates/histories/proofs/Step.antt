@@ -7,7 +7,7 @@ use Prim.Native.Nat.{ℕ, _≤_, _<_}
 use native.Mathlib.Omega.{arith}
 use lib.Dec.{eqb, leb, ltb}
 use lib.ListN.{length}
-use borrow.Author.Tests.{leb-false, le-ltb, eqb-true}
+use borrow.Author.Tests.{leb-false, le-ltb, eq-eqb, eqb-true}
 use Rattle.nets.specs.Bits.{Bits}
 use Rattle.nets.specs.Lists.{within, isList, nodesL, mergeL, intersectL, excludeL}
 use Rattle.nets.specs.Networks.{width, netBits}
@@ -21,20 +21,21 @@ use Rattle.nets.proofs.Simplifying.{isList-simplify}
 use Rattle.nets.proofs.Combining.{isList-merge, isList-intersect}
 use Rattle.nets.proofs.Laws.{isList-remove, isList-exclude}
 use Rattle.pool_state.specs.States.{SetState, State, roomOf, isState}
-use Rattle.pool_state.specs.Decode.{sound, decode}
-use Rattle.pool_state.specs.Rules.{answerOn, unknown, answerAs}
-use Rattle.pool_state.specs.Changes.{setAt, listAt, setWith, withList, grantRules, changeRules, changeNo, changeRule, netRules}
-use Rattle.pool_state.specs.declared.Answer.{Answer}
+use Rattle.pool_state.specs.Decode.{leastWords, sound, decode}
+use Rattle.pool_state.specs.Rules.{answerOn, unknown}
+use Rattle.pool_state.specs.Changes.{setAt, listAt, withSet, changeRules, changeRule, setWith, grantRules, relistRules, relistSet, relistNo, netRules}
 use Rattle.pool_state.proofs.Claims.{isList-listAt}
-use Rattle.pool_state.proofs.WithList.{length-withList, withList-at, share-roomOf, isState-withList}
+use Rattle.pool_state.proofs.WithSet.{withSet-length, withSet-at, share-roomOf, isState-withSet}
 use Rattle.pool_state.proofs.Decoded.{decode-state}
-use Rattle.pool_state.proofs.Judged.{Granted, changeNo-known, changeNo-granted}
-use Rattle.pool_state.proofs.Leaves.{after-cases, after-other, after-plan, changed-leaves, netRules-within}
+use Rattle.pool_state.proofs.Judged.{changeNo-zero, relistNo-known}
+use Rattle.pool_state.proofs.Past.{Past}
+use Rattle.pool_state.proofs.Leaves.{after-cases, after-other, Keeps, Leaves, changed-leaves, after-plan, relist-keeps, netRules-within}
 use Rattle.combine.specs.Rules.{combineRules}
 use Rattle.setfile_format.specs.Files.{File, broken, file, readFile}
-use Rattle.setfile.specs.Loading.{loadRules, fileList}
+use Rattle.setfile.specs.Loading.{loadRules}
 use Rattle.setfile.proofs.LoadOutcomes.{isList-load}
-use Rattle.histories.specs.Calls.{Call, add, remove, simplify, merge, intersect, exclude, load, target, namesOne, rulesOf, argsNo, resultOf, callNo, answerOf, stateAfter, Outcome}
+use Rattle.histories.specs.Calls.{Call, add, remove, simplify, merge, intersect, exclude, load, target, namesOne, argsOf, argsNo, resultOf, rulesOf, nextOf, callNo, answerOf, stateAfter, Outcome}
+use Rattle.histories.specs.Histories.{SameAt}
 
 within-listAt : (S : State) (k : ℕ) → isState S ≡ true → within (width (S .family)) (listAt S k) ≡ true
 within-listAt S k e = isList-within (width (S .family)) (listAt S k) (isList-listAt S k e)
@@ -53,7 +54,7 @@ unfolding loadRules
 load-few broken k S = (omega arith, tt)
 load-few (file f l) k S = (omega arith, (omega arith, tt))
 
-rules-few : (c : Call) (S : State) → Few 9 (rulesOf c S)
+rules-few : (c : Call) (S : State) → Few 9 (argsOf c S)
 rules-few (add k n) S = net-few n S
 rules-few (remove k n) S = net-few n S
 rules-few (simplify k) S = tt
@@ -77,15 +78,10 @@ isList-resultOf (exclude to x y) S e a = isList-exclude (width (S .family)) (lis
 isList-resultOf (load k d) S e a = isList-load d k S a
 
 -- Two states that agree on a set.
-pub record SameAt (k : ℕ) (S T : State) : Type 0 where
-  pub family : S .family ≡ T .family
-  pub sets : length (S .sets) ≡ length (T .sets)
-  pub set : setAt S k ≡ setAt T k
-
 pub sameAt-list : {k : ℕ} {S T : State} → SameAt k S T → listAt S k ≡ listAt T k
 sameAt-list h = ap (λ (s : SetState). s .list) (h .set)
 
-net-same : (n : Net) (k : ℕ) (S T : State) → SameAt k S T → netRules n S ≡ netRules n T
+pub net-same : (n : Net) (k : ℕ) (S T : State) → SameAt k S T → netRules n S ≡ netRules n T
 unfolding netRules
 net-same n k S T h = rw (h .family)
 
@@ -100,9 +96,9 @@ unfolding combineRules
 combine-same L to a b S T e h =
     let x = eqb-true a to (and-left (eqb a to) (eqb b to) e) in
     let y = eqb-true b to (and-right (eqb a to) (eqb b to) e) in
-    rw (x, y, h .sets, sameAt-list h) (refl, refl)
+    rw (x, y, h .known, sameAt-list h) (refl, refl)
 
-pub call-same : (c : Call) (S T : State) → namesOne c ≡ true → SameAt (target c) S T → (rulesOf c S ≡ rulesOf c T) × (resultOf c S ≡ resultOf c T)
+pub call-same : (c : Call) (S T : State) → namesOne c ≡ true → SameAt (target c) S T → (argsOf c S ≡ argsOf c T) × (resultOf c S ≡ resultOf c T)
 call-same (add k n) S T e h = (net-same n k S T h, rw (sameAt-list h))
 call-same (remove k n) S T e h = (net-same n k S T h, rw (sameAt-list h))
 call-same (simplify k) S T e h = (refl, rw (sameAt-list h))
@@ -115,10 +111,10 @@ call-same (load k d) S T e h = (load-same (readFile d) k S T h, refl)
 abbrev pub limitRule : State → ℕ → List Bits → Rule
 limitRule S k l = (ltb (setAt S k .limit) (nodesL l), OverLimit)
 
-pub changeNo-share : (S : State) (k : ℕ) (a : List Rule) (l : List Bits) → isState S ≡ true → (firstNo a ≡ 0 → nodesL l ≤ setAt S k .share)
-    → changeNo S k a l ≡ firstNo (unknown S k ∷ (a ++ (limitRule S k l ∷ [])))
+pub relistNo-share : (S : State) (k : ℕ) (a : List Rule) (l : List Bits) → isState S ≡ true → (firstNo a ≡ 0 → nodesL l ≤ setAt S k .share)
+    → relistNo S k a l ≡ firstNo (unknown S k ∷ (a ++ (limitRule S k l ∷ [])))
 unfolding changeRules
-changeNo-share S k a l e f = go (leb (length (S .sets)) k) refl
+relistNo-share S k a l e f = go (leb (length (S .sets)) k) refl
   where
     args : k < length (S .sets) → (y : Bool) → eqb (firstNo a) 0 ≡ y
         → cond y (firstNo (grantRules S k l)) (firstNo a) ≡ cond y (firstNo (limitRule S k l ∷ [])) (firstNo a)
@@ -131,56 +127,73 @@ changeNo-share S k a l e f = go (leb (length (S .sets)) k) refl
 
 -- The number of the answer, and the answer.
 module _ (S : State) (c : Call) where
+  pub callNo-is : callNo S c ≡ relistNo S (target c) (argsOf c S) (resultOf c S)
+  unfolding relistRules
+  callNo-is = refl
+
+  pub nextOf-is : nextOf c S ≡ setWith (setAt S (target c)) (resultOf c S)
+  unfolding relistSet
+  nextOf-is = refl
+
   pub callNo-share : isState S ≡ true → nodesL (resultOf c S) ≤ setAt S (target c) .share → callNo S c ≤ 9
   callNo-share e le =
       let l = limitRule S (target c) (resultOf c S) in
-      rw (changeNo-share S (target c) (rulesOf c S) (resultOf c S) e (λ q. le))
-      (firstNo-few 9 (unknown S (target c) ∷ (rulesOf c S ++ (l ∷ []))) (omega arith, few-append 9 (rulesOf c S) (l ∷ []) (rules-few c S) (omega arith, tt)))
+      rw (callNo-is, relistNo-share S (target c) (argsOf c S) (resultOf c S) e (λ q. le))
+      (firstNo-few 9 (unknown S (target c) ∷ (argsOf c S ++ (l ∷ []))) (omega arith, few-append 9 (argsOf c S) (l ∷ []) (rules-few c S) (omega arith, tt)))
 
   pub callNo-room : target c < length (S .sets) → argsNo c S ≡ 0 → nodesL (resultOf c S) ≤ setAt S (target c) .limit → callNo S c ≡ cond (ltb (roomOf S (target c)) (nodesL (resultOf c S))) 10 0
-  callNo-room lt a le = changeNo-known S (target c) (rulesOf c S) (resultOf c S) lt ∙ rw (a, le-ltb (setAt S (target c) .limit) (nodesL (resultOf c S)) le)
+  callNo-room lt a le = callNo-is ∙ relistNo-known S (target c) (argsOf c S) (resultOf c S) lt ∙ rw (a, le-ltb (setAt S (target c) .limit) (nodesL (resultOf c S)) le)
 
-  callNo-granted : eqb (callNo S c) 0 ≡ true → Granted S (target c) (nodesL (resultOf c S)) × (argsNo c S ≡ 0)
-  callNo-granted q = changeNo-granted S (target c) (rulesOf c S) (resultOf c S) (eqb-true (callNo S c) 0 q)
-
-  pub answerAs-outcome : {w v : List ℕ} {r : Answer} → decode w ≡ sound S → Outcome w c r v → answerAs r ≡ answerOf S c
+  pub outcome-answer : {w v : List ℕ} {r : ℕ × ℕ} → decode w ≡ sound S → Outcome w c r v → r ≡ answerOf S c
   unfolding changeRule answerOn
-  answerAs-outcome d o = rw d at (o .answer)
+  outcome-answer d o = rw d at (o .answer)
+
+-- where a call is granted, what becomes of the set may stand in its place
+call-keeps : (S : State) (c : Call) → isState S ≡ true → Keeps S (target c) (rulesOf c S) (nextOf c S)
+unfolding relistRules relistSet
+call-keeps S c e = relist-keeps S (target c) (argsOf c S) (resultOf c S) e (isList-resultOf c S e)
 
 -- The state afterwards: only the list of the set that is written differs.
 module _ (S : State) (c : Call) where
-  stateAfter-cases : (P : State → Type 0) → (eqb (callNo S c) 0 ≡ true → P (withList S (target c) (resultOf c S))) → (eqb (callNo S c) 0 ≡ false → P S) → P (stateAfter S c)
+  stateAfter-cases : (P : State → Type 0) → (callNo S c ≡ 0 → P (withSet S (target c) (nextOf c S))) → (eqb (callNo S c) 0 ≡ false → P S) → P (stateAfter S c)
   unfolding stateAfter
-  stateAfter-cases = after-cases S (target c) (rulesOf c S) (resultOf c S)
+  stateAfter-cases = after-cases S (target c) (rulesOf c S) (nextOf c S)
 
   pub stateAfter-numbers : (stateAfter S c .family ≡ S .family) × (stateAfter S c .nodes ≡ S .nodes) × (length (stateAfter S c .sets) ≡ length (S .sets))
-  unfolding withList
+  unfolding withSet
   stateAfter-numbers =
       stateAfter-cases (λ T. (T .family ≡ S .family) × (T .nodes ≡ S .nodes) × (length (T .sets) ≡ length (S .sets)))
-      (λ q. (refl, refl, length-withList S (target c) (resultOf c S)))
+      (λ q. (refl, refl, withSet-length S (target c) (nextOf c S)))
       (λ q. (refl, refl, refl))
 
   pub stateAfter-plan : (j : ℕ) → (setAt (stateAfter S c) j .share ≡ setAt S j .share) × (setAt (stateAfter S c) j .limit ≡ setAt S j .limit)
-  unfolding stateAfter
-  stateAfter-plan = after-plan S (target c) (rulesOf c S) (resultOf c S)
+  unfolding stateAfter relistRules relistSet
+  stateAfter-plan = after-plan S (target c) (argsOf c S) (resultOf c S)
 
   pub stateAfter-other : (j : ℕ) → (j ≡ target c → ⊥) → setAt (stateAfter S c) j ≡ setAt S j
   unfolding stateAfter
-  stateAfter-other = after-other S (target c) (rulesOf c S) (resultOf c S)
+  stateAfter-other = after-other S (target c) (rulesOf c S) (nextOf c S)
 
-  pub stateAfter-own : setAt (stateAfter S c) (target c) ≡ cond (eqb (callNo S c) 0) (setWith (setAt S (target c)) (resultOf c S)) (setAt S (target c))
+  pub stateAfter-own : setAt (stateAfter S c) (target c) ≡ cond (eqb (callNo S c) 0) (nextOf c S) (setAt S (target c))
   stateAfter-own =
-      stateAfter-cases (λ T. setAt T (target c) ≡ cond (eqb (callNo S c) 0) (setWith (setAt S (target c)) (resultOf c S)) (setAt S (target c)))
-      (λ q. rw q (withList-at S (target c) (resultOf c S) (callNo-granted S c q .0 .known)))
+      stateAfter-cases (λ T. setAt T (target c) ≡ cond (eqb (callNo S c) 0) (nextOf c S) (setAt S (target c)))
+      (λ z. rw (eq-eqb (callNo S c) 0 z) (withSet-at S (target c) (nextOf c S) (changeNo-zero S (target c) (rulesOf c S) z .0)))
       (λ q. rw q)
 
-  -- it keeps the rules, and the words hold it
+  -- it keeps the rules, and the words hold it; no word past the smallest buffer is touched
   pub isState-after : isState S ≡ true → isState (stateAfter S c) ≡ true
   isState-after e =
       stateAfter-cases (λ T. isState T ≡ true)
-      (λ q. let (g, a) = callNo-granted S c q in isState-withList S (target c) e (g .known) (resultOf c S) (isList-resultOf c S e a) (g .limit) (g .room))
+      (λ z. let (lt, y) = changeNo-zero S (target c) (rulesOf c S) z in let (l, g) = call-keeps S c e lt y in isState-withSet S (target c) e lt (nextOf c S) l g)
       (λ q. e)
 
-  pub decode-outcome : {w v : List ℕ} {r : Answer} → decode w ≡ sound S → Outcome w c r v → decode v ≡ sound (stateAfter S c)
-  unfolding stateAfter
-  decode-outcome {w} d o = changed-leaves d (isList-resultOf c S (decode-state w S d)) o .holds
+  module _ {w v : List ℕ} {r : ℕ × ℕ} (d : decode w ≡ sound S) (o : Outcome w c r v) where
+    leaves : Leaves w S (target c) (rulesOf c S) (nextOf c S) v
+    leaves = changed-leaves d (call-keeps S c (decode-state w S d)) o
+
+    pub outcome-decode : decode v ≡ sound (stateAfter S c)
+    unfolding stateAfter
+    outcome-decode = leaves .holds
+
+    pub outcome-past : Past (leastWords (length (S .sets)) (S .nodes)) w v
+    outcome-past = leaves .past

@@ -6,16 +6,13 @@ use mathlib.Core.List.{List, _∷_}
 use mathlib.Core.Path.{_≡_}
 use Prim.Native.Nat.{ℕ}
 use Rattle.nets.specs.Groupings.{Grouping, set, both}
-use Rattle.nets.specs.declared.Refusal.{Refusal}
-use Rattle.pool_state.specs.declared.Answer.{Answer}
-use Rattle.pool_state.specs.declared.Answer.the-variants as answer
 use Rattle.histories.specs.Calls.{Call, merge, target}
 
-pub data MergedSince (cs : List Call) : List Call → List Answer → ℕ → Grouping → Type 0 where
-  since : {ss : List Answer} {x : ℕ} → MergedSince cs cs ss x (set x)
-  merged : {ds : List Call} {ss : List Answer} {x a b n : ℕ} {g h : Grouping}
-      → MergedSince cs ds ss a g → MergedSince cs ds ss b h → MergedSince cs (merge x a b ∷ ds) (answer.Granted n ∷ ss) x (both g h)
-  other : {ds : List Call} {ss : List Answer} {x : ℕ} {g : Grouping} {c : Call} {r : Answer}
+pub data MergedSince (cs : List Call) : List Call → List (ℕ × ℕ) → ℕ → Grouping → Type 0 where
+  since : {ss : List (ℕ × ℕ)} {x : ℕ} → MergedSince cs cs ss x (set x)
+  merged : {ds : List Call} {ss : List (ℕ × ℕ)} {x a b n : ℕ} {g h : Grouping}
+      → MergedSince cs ds ss a g → MergedSince cs ds ss b h → MergedSince cs (merge x a b ∷ ds) ((0, n) ∷ ss) x (both g h)
+  other : {ds : List Call} {ss : List (ℕ × ℕ)} {x : ℕ} {g : Grouping} {c : Call} {r : ℕ × ℕ}
       → MergedSince cs ds ss x g → (target c ≡ x → ⊥) → MergedSince cs (c ∷ ds) (r ∷ ss) x g
-  refused : {ds : List Call} {ss : List Answer} {x : ℕ} {g : Grouping} {c : Call} {e : Refusal}
-      → MergedSince cs ds ss x g → MergedSince cs (c ∷ ds) (answer.Refused e ∷ ss) x g
+  refused : {ds : List Call} {ss : List (ℕ × ℕ)} {x : ℕ} {g : Grouping} {c : Call} {r : ℕ × ℕ}
+      → MergedSince cs ds ss x g → (r .0 ≡ 0 → ⊥) → MergedSince cs (c ∷ ds) (r ∷ ss) x g

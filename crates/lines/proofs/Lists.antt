@@ -13,26 +13,25 @@ use Rattle.nets.specs.declared.Net.{Net}
 use Rattle.text.specs.Ipv4.{readLine}
 use Rattle.pool_state.specs.States.{State}
 use Rattle.pool_state.specs.Decode.{sound, decode}
-use Rattle.pool_state.specs.Changes.{listAt, withList, changeNo, changeRule, netRules}
+use Rattle.pool_state.specs.Changes.{setAt, listAt, withSet, changeRule, setWith, relistRules, relistSet, relistNo, netRules}
 use Rattle.pool_state.specs.Rules.{answerOn}
-use Rattle.pool_state.specs.declared.Answer.the-variants.{Granted}
-use Rattle.pool_state.proofs.WithList.{length-withList, withList-list}
+use Rattle.pool_state.proofs.WithSet.{withSet-length, withSet-list}
 use Rattle.change.specs.Calls.{listWith, Added}
 use Rattle.change.proofs.Outcomes.{add-leaves}
 use Rattle.lines.specs.Lines.{addNo, addWords, lineNo, wordsWith, taken, withLines}
 
 -- An added network.
 module _ (w : List ℕ) (S : State) (n : Net) (d : decode w ≡ sound S) (e : addNo w n ≡ 0) where
-  granted : changeNo S 0 (netRules n S) (listWith 0 n S) ≡ 0
-  unfolding changeRule answerOn
-  granted = sym (ap (λ D. changeRule D 0 (netRules n) (listWith 0 n) .0) d) ∙ e
+  granted : relistNo S 0 (netRules n S) (listWith 0 n S) ≡ 0
+  unfolding changeRule answerOn relistRules
+  granted = sym (ap (λ D. changeRule D 0 (relistRules 0 (netRules n) (listWith 0 n)) (relistSet 0 (listWith 0 n)) .0) d) ∙ e
 
-  added : Added w 0 n (Granted (nodesL (listWith 0 n S))) (addWords w n)
-  unfolding changeRule answerOn
+  added : Added w 0 n (0, nodesL (listWith 0 n S)) (addWords w n)
+  unfolding changeRule answerOn relistRules relistSet
   added = record { answer = rw (d, granted); words = refl }
 
-  decode-added : decode (addWords w n) ≡ sound (withList S 0 (listWith 0 n S))
-  decode-added = add-leaves n d added .holds ∙ ap (λ m. sound (cond (eqb m 0) (withList S 0 (listWith 0 n S)) S)) granted
+  decode-added : decode (addWords w n) ≡ sound (withSet S 0 (setWith (setAt S 0) (listWith 0 n S)))
+  decode-added = add-leaves n d added .leaves .holds ∙ ap (λ m. sound (cond (eqb m 0) (withSet S 0 (setWith (setAt S 0) (listWith 0 n S))) S)) granted
 
 -- An added line.
 line-added : (w l : List ℕ) → lineNo w l ≡ 0 → (addNo w (readLine l .1) ≡ 0) × (wordsWith w l ≡ addWords w (readLine l .1))
@@ -47,7 +46,7 @@ line-added w l e = go (eqb (readLine l .0) 0) refl e
     go false q h = absurd (eqb-false (readLine l .0) 0 q h)
 
 decode-line : (w l : List ℕ) (S : State) → decode w ≡ sound S → lineNo w l ≡ 0
-    → decode (wordsWith w l) ≡ sound (withList S 0 (addL (listAt S 0) (netBits (readLine l .1))))
+    → decode (wordsWith w l) ≡ sound (withSet S 0 (setWith (setAt S 0) (addL (listAt S 0) (netBits (readLine l .1)))))
 decode-line w l S d e = let x = line-added w l e in ap decode (x .1) ∙ decode-added w S (readLine l .1) d (x .0)
 
 -- The words v hold set 0 with the lines added.
@@ -62,8 +61,8 @@ taken-list [] k w S d lt e = record { state = S; decoded = d; list = refl }
 taken-list (l ∷ ls) k w S d lt e = go (eqb (lineNo w l) 0) refl e
     (λ q.
     let m = addL (listAt S 0) (netBits (readLine l .1)) in
-    let h = taken-list ls (k + 1) (wordsWith w l) (withList S 0 m) (decode-line w l S d q) (omega (arith, length-withList S 0 m)) in
-    λ z. let x = h z in record { state = x .state; decoded = x .decoded; list = x .list ∙ ap (λ y. withLines y ls) (withList-list S 0 m lt) })
+    let h = taken-list ls (k + 1) (wordsWith w l) (withSet S 0 (setWith (setAt S 0) m)) (decode-line w l S d q) (omega (arith, withSet-length S 0 (setWith (setAt S 0) m))) in
+    λ z. let x = h z in record { state = x .state; decoded = x .decoded; list = x .list ∙ ap (λ y. withLines y ls) (withSet-list S 0 m lt) })
   where
     go : (b : Bool) → eqb (lineNo w l) 0 ≡ b → cond b (taken (k + 1) (wordsWith w l) ls) (record { number = k; no = lineNo w l; words = w }) .no ≡ 0
         → (lineNo w l ≡ 0 → taken (k + 1) (wordsWith w l) ls .no ≡ 0 → Holds S (l ∷ ls) (taken (k + 1) (wordsWith w l) ls .words))

@@ -13,13 +13,11 @@ use Rattle.nets.specs.declared.Refusal.{Refusal}
 use Rattle.nets.specs.declared.Taken.{Taken}
 use Rattle.nets.specs.declared.Taken.the-variants as taken
 use Rattle.pool_state.specs.Decode.{decode}
-use Rattle.pool_state.specs.Changes.{changeRule, wordsAfter, netRules}
-use Rattle.pool_state.specs.Rules.{answerAs}
-use Rattle.pool_state.specs.declared.Answer.{Answer}
+use Rattle.pool_state.specs.Changes.{changeRule, wordsAfter}
 use Rattle.pool_state.proofs.Answered.{leftOn-refused}
-use Rattle.change.specs.Calls.{listWith, Added}
+use Rattle.change.specs.Calls.{Added}
 use Rattle.text.specs.Ipv4.{readLine}
-use Rattle.lines.specs.Lines.{lineNo, wordsWith}
+use Rattle.lines.specs.Lines.{addNo, addWords, lineNo, wordsWith}
 
 pub took-refused : {t : Taken} {r : Refusal} {no : ℕ} (w l : List ℕ) → t ≡ taken.Refused r → takenAs t ≡ readLine l → no ≡ number r → (no ≡ lineNo w l) × (w ≡ wordsWith w l)
 unfolding lineNo wordsWith
@@ -27,7 +25,7 @@ took-refused {t} {r} {no} w l e h n =
     let q : readLine l ≡ (number r, noNet) = sym h ∙ ap takenAs e in
     rw (q, ne-eqb (number r) 0 (number-some r)) (n, refl)
 
-pub took-added : {t : Taken} {n : Net} {a : Answer} {no : ℕ} (w l v : List ℕ) → t ≡ taken.Network n → takenAs t ≡ readLine l → Added w 0 n a v → no ≡ answerAs a .0
+pub took-added : {t : Taken} {n : Net} {a : ℕ × ℕ} {no : ℕ} (w l v : List ℕ) → t ≡ taken.Network n → takenAs t ≡ readLine l → Added w 0 n a v → no ≡ a .0
     → (no ≡ lineNo w l) × (v ≡ wordsWith w l)
 unfolding lineNo wordsWith
 took-added {t} {n} {a} {no} w l v e h d k =
@@ -42,7 +40,7 @@ wordsWith-refused w l ne = go (eqb (readLine l .0) 0) ne
     n : Net
     n = readLine l .1
 
-    go : (b : Bool) → (cond b (changeRule (decode w) 0 (netRules n) (listWith 0 n) .0) (readLine l .0) ≡ 0 → ⊥)
-        → cond b (wordsAfter w (decode w) 0 (netRules n) (listWith 0 n)) w ≡ w
+    go : (b : Bool) → (cond b (addNo w n) (readLine l .0) ≡ 0 → ⊥)
+        → cond b (addWords w n) w ≡ w
     go true h = leftOn-refused _ 0 _ w _ (decode w) h
     go false h = refl

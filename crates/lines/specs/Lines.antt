@@ -16,7 +16,7 @@ use Rattle.nets.specs.Networks.{netBits}
 use Rattle.nets.specs.declared.Net.{Net}
 use Rattle.text.specs.Ipv4.{readLine}
 use Rattle.pool_state.specs.Decode.{decode}
-use Rattle.pool_state.specs.Changes.{changeRule, wordsAfter, netRules}
+use Rattle.pool_state.specs.Changes.{changeRule, wordsAfter, relistRules, relistSet, netRules}
 use Rattle.change.specs.Calls.{listWith}
 
 abbrev pub lineFeed : ℕ
@@ -33,10 +33,10 @@ linesOf (b ∷ s) = let ls = linesOf s in cond (eqb b lineFeed) ([] ∷ ls) (inF
 
 -- the number and the words of adding a network to set 0
 abbrev pub addNo : List ℕ → Net → ℕ
-addNo w n = changeRule (decode w) 0 (netRules n) (listWith 0 n) .0
+addNo w n = changeRule (decode w) 0 (relistRules 0 (netRules n) (listWith 0 n)) (relistSet 0 (listWith 0 n)) .0
 
 abbrev pub addWords : List ℕ → Net → List ℕ
-addWords w n = wordsAfter w (decode w) 0 (netRules n) (listWith 0 n)
+addWords w n = wordsAfter w (decode w) 0 (relistRules 0 (netRules n) (listWith 0 n)) (relistSet 0 (listWith 0 n))
 
 unfoldable pub lineNo : List ℕ → List ℕ → ℕ
 lineNo w l = let r = readLine l in cond (eqb (r .0) 0) (addNo w (r .1)) (r .0)

@@ -11,7 +11,7 @@ ghost use Prim.Native.Nat.{_≤_};
 ghost use lib.ListN.{length, replicate};
 ghost use Rattle.nodes.specs.Words.{put};
 ghost use Rattle.pool_state.specs.Decode.{mark, base, leastWords, overRecords};
-ghost use Rattle.pool_state.specs.Rules.{sharesFit, isSetup, emptySets};
+ghost use Rattle.pool_state.specs.Rules.{sharesFit, setup, isSetup, emptySets};
 
 // The words of the smallest buffer. The sum cannot wrap, whatever the counts are.
 pub fn least_words(sets: u32, nodes: u32) -> usize
@@ -56,7 +56,7 @@ pub fn is_setup(
     shares: &[u32],
     limits: &[u32],
 ) -> bool
-    ensures { λ r. ⌜ r ≡ isSetup words family sets nodes (now (shares .entry)) (now (limits .entry)) ⌝ }
+    ensures { λ r. ⌜ r ≡ isSetup words (setup family sets nodes (now (shares .entry)) (now (limits .entry))) ⌝ }
 {
     is_family(family as u32)
         && is_size(sets, nodes)

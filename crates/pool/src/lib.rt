@@ -9,7 +9,7 @@ pub use pool_state::Report;
 pub use pool_state::Told;
 ghost use mathlib.Core.Path.{_≡_};
 ghost use Rattle.pool_state.specs.Decode.{decode};
-ghost use Rattle.pool_state.specs.Rules.{answerAs, reportAs, Laid, freeRule, heldRule, planRule};
+ghost use Rattle.pool_state.specs.Rules.{answerAs, reportAs, setup, Laid, freeRule, heldRule, planRule};
 
 mod laying;
 
@@ -22,7 +22,7 @@ pub fn layout(
     shares: &[u32],
     limits: &[u32],
 ) -> Answer
-    ensures { λ r. ⌜ Laid (now (pool .entry)) family sets nodes (now (shares .entry)) (now (limits .entry)) r (now (pool .exit)) ⌝ }
+    ensures { λ r. ⌜ Laid (now (pool .entry)) (setup family sets nodes (now (shares .entry)) (now (limits .entry))) (answerAs r) (now (pool .exit)) ⌝ }
 {
     if laying::is_setup(pool.len(), family, sets, nodes, shares, limits) {
         laying::clear(pool, laying::least_words(sets, nodes));

@@ -7,66 +7,66 @@ use Prim.Native.Nat.{ℕ, zero, suc, _+_, _≤_, _<_}
 use native.Mathlib.Omega.{arith}
 use lib.ListN.{length, getD, take, drop}
 use Rattle.nets.specs.Bits.{Bits}
-use Rattle.nets.specs.Lists.{isList, nodesL}
+use Rattle.nets.specs.Lists.{isList}
 use Rattle.nets.specs.Tries.{Trie, size, levels, listOf, trieOf}
 use Rattle.nets.specs.Networks.{width}
-use Rattle.nets.proofs.Nodes.{nodesL-listOf}
 use Rattle.nets.proofs.TrieOf.{trieOf-listOf, isList-listOf}
 use Rattle.nodes.specs.Words.{put, Has, Apart, place, enc}
 use Rattle.pool_state.specs.States.{SetState, State, held, used, claimedBut, roomOf}
 use Rattle.pool_state.specs.Decode.{recordAt, base, rootAt, nodeWords, over, sound, decode}
 use Rattle.pool_state.specs.Rules.{noSet, startOf, surveyOf}
-use Rattle.pool_state.specs.Changes.{setAt, setsWith, withList}
+use Rattle.pool_state.specs.Changes.{setAt, setsWith, withSet, setWith}
 use Rattle.pool_state.specs.Steps.{behindAt, Gap, relinked, Movable, Relink}
 use Rattle.pool_state.specs.declared.Survey.{Survey}
 use Rattle.nodes.proofs.Put.{put-behind, put-behind-at, put-before-at, length-put, getD-put-before}
 use Rattle.nodes.proofs.Has.{has-put, has-same}
 use Rattle.nodes.proofs.Tries.{length-enc}
 use Rattle.pool_state.proofs.Claims.{isState-claimed, used-claimed, claimedBut-is}
-use Rattle.pool_state.proofs.WithList.{length-setsWith, isState-withList}
+use Rattle.pool_state.proofs.WithSet.{Fits, length-setsWith, isState-withSet}
 use Rattle.pool_state.proofs.Relinked.{relinked-put, overRecords-relinked}
 use Rattle.pool_state.proofs.Encoded.{decode-sound}
 use Rattle.pool_state.proofs.Decoded.{decode-header, decode-state, decode-root, decode-over}
-use Rattle.pool_state.proofs.Judged.{Granted}
 use Rattle.pool_state.proofs.Seen.{Seen, placeOf, before, behind, before-has, before-length, behind-has, behindAt-is, seen-state, seen-header, seen-figures, survey-seen}
 
--- the words of the nodes afterwards
-nodeWords-setsWith : (k : ℕ) (t : Trie) (ss : List SetState) → k < length ss → nodeWords (setsWith k (listOf t) ss) ≡ nodeWords (take k ss) ++ (enc t ++ nodeWords (drop (suc k) ss))
+-- the words of the nodes afterwards: those of the sets before and behind are the same
+nodeWords-setsWith : (k : ℕ) (x : SetState) (ss : List SetState) → k < length ss
+    → nodeWords (setsWith k x ss) ≡ nodeWords (take k ss) ++ (enc (trieOf (x .list)) ++ nodeWords (drop (suc k) ss))
 unfolding nodeWords
-nodeWords-setsWith k t [] lt = absurd (omega arith)
-nodeWords-setsWith zero t (x ∷ xs) lt = rw (trieOf-listOf t)
-nodeWords-setsWith (suc k) t (x ∷ xs) lt = rw (nodeWords-setsWith k t xs (omega arith)) (sym (append-assoc (enc (trieOf (x .list))) (nodeWords (take k xs)) _))
+nodeWords-setsWith k x [] lt = absurd (omega arith)
+nodeWords-setsWith zero x (s ∷ ss) lt = refl
+nodeWords-setsWith (suc k) x (s ∷ ss) lt = rw (nodeWords-setsWith k x ss (omega arith)) (sym (append-assoc (enc (trieOf (s .list))) (nodeWords (take k ss)) _))
 
 -- to write again what stands there
 put-front : {w : List ℕ} {p : ℕ} {xs : List ℕ} (ys : List ℕ) → Has w p xs → put w p (xs ++ ys) ≡ put w (p + length xs) ys
 put-front {w} {p} {xs} ys h = sym (put-behind w p xs ys) ∙ ap (λ u. put u (p + length xs) ys) (has-same h)
 
--- A granted list leaves a state again, and words that hold it.
-pub decode-granted : (w : List ℕ) (S : State) (k : ℕ) (l : List Bits) → decode w ≡ sound S → Granted S k (nodesL l) → isList (width (S .family)) l ≡ true
-    → decode (over w (withList S k l)) ≡ sound (withList S k l)
-unfolding withList
-decode-granted w S k l d g i =
-    decode-over w (withList S k l)
-    (isState-withList S k (decode-state w S d) (g .known) l i (g .limit) (g .room))
-    (rw (length-setsWith k l (S .sets)) (decode-header w S d .long))
+-- What fits leaves words that hold the state with it.
+pub decode-withSet : (w : List ℕ) (S : State) (k : ℕ) (x : SetState) → decode w ≡ sound S → k < length (S .sets) → isList (width (S .family)) (x .list) ≡ true → Fits S k x
+    → decode (over w (withSet S k x)) ≡ sound (withSet S k x)
+unfolding withSet
+decode-withSet w S k x d lt i f =
+    decode-over w (withSet S k x)
+    (isState-withSet S k (decode-state w S d) lt x i f)
+    (rw (length-setsWith k x (S .sets)) (decode-header w S d .long))
 
 -- the words with the trie t in the place of the set, and the sets behind it behind it
 abbrev pub withTrie : List ℕ → State → ℕ → Survey → Trie → List ℕ
 withTrie w S k v t = put w (placeOf w v) (enc t ++ behind S k)
 
 module _ {w : List ℕ} {S : State} {k : ℕ} {v : Survey} (h : Seen w S k v) (t : Trie) where
-  pub over-change : {u : List ℕ} → u ≡ withTrie w S k v t → relinked u k (v .at) (v .held) (size t) ≡ over w (withList S k (listOf t))
-  unfolding over withList
+  pub over-change : {u : List ℕ} → u ≡ withTrie w S k v t → relinked u k (v .at) (v .held) (size t) ≡ over w (withSet S k (setWith (setAt S k) (listOf t)))
+  unfolding over withSet
   over-change {u} e =
       let m = length (S .sets) in
       let d = decode-sound w S (h .decoded) in
       let q = seen-header h .sets in
-      let xs = nodeWords (setsWith k (listOf t) (S .sets)) in
+      let y = setWith (setAt S k) (listOf t) in
+      let xs = nodeWords (setsWith k y (S .sets)) in
       let i : placeOf w v ≡ base m + length (before S k) = omega (arith, before-length h) in
       let a : put w (base m) (before S k ++ (enc t ++ behind S k)) ≡ u = put-front (enc t ++ behind S k) (before-has h) ∙ ap (λ p. put w p (enc t ++ behind S k)) (sym i) ∙ sym e in
-      let b : put w (base m) xs ≡ u = ap (put w (base m)) (nodeWords-setsWith k t (S .sets) (h .known)) ∙ a in
+      let b : put w (base m) xs ≡ u = ap (put w (base m)) (nodeWords-setsWith k y (S .sets) (h .known) ∙ ap (λ z. before S k ++ (enc z ++ behind S k)) (trieOf-listOf t)) ∙ a in
       rw (
-        length-setsWith k (listOf t) (S .sets),
+        length-setsWith k y (S .sets),
         has-same (d .header),
         overRecords-relinked w k t (S .sets) q (h .known) (d .holds .records),
         ← h .at,
@@ -76,10 +76,10 @@ module _ {w : List ℕ} {S : State} {k : ℕ} {v : Survey} (h : Seen w S k v) (t
       (relinked-put w k (v .at) (v .held) (size t) (base m) xs (omega (arith, h .known)) (omega arith))
 
   -- it is sound again
-  pub decode-change : {u : List ℕ} → levels t ≤ suc (width (S .family)) → Granted S k (size t) → u ≡ withTrie w S k v t
-      → decode (relinked u k (v .at) (v .held) (size t)) ≡ sound (withList S k (listOf t))
-  decode-change deep g e =
-      rw (over-change e) (decode-granted w S k (listOf t) (h .decoded) (rw (nodesL-listOf t) g) (isList-listOf (width (S .family)) t deep))
+  pub decode-change : {u : List ℕ} → levels t ≤ suc (width (S .family)) → Fits S k (setWith (setAt S k) (listOf t)) → u ≡ withTrie w S k v t
+      → decode (relinked u k (v .at) (v .held) (size t)) ≡ sound (withSet S k (setWith (setAt S k) (listOf t)))
+  decode-change deep f e =
+      rw (over-change e) (decode-withSet w S k (setWith (setAt S k) (listOf t)) (h .decoded) (h .known) (isList-listOf (width (S .family)) t deep) f)
 
 -- The two orders of writing: the sets behind are moved first, and then the trie is written; or they are moved last, where the trie is no longer than it was.
 module _ {w : List ℕ} {S : State} {k : ℕ} {v : Survey} (h : Seen w S k v) (t : Trie) where

@@ -18,7 +18,7 @@ use Rattle.nodes.specs.Words.{put, Has, enc}
 use Rattle.nodes.specs.Parse.{Stands}
 use Rattle.pool_state.specs.States.{State, used, claimed, isSet, areSets, isState}
 use Rattle.pool_state.specs.Decode.{recordAt, base, leastWords, rootAt, nodeWords, over, sound, decode}
-use Rattle.pool_state.specs.Rules.{noSet, startOf, total, layoutNo, emptySets, laid, withinLimits, isSetup}
+use Rattle.pool_state.specs.Rules.{noSet, startOf, total, Setup, layoutNo, emptySets, emptyState, laid, withinLimits, isSetup}
 use Rattle.nodes.proofs.Put.{length-put}
 use Rattle.nodes.proofs.Has.{has-head, has-at}
 use Rattle.pool_state.proofs.Claims.{isState-sets, isState-claimed, used-claimed}
@@ -90,22 +90,29 @@ emptySets-is v (x ∷ shares) (y ∷ limits) e =
     let h = emptySets-is v shares limits (and-right (leb x y) (withinLimits shares limits) e) in
     (rw (isSet-empty v x y (and-left (leb x y) (withinLimits shares limits) e)) (h .0), omega (arith, h .1, nodesL-empty))
 
-layoutNo-kept : (w : List ℕ) (family sets nodes : ℕ) (shares limits : List ℕ) → layoutNo w family sets nodes shares limits ≡ 0 → Kept (length w) family sets nodes shares limits
+layoutNo-kept : (w : List ℕ) (p : Setup) → layoutNo w p ≡ 0 → Kept (length w) p
 unfolding layoutNo
-layoutNo-kept w family sets nodes shares limits e = isSetup-kept (length w) family sets nodes shares limits (go (isSetup (length w) family sets nodes shares limits) e)
+layoutNo-kept w p e = isSetup-kept (length w) p (go (isSetup (length w) p) e)
   where
     go : (b : Bool) → _≡_ {A = ℕ} (cond b 0 1) 0 → b ≡ true
     go true e = refl
     go false e = absurd (omega arith)
 
-pub decode-laid : (w : List ℕ) (family sets nodes : ℕ) (shares limits : List ℕ) → layoutNo w family sets nodes shares limits ≡ 0
-    → decode (laid w family sets nodes shares limits) ≡ sound (record { family = family; nodes = nodes; sets = emptySets shares limits })
-unfolding laid isState
-decode-laid w family sets nodes shares limits e =
-    let k = layoutNo-kept w family sets nodes shares limits e in
-    let x = emptySets-is (width family) shares limits (k .within) in
-    let n : length (emptySets shares limits) ≡ sets = length-emptySets shares limits (omega arith) ∙ k .share in
-    let z : List ℕ = replicate (leastWords sets nodes) 0 in
-    decode-over (put w 0 z) (record { family = family; nodes = nodes; sets = emptySets shares limits })
-    (rw (k .family, n, k .size, x .0, x .1) (le-leb (total shares) nodes (k .total)))
-    (rw (n, length-put w 0 z) (k .room))
+module _ (w : List ℕ) (p : Setup) (e : layoutNo w p ≡ 0) where
+  kept : Kept (length w) p
+  kept = layoutNo-kept w p e
+
+  pub laid-sets : length (emptyState p .sets) ≡ p .sets
+  laid-sets = length-emptySets (p .shares) (p .limits) (omega (arith, kept .share, kept .limit)) ∙ kept .share
+
+  pub laid-state : isState (emptyState p) ≡ true
+  unfolding isState
+  laid-state =
+      let x = emptySets-is (width (p .family)) (p .shares) (p .limits) (kept .within) in
+      rw (kept .family, laid-sets, kept .size, x .0, x .1) (le-leb (total (p .shares)) (p .nodes) (kept .total))
+
+  pub decode-laid : decode (laid w p) ≡ sound (emptyState p)
+  unfolding laid
+  decode-laid =
+      let z : List ℕ = replicate (leastWords (p .sets) (p .nodes)) 0 in
+      decode-over (put w 0 z) (emptyState p) laid-state (rw (laid-sets, length-put w 0 z) (kept .room))

@@ -3,12 +3,11 @@
 use mathlib.Core.Path.{_≡_, sym, ap, _∙_}
 use mathlib.Core.List.{List}
 use Prim.Native.Nat.{ℕ}
-use Rattle.nets.specs.Bits.{Bits}
 use Rattle.nets.specs.Refusals.{Rule}
 use Rattle.nets.proofs.Answers.{number-one, number-some}
 use Rattle.pool_state.specs.Decode.{decode}
-use Rattle.pool_state.specs.Rules.{answerAs, reportAs, toldAs, Laid, freeRule, heldRule, planRule}
-use Rattle.pool_state.specs.States.{State}
+use Rattle.pool_state.specs.Rules.{answerAs, reportAs, toldAs, Setup, Laid, freeRule, heldRule, planRule}
+use Rattle.pool_state.specs.States.{SetState, State}
 use Rattle.pool_state.specs.Changes.{Changed}
 use Rattle.pool_state.specs.declared.Answer.{Answer}
 use Rattle.pool_state.specs.declared.Answer.the-variants as answer
@@ -35,8 +34,7 @@ toldAs-one (told.Is a) (told.Refused y) e = absurd (number-some y (sym (ap (λ p
 toldAs-one (told.Refused x) (told.Is b) e = absurd (number-some x (ap (λ p. p .0) e))
 toldAs-one (told.Refused x) (told.Refused y) e = ap told.Refused (number-one x y (ap (λ p. p .0) e))
 
-pub layout-determined : {w : List ℕ} {family sets nodes : ℕ} {shares limits : List ℕ} {r s : Answer} {u v : List ℕ}
-    → Laid w family sets nodes shares limits r u → Laid w family sets nodes shares limits s v → (r ≡ s) × (u ≡ v)
+pub layout-determined : {w : List ℕ} {p : Setup} {r s : Answer} {u v : List ℕ} → Laid w p (answerAs r) u → Laid w p (answerAs s) v → (r ≡ s) × (u ≡ v)
 layout-determined {r = r} {s = s} h k = (answerAs-one r s (h .answer ∙ sym (k .answer)), h .words ∙ sym (k .words))
 
 module _ (w : List ℕ) where
@@ -54,6 +52,10 @@ module _ (w : List ℕ) where
 pub owed-one : {B : Type 0} {p : ℕ × ℕ} {b u v : B} (r s : Answer) → (answerAs r ≡ p) × (u ≡ b) → (answerAs s ≡ p) × (v ≡ b) → (r ≡ s) × (u ≡ v)
 owed-one r s h k = (answerAs-one r s (h .0 ∙ sym (k .0)), h .1 ∙ sym (k .1))
 
--- every changing call
-pub changed-one : {w v u : List ℕ} {k : ℕ} {a : State → List Rule} {f : State → List Bits} {r s : Answer} → Changed w k a f r v → Changed w k a f s u → (r ≡ s) × (v ≡ u)
-changed-one {r = r} {s = s} h g = (answerAs-one r s (h .answer ∙ sym (g .answer)), h .words ∙ sym (g .words))
+-- every changing call: its number and values, and so an answer that is known by them
+module _ {w v u : List ℕ} {k : ℕ} {rs : State → List Rule} {f : State → SetState} where
+  pub changed-same : {p q : ℕ × ℕ} → Changed w k rs f p v → Changed w k rs f q u → (p ≡ q) × (v ≡ u)
+  changed-same h g = (h .answer ∙ sym (g .answer), h .words ∙ sym (g .words))
+
+  pub changed-one : {r s : Answer} → Changed w k rs f (answerAs r) v → Changed w k rs f (answerAs s) u → (r ≡ s) × (v ≡ u)
+  changed-one {r = r} {s = s} h g = let x = changed-same h g in (answerAs-one r s (x .0), x .1)

@@ -1,7 +1,7 @@
 -- Judging a result by its nodes, by the tests of the code: the room is what the claims of the other sets leave, and what is above neither the limit nor the room is
 -- granted. Assumes nothing.
-use mathlib.Core.Path.{_≡_}
-use mathlib.Core.Bool.{false, cond}
+use mathlib.Core.Path.{_≡_, _∙_}
+use mathlib.Core.Bool.{true, false, cond}
 use mathlib.Core.List.{List, [], _∷_, _++_}
 use Prim.Native.Nat.{ℕ, _+_, _-_, _≤_, _<_}
 use native.Mathlib.Omega.{arith}
@@ -12,12 +12,13 @@ use Rattle.nets.specs.Bits.{Bits}
 use Rattle.nets.specs.Lists.{nodesL}
 use Rattle.nets.specs.Refusals.{Rule, firstNo}
 use Rattle.nets.proofs.Refused.{firstNo-zero, firstNo-append, firstNo-both}
-use Rattle.pool_state.specs.States.{State, claim, claimed, claimedBut, roomOf}
+use Rattle.pool_state.specs.States.{State, claim, claimed, claimedBut, roomOf, isState}
 use Rattle.pool_state.specs.Decode.{recordAt}
 use Rattle.pool_state.specs.Rules.{unknown}
-use Rattle.pool_state.specs.Changes.{setAt, grantRules, changeRules, changeNo}
+use Rattle.pool_state.specs.Changes.{setAt, fits, changeRules, changeNo, setWith, grantRules, relistNo}
 use Rattle.pool_state.specs.declared.Survey.{Survey}
-use Rattle.pool_state.proofs.Claims.{claimedBut-is}
+use Rattle.pool_state.proofs.Claims.{share-limit, claimedBut-is}
+use Rattle.pool_state.proofs.WithSet.{Fits, fits-is, is-fits, claim-roomOf}
 use Rattle.pool_state.proofs.Decoded.{decode-share, decode-limit}
 use Rattle.pool_state.proofs.Seen.{Seen, seen-header}
 
@@ -52,25 +53,36 @@ module _ {w : List ℕ} {S : State} {k : ℕ} {v : Survey} (h : Seen w S k v) wh
       pub judge-none : n ≤ r → 0 ≡ firstNo (grantRules S k l)
       judge-none lf = rw (within, le-ltb (roomOf S k) (nodesL l) (omega arith))
 
--- The number of a change: the set, then the arguments, then the result.
-pub changeNo-known : (S : State) (k : ℕ) (a : List Rule) (l : List Bits) → k < length (S .sets) → changeNo S k a l ≡ cond (eqb (firstNo a) 0) (firstNo (grantRules S k l)) (firstNo a)
-unfolding changeRules
-changeNo-known S k a l lt = rw (lt-leb (length (S .sets)) k lt) (firstNo-append a (grantRules S k l))
+-- The number of a change: the set, and then the rules of the call.
+module _ (S : State) (k : ℕ) (rs : List Rule) where
+  pub changeNo-known : k < length (S .sets) → changeNo S k rs ≡ firstNo rs
+  unfolding changeRules
+  changeNo-known lt = rw (lt-leb (length (S .sets)) k lt)
 
--- What a granted result is.
-pub record Granted (S : State) (k n : ℕ) : Type 0 where
-  pub known : k < length (S .sets)
-  pub limit : n ≤ setAt S k .limit
-  pub room : n ≤ roomOf S k
+  pub changeNo-zero : changeNo S k rs ≡ 0 → (k < length (S .sets)) × (firstNo rs ≡ 0)
+  unfolding changeRules
+  changeNo-zero e =
+      let (x, y) = firstNo-both (unknown S k ∷ []) rs e in
+      (leb-false (length (S .sets)) k (firstNo-zero (unknown S k ∷ []) x .0), y)
 
-pub grant-known : (S : State) (k : ℕ) (l : List Bits) → k < length (S .sets) → firstNo (grantRules S k l) ≡ 0 → Granted S k (nodesL l)
-grant-known S k l lt e =
-    let c = firstNo-zero (grantRules S k l) e in
-    record { known = lt; limit = ltb-false (setAt S k .limit) (nodesL l) (c .0); room = ltb-false (roomOf S k) (nodesL l) (c .1 .0) }
+-- A new list: the arguments, and then the result, which is within the limit and the room exactly where the set with it fits.
+pub relistNo-known : (S : State) (k : ℕ) (a : List Rule) (l : List Bits) → k < length (S .sets) → relistNo S k a l ≡ cond (eqb (firstNo a) 0) (firstNo (grantRules S k l)) (firstNo a)
+relistNo-known S k a l lt = changeNo-known S k (a ++ grantRules S k l) lt ∙ firstNo-append a (grantRules S k l)
 
-pub changeNo-granted : (S : State) (k : ℕ) (a : List Rule) (l : List Bits) → changeNo S k a l ≡ 0 → Granted S k (nodesL l) × (firstNo a ≡ 0)
-unfolding changeRules
-changeNo-granted S k a l e =
-    let (x, y) = firstNo-both (unknown S k ∷ []) (a ++ grantRules S k l) e in
-    let (args, fits) = firstNo-both a (grantRules S k l) y in
-    (grant-known S k l (leb-false (length (S .sets)) k (firstNo-zero (unknown S k ∷ []) x .0)) fits, args)
+module _ (S : State) (k : ℕ) (l : List Bits) where
+  pub grant-within : firstNo (grantRules S k l) ≡ 0 → (nodesL l ≤ setAt S k .limit) × (nodesL l ≤ roomOf S k)
+  grant-within e =
+      let c = firstNo-zero (grantRules S k l) e in
+      (ltb-false (setAt S k .limit) (nodesL l) (c .0), ltb-false (roomOf S k) (nodesL l) (c .1 .0))
+
+  module _ (e : isState S ≡ true) (lt : k < length (S .sets)) where
+    pub grant-fits : firstNo (grantRules S k l) ≡ 0 → Fits S k (setWith (setAt S k) l)
+    grant-fits z = let g = grant-within z in record { share = share-limit S k e; held = g .0; room = omega (arith, g .1, claim-roomOf S k e lt) }
+
+    pub grant-exact : (firstNo (grantRules S k l) ≡ 0 → fits S k (setWith (setAt S k) l) ≡ true) × (fits S k (setWith (setAt S k) l) ≡ true → firstNo (grantRules S k l) ≡ 0)
+    grant-exact = (
+      λ z. is-fits S k (setWith (setAt S k) l) (grant-fits z),
+      λ z.
+          let f = fits-is S k (setWith (setAt S k) l) z in
+          rw (le-ltb (setAt S k .limit) (nodesL l) (f .held), le-ltb (roomOf S k) (nodesL l) (omega (arith, f .room))),
+    )

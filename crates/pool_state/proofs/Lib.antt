@@ -1,7 +1,7 @@
 -- The laws of a pool, from the bottom up.
--- States: their rules and sums, and another list in one of the sets.
+-- States: their rules and sums, and another set in the place of one.
 pub mod Claims
-pub mod WithList
+pub mod WithSet
 -- What a call answers and leaves by its rules.
 pub mod Answered
 -- The header and layout, by the tests and the loops of the code.
@@ -21,5 +21,5 @@ pub mod Changed
 pub mod Returns
 -- What each call comes to: one outcome, and what it leaves.
 pub mod Determined
-pub mod Leaves
 pub mod Past
+pub mod Leaves

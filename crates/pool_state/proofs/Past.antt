@@ -1,17 +1,33 @@
--- No call touches a word past the smallest buffer: what is written of a state ends before it. Assumes nothing.
+-- No changing call and no layout touches a word past the smallest buffer, and none makes the buffer longer or shorter: what is written of a state ends before it. Assumes nothing.
 use mathlib.Core.Path.{_≡_, refl, _∙_}
-use mathlib.Core.Bool.{true}
+use mathlib.Core.Bool.{Bool, true, false, cond}
 use mathlib.Core.List.{List, [], _∷_}
 use Prim.Native.Nat.{ℕ, _+_, _≤_}
 use native.Mathlib.Omega.{arith}
-use lib.ListN.{length, getD}
+use lib.Dec.{eqb}
+use lib.ListN.{length, getD, replicate, length-replicate}
+use borrow.Author.Tests.{eqb-true}
 use Rattle.nets.specs.Networks.{width}
 use Rattle.nodes.specs.Words.{put}
-use Rattle.nodes.proofs.Put.{getD-put-behind}
-use Rattle.pool_state.specs.States.{SetState, State, held, used, claimed, isState}
+use Rattle.nodes.proofs.Put.{getD-put-behind, length-put}
+use Rattle.pool_state.specs.States.{SetState, State, held, isState}
 use Rattle.pool_state.specs.Decode.{mark, recordAt, base, leastWords, rootAt, overRecords, nodeWords, over}
+use Rattle.pool_state.specs.Rules.{Setup, emptyState, layoutNo, laid, Laid}
 use Rattle.pool_state.proofs.Claims.{isState-sets, isState-claimed, used-claimed}
 use Rattle.pool_state.proofs.Holds.{length-nodeWords}
+use Rattle.pool_state.proofs.Encoded.{length-over}
+use Rattle.pool_state.proofs.Decoded.{laid-sets, laid-state}
+
+-- the words v are as many as the words w, and from word m on the same
+pub record Past (m : ℕ) (w v : List ℕ) : Type 0 where
+  pub long : length v ≡ length w
+  pub same : (j : ℕ) → m ≤ j → getD v j 0 ≡ getD w j 0
+
+pub past-refl : (m : ℕ) (w : List ℕ) → Past m w w
+past-refl m w = record { long = refl; same = λ j le. refl }
+
+pub past-trans : {m : ℕ} {u v w : List ℕ} → Past m u v → Past m v w → Past m u w
+past-trans h g = record { long = g .long ∙ h .long; same = λ j le. g .same j le ∙ h .same j le }
 
 overRecords-past : (w : List ℕ) (s i : ℕ) (xs : List SetState) (j : ℕ) → recordAt (s + length xs) ≤ j → getD (overRecords w s i xs) j 0 ≡ getD w j 0
 unfolding overRecords
@@ -20,11 +36,31 @@ overRecords-past w s i (x ∷ xs) j le =
     overRecords-past (put w (recordAt s) (rootAt i (x .list) ∷ x .share ∷ x .limit ∷ [])) (s + 1) (i + held x) xs j (omega arith)
     ∙ getD-put-behind w (recordAt s) (rootAt i (x .list) ∷ x .share ∷ x .limit ∷ []) j (omega arith)
 
-pub over-past : (w : List ℕ) (S : State) → isState S ≡ true → (j : ℕ) → leastWords (length (S .sets)) (S .nodes) ≤ j → getD (over w S) j 0 ≡ getD w j 0
+pub over-past : (w : List ℕ) (S : State) → isState S ≡ true → Past (leastWords (length (S .sets)) (S .nodes)) w (over w S)
 unfolding over
-over-past w S e j le =
-    let n = length (S .sets) in
-    let h = mark ∷ S .family ∷ n ∷ S .nodes ∷ [] in
-    let l = length-nodeWords (width (S .family)) (S .sets) (isState-sets S e) in
-    getD-put-behind (overRecords (put w 0 h) 0 1 (S .sets)) (base n) (nodeWords (S .sets)) j (omega (arith, l, used-claimed (S .sets), isState-claimed S e))
-    ∙ (overRecords-past (put w 0 h) 0 1 (S .sets) j (omega arith) ∙ getD-put-behind w 0 h j (omega arith))
+over-past w S e = record {
+  long = length-over w S;
+  same = λ j le.
+      let n = length (S .sets) in
+      let h = mark ∷ S .family ∷ n ∷ S .nodes ∷ [] in
+      let l = length-nodeWords (width (S .family)) (S .sets) (isState-sets S e) in
+      getD-put-behind (overRecords (put w 0 h) 0 1 (S .sets)) (base n) (nodeWords (S .sets)) j (omega (arith, l, used-claimed (S .sets), isState-claimed S e))
+      ∙ (overRecords-past (put w 0 h) 0 1 (S .sets) j (omega arith) ∙ getD-put-behind w 0 h j (omega arith));
+}
+
+-- layout, granted or refused
+laid-past : (w : List ℕ) (p : Setup) → layoutNo w p ≡ 0 → Past (leastWords (p .sets) (p .nodes)) w (laid w p)
+unfolding laid
+laid-past w p e =
+    let m = leastWords (p .sets) (p .nodes) in
+    let z : List ℕ = replicate m 0 in
+    let n : length z ≡ m = length-replicate m 0 in
+    let o = over-past (put w 0 z) (emptyState p) (laid-state w p e) in
+    past-trans (record { long = length-put w 0 z; same = λ j le. getD-put-behind w 0 z j (omega arith) }) (rw (laid-sets w p e) at o)
+
+pub layout-past : {w v : List ℕ} {p : Setup} {r : ℕ × ℕ} → Laid w p r v → Past (leastWords (p .sets) (p .nodes)) w v
+layout-past {w} {v} {p} h = rw (h .words) (go (eqb (layoutNo w p) 0) refl)
+  where
+    go : (b : Bool) → eqb (layoutNo w p) 0 ≡ b → Past (leastWords (p .sets) (p .nodes)) w (cond b (laid w p) w)
+    go true q = laid-past w p (eqb-true (layoutNo w p) 0 q)
+    go false q = past-refl _ w

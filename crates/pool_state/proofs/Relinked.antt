@@ -18,7 +18,7 @@ use Rattle.nodes.specs.Words.{put, Has}
 use Rattle.pool_state.specs.States.{SetState, held}
 use Rattle.pool_state.specs.Decode.{recordAt, base, rootAt, overRecords}
 use Rattle.pool_state.specs.Rules.{noSet, startOf}
-use Rattle.pool_state.specs.Changes.{setsWith}
+use Rattle.pool_state.specs.Changes.{setsWith, setWith}
 use Rattle.pool_state.specs.Steps.{ownRoot, movedRoot, movedRoots, relinked, Movable, Relink}
 use Rattle.nodes.proofs.Put.{set-put, put-behind-at, put-swap, getD-put-before}
 use Rattle.nodes.proofs.Has.{has-put, has-head, has-tail, has-same}
@@ -100,9 +100,9 @@ overRecords-moved w s i old new (x ∷ xs) pos h =
     ∙ overRecords-moved u (s + 1) (i + held x) old new xs (omega arith) g
     ∙ ap (λ q. movedRoots (put w (recordAt s) (q ∷ [])) old new (length xs) (s + 1)) (sym root)
 
--- The records from set s on, where set s + k changed.
+-- The records from set s on, where set s + k has another list.
 overRecords-with : (k : ℕ) (l : List Bits) (w : List ℕ) (s i : ℕ) (ss : List SetState) → 1 ≤ i → k < length ss → Records w s i ss
-    → overRecords w s i (setsWith k l ss) ≡ movedRoots (put w (recordAt (s + k)) (rootAt (startOf k i ss) l ∷ [])) (held (getD ss k noSet)) (nodesL l) (length ss - suc k) (s + k + 1)
+    → overRecords w s i (setsWith k (setWith (getD ss k noSet) l) ss) ≡ movedRoots (put w (recordAt (s + k)) (rootAt (startOf k i ss) l ∷ [])) (held (getD ss k noSet)) (nodesL l) (length ss - suc k) (s + k + 1)
 unfolding overRecords
 overRecords-with k l w s i [] pos lt h = absurd (omega arith)
 overRecords-with zero l w s i (x ∷ xs) pos lt h =
@@ -114,7 +114,7 @@ overRecords-with zero l w s i (x ∷ xs) pos lt h =
 overRecords-with (suc k) l w s i (x ∷ xs) pos lt h =
     let a : s + suc k ≡ s + 1 + k = omega arith in
     let b : suc (length xs) - suc (suc k) ≡ length xs - suc k = omega arith in
-    rw (a, b) (ap (λ y. overRecords y (s + 1) (i + held x) (setsWith k l xs)) (has-same (h .0)) ∙ overRecords-with k l w (s + 1) (i + held x) xs (omega arith) (omega arith) (h .1))
+    rw (a, b) (ap (λ y. overRecords y (s + 1) (i + held x) (setsWith k (setWith (getD xs k noSet) l) xs)) (has-same (h .0)) ∙ overRecords-with k l w (s + 1) (i + held x) xs (omega arith) (omega arith) (h .1))
 
 -- What stands behind the records does not matter to the roots.
 movedRoots-put : (m : ℕ) (w : List ℕ) (old new s q : ℕ) (ys : List ℕ) → recordAt (s + m) ≤ q → movedRoots (put w q ys) old new m s ≡ put (movedRoots w old new m s) q ys
@@ -135,7 +135,7 @@ relinked-put w k i old new q ys lt le =
 
 -- The records of the state afterwards.
 pub overRecords-relinked : (w : List ℕ) (k : ℕ) (t : Trie) (ss : List SetState) → getD w 2 0 ≡ length ss → k < length ss → Records w 0 1 ss
-    → overRecords w 0 1 (setsWith k (listOf t) ss) ≡ relinked w k (startOf k 1 ss) (held (getD ss k noSet)) (size t)
+    → overRecords w 0 1 (setsWith k (setWith (getD ss k noSet) (listOf t)) ss) ≡ relinked w k (startOf k 1 ss) (held (getD ss k noSet)) (size t)
 unfolding relinked
 overRecords-relinked w k t ss e lt h =
     rw (e, ownRoot-is (startOf k 1 ss) t, ← nodesL-listOf t) (rw (zero-add k) at (overRecords-with k (listOf t) w 0 1 ss (omega arith) lt h))

@@ -7,7 +7,6 @@ use mathlib.Core.Logic.{_⊎_, inl, inr}
 use Prim.Native.Nat.{ℕ, _≤_}
 use native.Mathlib.Omega.{arith}
 use lib.Dec.{eqb}
-use lib.ListN.{length, getD}
 use borrow.Author.Tests.{eq-eqb, ne-eqb}
 use Rattle.nets.specs.Bits.{Bits}
 use Rattle.nets.specs.Lists.{nodesL}
@@ -19,20 +18,17 @@ use Rattle.nets.specs.declared.Refusal.{Refusal}
 use Rattle.nets.proofs.Answers.{number-some}
 use Rattle.nets.proofs.Nodes.{nodesL-listOf}
 use Rattle.nodes.specs.Words.{enc}
-use Rattle.pool_state.specs.States.{State, roomOf}
+use Rattle.pool_state.specs.States.{SetState, State, roomOf}
 use Rattle.pool_state.specs.Decode.{over, sound, decode}
-use Rattle.pool_state.specs.Rules.{answerAs, verdictAs, surveyOf}
-use Rattle.pool_state.specs.Changes.{withList, grantRules, changeRules, changeNo, changeRule, wordsAfter, Changed, netRules, isEmpty}
+use Rattle.pool_state.specs.Rules.{verdictAs}
+use Rattle.pool_state.specs.Changes.{setAt, withSet, changeRules, changeNo, changeRule, wordsAfter, Changed, setWith, grantRules, relistRules, relistSet, Relisted, relistNo, netRules, isEmpty}
 use Rattle.pool_state.specs.Steps.{Refuses, Judges, relinked, Relink}
-use Rattle.pool_state.specs.declared.Answer.{Answer}
-use Rattle.pool_state.specs.declared.Answer.the-variants as answer
 use Rattle.pool_state.specs.declared.Survey.{Survey}
 use Rattle.pool_state.specs.declared.Verdict.{Verdict}
 use Rattle.pool_state.specs.declared.Verdict.the-variants as verdict
-use Rattle.pool_state.proofs.Answered.{owes-damaged, owes-refused, owes-granted, owes-seat}
-use Rattle.pool_state.proofs.Decoded.{decode-header}
-use Rattle.pool_state.proofs.Seen.{Seen, behind, survey-sound, survey-damaged}
-use Rattle.pool_state.proofs.Judged.{grant-known, changeNo-known}
+use Rattle.pool_state.proofs.Answered.{owes-refused, owes-granted, owes-seat}
+use Rattle.pool_state.proofs.Seen.{Seen, behind}
+use Rattle.pool_state.proofs.Judged.{relistNo-known, grant-within}
 use Rattle.pool_state.proofs.Changed.{withTrie, over-change, relink-asks}
 
 -- The number that a network gets in a pool of its family, and in another. In a pool's family a network is refused as 7 or not at all.
@@ -62,38 +58,50 @@ isEmpty-some [] ne = absurd (ne refl)
 isEmpty-some (p ∷ l) ne = refl
 
 -- what a changing call on set k owes: its answer r, and the words u that it leaves
-abbrev pub Owes : List ℕ → ℕ → (State → List Rule) → (State → List Bits) → ℕ × ℕ → List ℕ → Type 0
-Owes w k a f r u = (r ≡ changeRule (decode w) k a f) × (u ≡ wordsAfter w (decode w) k a f)
+abbrev pub Owes : List ℕ → ℕ → (State → List Rule) → (State → SetState) → ℕ × ℕ → List ℕ → Type 0
+Owes w k rs f r u = (r ≡ changeRule (decode w) k rs f) × (u ≡ wordsAfter w (decode w) k rs f)
 
-pub changed : {w v : List ℕ} {k : ℕ} {a : State → List Rule} {f : State → List Bits} {r : Answer} → Owes w k a f (answerAs r) v → Changed w k a f r v
+pub changed : {w v : List ℕ} {k : ℕ} {rs : State → List Rule} {f : State → SetState} {r : ℕ × ℕ} → Owes w k rs f r v → Changed w k rs f r v
 changed h = record { answer = h .0; words = h .1 }
 
-module _ (a : State → List Rule) (f : State → List Bits) where
-  refused : (w : List ℕ) (S : State) (k : ℕ) {x : ℕ} → decode w ≡ sound S → changeNo S k (a S) (f S) ≡ x → (x ≡ 0 → ⊥) → Owes w k a f (x, 0) w
+module _ (rs : State → List Rule) (f : State → SetState) where
+  refused : (w : List ℕ) (S : State) (k : ℕ) {x : ℕ} → decode w ≡ sound S → changeNo S k (rs S) ≡ x → (x ≡ 0 → ⊥) → Owes w k rs f (x, 0) w
   unfolding changeRule wordsAfter
   refused w S k d e ne = owes-refused _ 0 _ w _ d e ne
 
-  pub change-seat : (w : List ℕ) (k : ℕ) {x : ℕ} → Refuses (decode w) k x → Owes w k a f (x, 0) w
+  seat : (w : List ℕ) (k : ℕ) {x : ℕ} → Refuses (decode w) k x → Owes w k rs f (x, 0) w
   unfolding changeRule wordsAfter changeRules
-  change-seat w k h = owes-seat _ 0 _ w _ (decode w) k h
+  seat w k h = owes-seat _ 0 _ w _ (decode w) k h
+
+-- a call that gives the set a list
+module _ (a : State → List Rule) (f : State → List Bits) where
+  abbrev OwesRelist : List ℕ → ℕ → ℕ × ℕ → List ℕ → Type 0
+  OwesRelist w k r u = Owes w k (relistRules k a f) (relistSet k f) r u
+
+  pub change-seat : (w : List ℕ) (k : ℕ) {x : ℕ} → Refuses (decode w) k x → OwesRelist w k (x, 0) w
+  change-seat w k h = seat (relistRules k a f) (relistSet k f) w k h
 
   module _ {w : List ℕ} {S : State} {k : ℕ} {v : Survey} (h : Seen w S k v) where
-    pub change-args : {x : ℕ} → firstNo (a S) ≡ x → (x ≡ 0 → ⊥) → Owes w k a f (x, 0) w
-    change-args {x} e ne = refused w S k (h .decoded) (changeNo-known S k (a S) (f S) (h .known) ∙ rw (e, ne-eqb x 0 ne)) ne
+    no : {x : ℕ} → relistNo S k (a S) (f S) ≡ x → (x ≡ 0 → ⊥) → OwesRelist w k (x, 0) w
+    unfolding relistRules
+    no e ne = refused (relistRules k a f) (relistSet k f) w S k (h .decoded) e ne
+
+    pub change-args : {x : ℕ} → firstNo (a S) ≡ x → (x ≡ 0 → ⊥) → OwesRelist w k (x, 0) w
+    change-args {x} e ne = no (relistNo-known S k (a S) (f S) (h .known) ∙ rw (e, ne-eqb x 0 ne)) ne
 
     -- the arguments are right, and the result is judged
     module _ {x : ℕ} (z : firstNo (a S) ≡ 0) (j : x ≡ firstNo (grantRules S k (f S))) where
-      judged : changeNo S k (a S) (f S) ≡ x
-      judged = changeNo-known S k (a S) (f S) (h .known) ∙ rw z (sym j)
+      judged : relistNo S k (a S) (f S) ≡ x
+      judged = relistNo-known S k (a S) (f S) (h .known) ∙ rw z (sym j)
 
-      pub change-judged : (x ≡ 0 → ⊥) → Owes w k a f (x, 0) w
-      change-judged ne = refused w S k (h .decoded) judged ne
+      pub change-judged : (x ≡ 0 → ⊥) → OwesRelist w k (x, 0) w
+      change-judged ne = no judged ne
 
       pub change-granted : {n : ℕ} {u y : List ℕ} (t : Trie) → x ≡ 0 → listOf t ≡ f S → size t ≡ n
-          → u ≡ withTrie w S k v t → y ≡ relinked u k (v .at) (v .held) n → Owes w k a f (0, n) y
-      unfolding changeRule wordsAfter
+          → u ≡ withTrie w S k v t → y ≡ relinked u k (v .at) (v .held) n → OwesRelist w k (0, n) y
+      unfolding changeRule wordsAfter relistRules relistSet
       change-granted {n} {u} {y} t q l e p g =
-          let o : y ≡ over w (withList S k (f S)) = g ∙ (rw (l, e) at (over-change h t p)) in
+          let o : y ≡ over w (withSet S k (setWith (setAt S k) (f S))) = g ∙ (rw (l, e) at (over-change h t p)) in
           let i : nodesL (f S) ≡ n = ap nodesL (sym l) ∙ nodesL-listOf t ∙ e in
           rw (o, ← i) (owes-granted _ 0 _ w _ (h .decoded) (judged ∙ q))
 
@@ -111,7 +119,7 @@ module _ {w : List ℕ} {S : State} {k : ℕ} {v : Survey} {a : State → List R
   says : verdictAs r ≡ firstNo (grantRules S k (f S))
   says = j .verdict S (f S) (h .seen .decoded) nodes
 
-  pub result-refused : (x : Refusal) → r ≡ verdict.No x → Changed w k a f (answer.Refused x) w
+  pub result-refused : (x : Refusal) → r ≡ verdict.No x → Relisted w k a f (number x, 0) w
   result-refused x e = changed (change-judged a f (h .seen) (h .right) (ap verdictAs (sym e) ∙ says) (number-some x))
 
   -- it is granted, and written
@@ -120,11 +128,11 @@ module _ {w : List ℕ} {S : State} {k : ℕ} {v : Survey} {a : State → List R
     fits = ap verdictAs (sym z) ∙ says
 
     pub result-fits : m ≤ roomOf S k
-    result-fits = let g = grant-known S k (f S) (h .seen .known) (sym fits) .room in omega (arith, nodes)
+    result-fits = let g = grant-within S k (f S) (sym fits) .1 in omega (arith, nodes)
 
     module _ {u : List ℕ} (e : u ≡ withTrie w S k v t) where
       pub result-relinks : Relink u k (v .held) m
       result-relinks = relink-asks (h .seen) (enc t ++ behind S k) result-fits e
 
-      pub result-granted : {x : Answer} {y : List ℕ} → answerAs x ≡ (0, m) → y ≡ relinked u k (v .at) (v .held) m → Changed w k a f x y
+      pub result-granted : {x : ℕ × ℕ} {y : List ℕ} → x ≡ (0, m) → y ≡ relinked u k (v .at) (v .held) m → Relisted w k a f x y
       result-granted q p = changed (rw q (change-granted a f (h .seen) (h .right) fits t refl (h .list) (h .size) e p))

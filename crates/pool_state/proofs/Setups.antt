@@ -12,14 +12,12 @@ use lib.Seq.{drop-cons}
 use borrow.Author.Tests.{le-leb, lt-leb, eq-eqb, ne-eqb, leb-true, eqb-true}
 use Rattle.nets.specs.Tries.{trieOf}
 use Rattle.nets.specs.Lists.{nodesL}
-use Rattle.nets.specs.declared.Refusal.the-variants.{BadSetup}
 use Rattle.nets.proofs.Strings.{and-left, and-right, bool-iff}
 use Rattle.nodes.specs.Words.{put, enc}
 use Rattle.pool_state.specs.States.{isSize}
 use Rattle.nets.specs.Networks.{isFamily}
 use Rattle.pool_state.specs.Decode.{mark, recordAt, leastWords, overRecords, nodeWords, over}
-use Rattle.pool_state.specs.Rules.{withinLimits, total, sharesFit, isSetup, layoutNo, emptySets, laid, Laid}
-use Rattle.pool_state.specs.declared.Answer.the-variants as answer
+use Rattle.pool_state.specs.Rules.{withinLimits, total, sharesFit, Setup, isSetup, layoutNo, emptySets, laid, Laid}
 use Rattle.nodes.proofs.Put.{put-nil, set-put, put-behind-at}
 
 -- the total of a share x and others, against n nodes
@@ -85,36 +83,36 @@ module _ {sets nodes : ℕ} {shares limits : List ℕ} {left s : ℕ} (h : Shari
   sharesFit-end l = let k : length shares ≤ s = omega arith in sym (le-leb 0 left (omega arith)) ∙ rw (drop-of-length-le shares k) at (h .rest)
 
 -- is_setup: the rules that a setup keeps, taken apart
-pub record Kept (words f sets nodes : ℕ) (shares limits : List ℕ) : Type 0 where
-  pub family : isFamily f ≡ true
-  pub size : isSize sets nodes ≡ true
-  pub room : leastWords sets nodes ≤ words
-  pub share : length shares ≡ sets
-  pub limit : length limits ≡ sets
-  pub within : withinLimits shares limits ≡ true
-  pub total : total shares ≤ nodes
+pub record Kept (words : ℕ) (p : Setup) : Type 0 where
+  pub family : isFamily (p .family) ≡ true
+  pub size : isSize (p .sets) (p .nodes) ≡ true
+  pub room : leastWords (p .sets) (p .nodes) ≤ words
+  pub share : length (p .shares) ≡ p .sets
+  pub limit : length (p .limits) ≡ p .sets
+  pub within : withinLimits (p .shares) (p .limits) ≡ true
+  pub total : total (p .shares) ≤ p .nodes
 
-pub isSetup-kept : (words family sets nodes : ℕ) (shares limits : List ℕ) → isSetup words family sets nodes shares limits ≡ true → Kept words family sets nodes shares limits
+pub isSetup-kept : (words : ℕ) (s : Setup) → isSetup words s ≡ true → Kept words s
 unfolding isSetup sharesFit
-isSetup-kept words family sets nodes shares limits e =
-    let p = isFamily family && isSize sets nodes in
-    let q = leb (leastWords sets nodes) words in
-    let a = eqb (length shares) sets in
-    let b = eqb (length limits) sets in
-    let c = withinLimits shares limits in
-    let d = leb (total shares) nodes in
+isSetup-kept words s e =
+    let p = isFamily (s .family) && isSize (s .sets) (s .nodes) in
+    let q = leb (leastWords (s .sets) (s .nodes)) words in
+    let a = eqb (length (s .shares)) (s .sets) in
+    let b = eqb (length (s .limits)) (s .sets) in
+    let c = withinLimits (s .shares) (s .limits) in
+    let d = leb (total (s .shares)) (s .nodes) in
     let f = and-left (p && q) (a && b && (c && d)) e in
     let g = and-right (p && q) (a && b && (c && d)) e in
     let h = and-left (a && b) (c && d) g in
     let k = and-right (a && b) (c && d) g in
     record {
-      family = and-left (isFamily family) (isSize sets nodes) (and-left p q f);
-      size = and-right (isFamily family) (isSize sets nodes) (and-left p q f);
-      room = leb-true (leastWords sets nodes) words (and-right p q f);
-      share = eqb-true (length shares) sets (and-left a b h);
-      limit = eqb-true (length limits) sets (and-right a b h);
+      family = and-left (isFamily (s .family)) (isSize (s .sets) (s .nodes)) (and-left p q f);
+      size = and-right (isFamily (s .family)) (isSize (s .sets) (s .nodes)) (and-left p q f);
+      room = leb-true (leastWords (s .sets) (s .nodes)) words (and-right p q f);
+      share = eqb-true (length (s .shares)) (s .sets) (and-left a b h);
+      limit = eqb-true (length (s .limits)) (s .sets) (and-right a b h);
       within = and-left c d k;
-      total = leb-true (total shares) nodes (and-right c d k);
+      total = leb-true (total (s .shares)) (s .nodes) (and-right c d k);
     }
 
 -- stores one behind the other are one write
@@ -197,23 +195,22 @@ nodeWords-emptySets (x ∷ shares) [] = refl
 nodeWords-emptySets (x ∷ shares) (y ∷ limits) = nodeWords-emptySets shares limits
 
 -- layout: the two answers, by the test and what the writes leave
-module _ (w : List ℕ) (family sets nodes : ℕ) (shares limits : List ℕ) where
-  laid-is : length shares ≡ sets → length limits ≡ sets →
-      laid w family sets nodes shares limits
-      ≡ overRecords (put (put w 0 (replicate (leastWords sets nodes) 0)) 0 (mark ∷ family ∷ sets ∷ nodes ∷ [])) 0 1 (emptySets shares limits)
+module _ (w : List ℕ) (p : Setup) where
+  laid-is : length (p .shares) ≡ p .sets → length (p .limits) ≡ p .sets →
+      laid w p
+      ≡ overRecords (put (put w 0 (replicate (leastWords (p .sets) (p .nodes)) 0)) 0 (mark ∷ p .family ∷ p .sets ∷ p .nodes ∷ [])) 0 1 (emptySets (p .shares) (p .limits))
   unfolding laid over
   laid-is e f =
-      let n : length (emptySets shares limits) ≡ sets = length-emptySets shares limits (e ∙ sym f) ∙ e in
-      rw (n, nodeWords-emptySets shares limits, put-nil)
+      let n : length (emptySets (p .shares) (p .limits)) ≡ p .sets = length-emptySets (p .shares) (p .limits) (e ∙ sym f) ∙ e in
+      rw (n, nodeWords-emptySets (p .shares) (p .limits), put-nil)
 
-  pub layout-granted : isSetup (length w) family sets nodes shares limits ≡ true → (n : ℕ) (u v z : List ℕ) → n ≡ leastWords sets nodes →
-      u ≡ put w 0 (replicate n 0) → v ≡ put u 0 (mark ∷ family ∷ sets ∷ nodes ∷ []) → z ≡ overRecords v 0 1 (emptySets shares limits) →
-      Laid w family sets nodes shares limits (answer.Granted 0) z
+  pub layout-granted : isSetup (length w) p ≡ true → (n : ℕ) (u v z : List ℕ) → n ≡ leastWords (p .sets) (p .nodes) →
+      u ≡ put w 0 (replicate n 0) → v ≡ put u 0 (mark ∷ p .family ∷ p .sets ∷ p .nodes ∷ []) → z ≡ overRecords v 0 1 (emptySets (p .shares) (p .limits)) → Laid w p (0, 0) z
   unfolding layoutNo
   layout-granted h n u v z e a b c =
-      let k = isSetup-kept (length w) family sets nodes shares limits h in
+      let k = isSetup-kept (length w) p h in
       record { answer = rw h; words = rw (h, laid-is (k .share) (k .limit), ← e, ← a, ← b) c }
 
-  pub layout-refused : isSetup (length w) family sets nodes shares limits ≡ false → Laid w family sets nodes shares limits (answer.Refused BadSetup) w
+  pub layout-refused : isSetup (length w) p ≡ false → Laid w p (1, 0) w
   unfolding layoutNo
   layout-refused h = record { answer = rw h; words = rw h }

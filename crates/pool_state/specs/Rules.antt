@@ -3,6 +3,7 @@
 --   answerOn d rs z f   the answer of a call: 2 where the words are damaged, else the first of the rules rs of the state that applies, each with the value z; else the value f of the state
 --   leftOn d rs b g     what it leaves of b: b itself where it is refused, else what g makes of the state
 --   unknown S k, short m n      the rules that there is a set k, and that a buffer of n entries takes m
+--   Setup, emptyState   the arguments of layout, and the state that a granted one leaves
 --   layoutNo, laid      the answer of layout, and the words that a granted one leaves; Laid: both, as its contract
 --   freeRule, heldRule, planRule      the free nodes; nodes and networks of a set; share and limit of a set
 --   surveyOf            what one pass over a pool finds out for the calls on set k
@@ -74,13 +75,24 @@ total (x ∷ xs) = x + total xs
 unfoldable pub sharesFit : ℕ → ℕ → List ℕ → List ℕ → Bool
 sharesFit sets nodes shares limits = eqb (length shares) sets && eqb (length limits) sets && (withinLimits shares limits && leb (total shares) nodes)
 
--- layout keeps its rules, and so many words are enough
-unfoldable pub isSetup : ℕ → ℕ → ℕ → ℕ → List ℕ → List ℕ → Bool
-isSetup words family sets nodes shares limits =
-    isFamily family && isSize sets nodes && leb (leastWords sets nodes) words && sharesFit sets nodes shares limits
+-- what layout is asked for
+pub record Setup : Type 0 where
+  pub family : ℕ
+  pub sets : ℕ
+  pub nodes : ℕ
+  pub shares : List ℕ
+  pub limits : List ℕ
 
-unfoldable pub layoutNo : List ℕ → ℕ → ℕ → ℕ → List ℕ → List ℕ → ℕ
-layoutNo w family sets nodes shares limits = cond (isSetup (length w) family sets nodes shares limits) 0 1
+abbrev pub setup : ℕ → ℕ → ℕ → List ℕ → List ℕ → Setup
+setup f m n xs ys = record { family = f; sets = m; nodes = n; shares = xs; limits = ys }
+
+-- it keeps the rules, and so many words are enough
+unfoldable pub isSetup : ℕ → Setup → Bool
+isSetup words p =
+    isFamily (p .family) && isSize (p .sets) (p .nodes) && leb (leastWords (p .sets) (p .nodes)) words && sharesFit (p .sets) (p .nodes) (p .shares) (p .limits)
+
+unfoldable pub layoutNo : List ℕ → Setup → ℕ
+layoutNo w p = cond (isSetup (length w) p) 0 1
 
 -- sets without a network
 abbrev pub emptySets : List ℕ → List ℕ → List SetState
@@ -88,15 +100,17 @@ emptySets [] limits = []
 emptySets (x ∷ shares) [] = []
 emptySets (x ∷ shares) (y ∷ limits) = record { share = x; limit = y; list = [] } ∷ emptySets shares limits
 
+abbrev pub emptyState : Setup → State
+emptyState p = record { family = p .family; nodes = p .nodes; sets = emptySets (p .shares) (p .limits) }
+
 -- the smallest buffer is cleared, and every set is empty
-unfoldable pub laid : List ℕ → ℕ → ℕ → ℕ → List ℕ → List ℕ → List ℕ
-laid w family sets nodes shares limits =
-    over (put w 0 (replicate (leastWords sets nodes) 0)) (record { family = family; nodes = nodes; sets = emptySets shares limits })
+unfoldable pub laid : List ℕ → Setup → List ℕ
+laid w p = over (put w 0 (replicate (leastWords (p .sets) (p .nodes)) 0)) (emptyState p)
 
 -- from the words w layout answers r and leaves the words v
-pub record Laid (w : List ℕ) (family sets nodes : ℕ) (shares limits : List ℕ) (r : Answer) (v : List ℕ) : Type 0 where
-  pub answer : answerAs r ≡ (layoutNo w family sets nodes shares limits, 0)
-  pub words : v ≡ cond (eqb (layoutNo w family sets nodes shares limits) 0) (laid w family sets nodes shares limits) w
+pub record Laid (w : List ℕ) (p : Setup) (r : ℕ × ℕ) (v : List ℕ) : Type 0 where
+  pub answer : r ≡ (layoutNo w p, 0)
+  pub words : v ≡ cond (eqb (layoutNo w p) 0) (laid w p) w
 
 -- share and limit of set k, by the words
 abbrev pub shareIn : List ℕ → ℕ → ℕ

@@ -9,11 +9,11 @@ use Prim.Native.Nat.{ℕ, _+_, _≤_}
 use lib.ListN.{length, getD}
 use Rattle.nets.specs.Bits.{Bits}
 use Rattle.nets.specs.Lists.{nodesL}
+use Rattle.nets.specs.Refusals.{number}
 use Rattle.nets.specs.Tries.{trieOf}
 use Rattle.nodes.specs.Words.{put, place, enc}
 use Rattle.pool_state.specs.Decode.{base}
 use Rattle.pool_state.specs.Steps.{Surveyed, behindAt, Gap}
-use Rattle.pool_state.specs.declared.Answer.the-variants as answer
 use Rattle.pool_state.specs.declared.Survey.{Survey}
 use Rattle.setfile_format.specs.Files.{file, readFile}
 use Rattle.setfile.specs.Loading.{Loaded}
@@ -30,7 +30,7 @@ pub record Ready (w : List ℕ) (k : ℕ) (d : List ℕ) (v : Survey) (f n : ℕ
 
 abbrev pub Asks : List ℕ → ℕ → List ℕ → Asked → Type 0
 Asks w k d (Go v f n) = Ready w k d v f n
-Asks w k d (Refused x) = Loaded w k d (answer.Refused x) w
+Asks w k d (Refused x) = Loaded w k d (number x, 0) w
 
 -- the bytes are the file of the list l, whose trie has n nodes, and there is a gap to open for it
 pub record Writable (w : List ℕ) (v : Survey) (d : List ℕ) (f n : ℕ) (l : List Bits) : Type 0 where

@@ -11,8 +11,7 @@ use Rattle.nets.specs.Bits.{Bits}
 use Rattle.nets.specs.Refusals.{Rule}
 use Rattle.nets.specs.declared.Refusal.the-variants.{BadFile, WrongFamily}
 use Rattle.pool_state.specs.States.{State}
-use Rattle.pool_state.specs.Changes.{occupied, Changed}
-use Rattle.pool_state.specs.declared.Answer.{Answer}
+use Rattle.pool_state.specs.Changes.{occupied, Relisted}
 use Rattle.setfile_format.specs.Files.{File, broken, file, readFile}
 
 unfoldable pub loadRules : File → ℕ → State → List Rule
@@ -24,5 +23,5 @@ abbrev pub fileList : File → List Bits
 fileList broken = []
 fileList (file f l) = l
 
-abbrev pub Loaded : List ℕ → ℕ → List ℕ → Answer → List ℕ → Type 0
-Loaded w k d r v = Changed w k (loadRules (readFile d) k) (λ S. fileList (readFile d)) r v
+abbrev pub Loaded : List ℕ → ℕ → List ℕ → ℕ × ℕ → List ℕ → Type 0
+Loaded w k d r v = Relisted w k (loadRules (readFile d) k) (λ S. fileList (readFile d)) r v

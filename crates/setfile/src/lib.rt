@@ -13,6 +13,7 @@ use setfile_entries::reading::file_bytes;
 use setfile_write::saving::write_file;
 use trie_list::lengths::starts;
 use trie_list::lengths::tally;
+ghost use Rattle.pool_state.specs.Rules.{answerAs};
 ghost use Rattle.setfile.specs.Calls.{Saved};
 ghost use Rattle.setfile.specs.Loading.{Loaded};
 
@@ -40,7 +41,7 @@ pub fn save(pool: &[u32], set: u32, out: &mut [u8]) -> Answer
 
 // Gives an empty set the list of a file, and answers its nodes. A refusal changes no word.
 pub fn load(pool: &mut [u32], set: u32, bytes: &[u8]) -> Answer
-    ensures { λ r. ⌜ Loaded (now (pool .entry)) set (now (bytes .entry)) r (now (pool .exit)) ⌝ }
+    ensures { λ r. ⌜ Loaded (now (pool .entry)) set (now (bytes .entry)) (answerAs r) (now (pool .exit)) ⌝ }
 {
     let asked = ask(pool, set, bytes);
     match asked {
