@@ -22,4 +22,5 @@ pub mod Returns
 -- What each call comes to: one outcome, and what it leaves.
 pub mod Determined
 pub mod Leaves
+pub mod Resurveyed
 pub mod Past
