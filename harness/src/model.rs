@@ -255,8 +255,11 @@ fn load(w: &mut [u32], s: State, c: &Call) -> Answer {
     change(w, s, c.a, no, |_| list)
 }
 
-/// The lines are added to set 0 up to the first that is refused; of that at most 19 bytes are kept.
+/// The lines are added to set 0 up to the first that is refused; of that at most 19 bytes are kept. On unsound memory every call on a pool answers 2: the first line is not reached.
 fn lines(w: &mut [u32], c: &Call) -> Answer {
+    if decode(w).is_none() {
+        return Answer { no: 2, ..number(1) };
+    }
     let all = read_lines(&c.tail);
     for (k, line) in all.iter().enumerate() {
         let no = match read_line(line) {

@@ -8,9 +8,10 @@ use lib.Dec.{eqb, ltb}
 use lib.ListN.{length, take, drop, set, length-drop, drop-of-length-le}
 use lib.Seq.{take-all, drop-drop, drop-length}
 use borrow.Author.Tests.{ltb-true}
+use Rattle.pool_state.specs.Decode.{decode}
 use Rattle.setfile.specs.Loading.{Loaded}
-use Rattle.lines.specs.Lines.{lineFeed, lineNo}
-use Rattle.lines.specs.Reading.{places, begun, kept, pushed, endedAs, ended, stepped, fed, finished, fedAll, allRead}
+use Rattle.lines.specs.Lines.{lineFeed, lineNo, poolNo}
+use Rattle.lines.specs.Reading.{places, begun, kept, pushed, stopped, endedAs, ended, stepped, passed, closed, checked, fed, finished, fedAll, allRead}
 use Rattle.lines.specs.declared.Reader.{Reader}
 use Rattle.calls_bytes.proofs.Rows.{rest-is}
 use Rattle.calls_bytes.specs.declared.Call.{Call}
@@ -59,23 +60,39 @@ small-stepped w r b h = go (eqb b lineFeed)
     go true = small-ended w r h
     go false = small-pushed r b h
 
-small-fed : (s w : List ℕ) (r : Reader) → r .len ≤ places → fed w r s .0 .len ≤ places
-unfolding fed
-small-fed [] w r h = h
-small-fed (b ∷ s) w r h = let y = stepped w r b in go (eqb (r .no) 0) (fed (y .1) (y .0) s) (small-fed s (y .1) (y .0) (small-stepped w r b h))
+small-passed : (s w : List ℕ) (r : Reader) → r .len ≤ places → passed w r s .0 .len ≤ places
+unfolding passed
+small-passed [] w r h = h
+small-passed (b ∷ s) w r h = let y = stepped w r b in go (eqb (r .no) 0) (passed (y .1) (y .0) s) (small-passed s (y .1) (y .0) (small-stepped w r b h))
   where
     go : (t : Bool) (x : Reader × List ℕ) → x .0 .len ≤ places → cond t x (r, w) .0 .len ≤ places
     go true x i = i
     go false x i = h
 
-small-finished : (w : List ℕ) (r : Reader) → r .len ≤ places → finished w r .0 .len ≤ places
-unfolding finished
-small-finished w r h = go (eqb (r .no) 0) (eqb (r .len) 0)
+small-closed : (w : List ℕ) (r : Reader) → r .len ≤ places → closed w r .0 .len ≤ places
+unfolding closed
+small-closed w r h = go (eqb (r .no) 0) (eqb (r .len) 0)
   where
     go : (t u : Bool) → cond t (cond u (r, w) (ended w r)) (r, w) .0 .len ≤ places
     go true true = h
     go true false = small-ended w r h
     go false u = h
+
+small-checked : (w : List ℕ) (r : Reader) → r .len ≤ places → checked w r .len ≤ places
+unfolding checked
+small-checked w r h = go (eqb (r .no) 0)
+  where
+    go : (t : Bool) → cond t (stopped r (poolNo (decode w))) r .len ≤ places
+    go true = h
+    go false = h
+
+small-fed : (s w : List ℕ) (r : Reader) → r .len ≤ places → fed w r s .0 .len ≤ places
+unfolding fed
+small-fed s w r h = small-passed s w (checked w r) (small-checked w r h)
+
+small-finished : (w : List ℕ) (r : Reader) → r .len ≤ places → finished w r .0 .len ≤ places
+unfolding finished
+small-finished w r h = small-closed w (checked w r) (small-checked w r h)
 
 -- the two pieces, one after the other, and the end of the input
 module _ (w s : List ℕ) (c : Call) (cut : ℕ) {w₁ w₂ w₃ : List ℕ} {r₀ r₁ r₂ r₃ : Reader} (k : Cut s (c .b) cut) (z : r₀ ≡ begun)

@@ -1,4 +1,4 @@
--- The calls with a network: what `ask` finds, a law for each return, and then the result, counted and written (`Result` of pool's proofs/Returns.antt says what becomes of it).
+-- The calls with a network: what they find first, a law for each return, and then the result, counted and written (`Result` of pool's proofs/Returns.antt says what becomes of it).
 -- A change of lists is done on tries (`Works`), so one law serves add and remove. Assumes nothing.
 use mathlib.Core.Path.{_≡_, refl, sym, _∙_}
 use mathlib.Core.Bool.{true, false}
@@ -28,48 +28,51 @@ use Rattle.pool_state.specs.States.{State, roomOf}
 use Rattle.pool_state.specs.Decode.{base, sound, decode}
 use Rattle.pool_state.specs.Rules.{surveyOf}
 use Rattle.pool_state.specs.Changes.{listAt, netRules}
+use Rattle.pool_state.specs.Steps.{Surveyed}
 use Rattle.pool_state.specs.declared.Survey.{Survey}
 use Rattle.pool_state.proofs.Claims.{isState-family}
 use Rattle.pool_state.proofs.Decoded.{decode-header, decode-state}
-use Rattle.pool_state.proofs.Seen.{Seen, behind, survey-sound, refuses-damaged, refuses-noset, survey-seen, seen, seen-figures, trieAt, seen-list, seen-size, seen-segment}
+use Rattle.pool_state.proofs.Seen.{Seen, behind, refuses-damaged, refuses-noset, seen, seen-state, seen-header, seen-figures, trieAt, seen-list, seen-size, seen-segment}
 use Rattle.pool_state.proofs.Changed.{withTrie, gap-asks}
 use Rattle.pool_state.proofs.Returns.{Result, change-seat, change-args, changed, netRules-own, netRules-other}
-use Rattle.change.specs.Steps.{Ready, Asks, seatOf}
+use Rattle.change.specs.Steps.{Finds, Ready, Asks, seatOf}
 use Rattle.change.specs.declared.calling.Asked.the-variants.{Go, Refused}
+use Rattle.change.specs.declared.calling.Found.the-variants as found
 use Rattle.change.specs.declared.calling.Seat.{Seat}
 use Rattle.trie_insert.proofs.Insertion.{size-insert}
 use Rattle.trie_remove.proofs.Remains.{size-removeT}
 
--- What `ask` finds.
-module _ {w : List ℕ} {k : ℕ} {v : Survey} (n : Net) (e : v ≡ surveyOf (decode w) k) where
-  pub ask-damaged : v .sound ≡ false → Asks w k n (Refused Damaged)
-  ask-damaged q f = changed (change-seat (netRules n) f w k (refuses-damaged w k v e q))
+-- What `find` finds.
+module _ {w : List ℕ} {k : ℕ} {v : Survey} (e : v ≡ surveyOf (decode w) k) where
+  pub find-damaged : v .sound ≡ false → Finds w k (found.Refused Damaged)
+  find-damaged q a f = changed (change-seat a f w k (refuses-damaged w k v e q))
 
-  pub ask-noset : v .sound ≡ true → getD w 2 0 ≤ k → Asks w k n (Refused NoSet)
-  ask-noset q le f = changed (change-seat (netRules n) f w k (refuses-noset w k v e q le))
+  pub find-noset : v .sound ≡ true → getD w 2 0 ≤ k → Finds w k (found.Refused NoSet)
+  find-noset q le a f = changed (change-seat a f w k (refuses-noset w k v e q le))
 
-  module _ (q : v .sound ≡ true) (lt : k < getD w 2 0) where
-    ask-args : (x : Refusal) → ((S : State) → isFamily (S .family) ≡ true → getD w 1 0 ≡ S .family → firstNo (netRules n S) ≡ number x) → Asks w k n (Refused x)
-    ask-args x h f =
-        let y = survey-sound w k v e q in
-        changed (change-args (netRules n) f (survey-seen w k v e (y .0) (y .1) lt) (h (y .0) (isState-family (y .0) (decode-state w (y .0) (y .1))) (decode-header w (y .0) (y .1) .family)) (number-some x))
+-- What `ask_found` finds.
+module _ {w : List ℕ} {k : ℕ} {v : Survey} (n : Net) (h : Surveyed w k v) where
+  ask-args : (x : Refusal) → ((S : State) → isFamily (S .family) ≡ true → getD w 1 0 ≡ S .family → firstNo (netRules n S) ≡ number x) → Asks w k n (Refused x)
+  ask-args x g f =
+      let (S, s) = seen h in
+      changed (change-args (netRules n) f s (g S (isState-family S (seen-state s)) (seen-header s .family)) (number-some x))
 
-    pub ask-family : (n .family ≡ getD w 1 0 → ⊥) → Asks w k n (Refused WrongFamily)
-    ask-family ne = ask-args WrongFamily (λ S f o. netRules-other n S (λ z. ne (z ∙ sym o)))
+  pub ask-family : (n .family ≡ getD w 1 0 → ⊥) → Asks w k n (Refused WrongFamily)
+  ask-family ne = ask-args WrongFamily (λ S f o. netRules-other n S (λ z. ne (z ∙ sym o)))
 
-    module _ (own : n .family ≡ getD w 1 0) (p : Prefix) (g : prefixAs p ≡ answered (refusalOf n) noBits (startOf n)) where
-      pub ask-network : (x : Refusal) → p ≡ prefix.Refused x → Asks w k n (Refused x)
-      ask-network x h = ask-args x (λ S f o. netRules-own n S f (own ∙ o) ∙ prefix-refused n p x g h)
+  module _ (own : n .family ≡ getD w 1 0) (p : Prefix) (g : prefixAs p ≡ answered (refusalOf n) noBits (startOf n)) where
+    pub ask-network : (x : Refusal) → p ≡ prefix.Refused x → Asks w k n (Refused x)
+    ask-network x q = ask-args x (λ S f o. netRules-own n S f (own ∙ o) ∙ prefix-refused n p x g q)
 
-      pub ask-go : (s : PrefixBits) → p ≡ prefix.Bits s → Asks w k n (Go v s)
-      ask-go s h =
-          let y = prefix-bits n p s g h in
-          record {
-            surveyed = record { found = e; sound = q; known = lt };
-            right = λ S d. netRules-own n S (isState-family S (decode-state w S d)) (own ∙ decode-header w S d .family) ∙ y .0;
-            bits = rw (y .1) (bitsLeft-start n (y .0));
-            few = rw (y .1) (startOf-few n (y .0));
-          }
+    pub ask-go : (s : PrefixBits) → p ≡ prefix.Bits s → Asks w k n (Go v s)
+    ask-go s q =
+        let y = prefix-bits n p s g q in
+        record {
+          surveyed = h;
+          right = λ S d. netRules-own n S (isState-family S (decode-state w S d)) (own ∙ decode-header w S d .family) ∙ y .0;
+          bits = rw (y .1) (bitsLeft-start n (y .0));
+          few = rw (y .1) (startOf-few n (y .0));
+        }
 
 -- T does to tries what L does to lists, and it takes at most two nodes more for each bit of the path, and one.
 pub record Works (T : Bits → Trie → Trie) (L : List Bits → Bits → List Bits) : Type 0 where
@@ -84,10 +87,10 @@ works-remove = record { list = listOf-remove; few = λ p t. omega (arith, size-r
 
 -- The trie of the set stands in its seat.
 module _ {w : List ℕ} {k : ℕ} {n : Net} {v : Survey} {s : PrefixBits} (h : Ready w k n v s) where
-  abbrev state : State
+  abbrev pub state : State
   state = seen (h .surveyed) .0
 
-  abbrev trie : Trie
+  abbrev pub trie : Trie
   trie = trieAt state k
 
   here : Seen w state k v
@@ -107,19 +110,19 @@ pub record Counted (T : Bits → Trie → Trie) (L : List Bits → Bits → List
   pub counts : (x : Trie) (rest : List ℕ) (u : ℕ) → Segment w (t .base) (t .first) (t .end) u x rest → m ≡ size (T (bitsLeft s) x)
 
 module _ {T : Bits → Trie → Trie} {L : List Bits → Bits → List Bits} {w : List ℕ} {k : ℕ} {n : Net} {v : Survey} {s : PrefixBits} {t : Seat} {m : ℕ} (h : Counted T L w k n v s t m) where
-  abbrev S : State
+  abbrev pub S : State
   S = state (h .ready)
 
-  abbrev old : Trie
+  abbrev pub old : Trie
   old = trie (h .ready)
 
-  abbrev new : Trie
+  abbrev pub new : Trie
   new = T (bitsLeft s) old
 
   abbrev after : State → List Bits
   after U = L (listAt U k) (netBits n)
 
-  sees : Seen w S k v
+  pub sees : Seen w S k v
   sees = here (h .ready)
 
   pub result-stands : Segment w (t .base) (t .first) (t .end) (t .used) old (behind S k)

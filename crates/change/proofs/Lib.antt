@@ -1,4 +1,5 @@
--- Why: the calls with a network, simplifying, and what their contracts say.
+-- Why: the calls with a network, what their contracts say, adding to a set that is found, and simplifying.
 pub mod Calls
 pub mod Outcomes
+pub mod Growing
 pub mod Simplified

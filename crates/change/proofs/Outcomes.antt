@@ -1,12 +1,15 @@
 -- What the contracts of add and remove come to: one outcome is allowed; and sound words stay sound, with the state that the rule says (`RelistLeaves`). Assumes nothing.
 use mathlib.Core.Path.{_≡_}
+use mathlib.Core.Bool.{true}
 use mathlib.Core.List.{List}
 use Prim.Native.Nat.{ℕ}
+use Rattle.nets.specs.Lists.{isList}
 use Rattle.nets.specs.Networks.{width, netBits}
+use Rattle.nets.specs.Refusals.{firstNo}
 use Rattle.nets.specs.declared.Net.{Net}
 use Rattle.nets.proofs.TrieOf.{isList-add}
 use Rattle.nets.proofs.Laws.{isList-remove}
-use Rattle.pool_state.specs.States.{State}
+use Rattle.pool_state.specs.States.{State, isState}
 use Rattle.pool_state.specs.Decode.{sound, decode}
 use Rattle.pool_state.specs.Rules.{answerAs}
 use Rattle.pool_state.specs.Changes.{listAt, netRules}
@@ -24,10 +27,14 @@ add-one n h g = changed-one h g
 pub remove-one : {w v u : List ℕ} {k : ℕ} {r x : Answer} (n : Net) → Removed w k n (answerAs r) v → Removed w k n (answerAs x) u → (r ≡ x) × (v ≡ u)
 remove-one n h g = changed-one h g
 
+-- The list with the network is one.
+pub add-list : (n : Net) (S : State) (k : ℕ) → isState S ≡ true → firstNo (netRules n S) ≡ 0 → isList (width (S .family)) (listWith k n S) ≡ true
+add-list n S k e z = isList-add (width (S .family)) (listAt S k) (netBits n) (isList-listAt S k e) (netRules-within n S z)
+
 -- What is left of a sound pool.
 module _ {w v : List ℕ} {S : State} {k : ℕ} {r : ℕ × ℕ} (n : Net) (d : decode w ≡ sound S) where
   pub add-leaves : Added w k n r v → RelistLeaves w S k (netRules n S) (listWith k n S) r v
-  add-leaves c = relist-leaves (netRules n) (listWith k n) d (λ z. isList-add (width (S .family)) (listAt S k) (netBits n) (isList-listAt S k (decode-state w S d)) (netRules-within n S z)) c
+  add-leaves c = relist-leaves (netRules n) (listWith k n) d (add-list n S k (decode-state w S d)) c
 
   pub remove-leaves : Removed w k n r v → RelistLeaves w S k (netRules n S) (listWithout k n S) r v
   remove-leaves c = relist-leaves (netRules n) (listWithout k n) d (λ z. isList-remove (width (S .family)) (listAt S k) (netBits n) (isList-listAt S k (decode-state w S d)) (netRules-within n S z)) c

@@ -10,9 +10,16 @@ use pool_state::Survey;
 ghost use mathlib.Core.Path.{_≡_};
 ghost use Prim.Native.Nat.{_<_};
 ghost use lib.ListN.{length};
-ghost use Rattle.change.specs.Steps.{Asks, seatOf};
+ghost use Rattle.pool_state.specs.Steps.{Surveyed};
+ghost use Rattle.change.specs.Steps.{Finds, Asks, seatOf};
 
-// A call goes on with what a pass over the pool found and the bits of the network, or it is refused.
+// A call on a set goes on with what a pass over the pool found, or it is refused.
+pub enum Found {
+    Set(Survey),
+    Refused(Refusal),
+}
+
+// A call with a network goes on with what a pass over the pool found and the bits of the network, or it is refused.
 pub enum Asked {
     Go(Survey, PrefixBits),
     Refused(Refusal),
@@ -26,17 +33,25 @@ pub struct Seat {
     pub used: usize,
 }
 
-// The pool is sound, the set is there, and the network is one of the pool's family.
-pub fn ask(pool: &[u32], set: u32, net: Net) -> Asked
-    ensures { λ r. ⌜ Asks (now (pool .entry)) set net r ⌝ }
+// The pool is sound and the set is there: what a pass over the pool found.
+pub fn find(pool: &[u32], set: u32) -> Found
+    ensures { λ r. ⌜ Finds (now (pool .entry)) set r ⌝ }
 {
     let found = survey(pool, set);
     if !found.sound {
-        return Asked::Refused(Refusal::Damaged);
+        return Found::Refused(Refusal::Damaged);
     }
     if pool[2] <= set {
-        return Asked::Refused(Refusal::NoSet);
+        return Found::Refused(Refusal::NoSet);
     }
+    Found::Set(found)
+}
+
+// The network is one of the pool's family.
+pub fn ask_found(pool: &[u32], set: u32, found: Survey, net: Net) -> Asked
+    requires { ⌜ Surveyed (now pool) set found ⌝ }
+    ensures { λ r. ⌜ Asks (now (pool .entry)) set net r ⌝ }
+{
     if net.family as u32 != pool[1] {
         return Asked::Refused(Refusal::WrongFamily);
     }
@@ -44,6 +59,17 @@ pub fn ask(pool: &[u32], set: u32, net: Net) -> Asked
     match prefix {
         Prefix::Bits(s) => Asked::Go(found, s),
         Prefix::Refused(no) => Asked::Refused(no),
+    }
+}
+
+// The pool is sound, the set is there, and the network is one of the pool's family.
+pub fn ask(pool: &[u32], set: u32, net: Net) -> Asked
+    ensures { λ r. ⌜ Asks (now (pool .entry)) set net r ⌝ }
+{
+    let f = find(pool, set);
+    match f {
+        Found::Set(found) => ask_found(pool, set, found, net),
+        Found::Refused(no) => Asked::Refused(no),
     }
 }
 

@@ -1,6 +1,10 @@
 // Changing one set: adding a network, removing one, simplifying. Where a call is refused, no word changes.
+use adding::Grown;
+use adding::add_found;
 use calling::Asked;
+use calling::Found;
 use calling::ask;
+use calling::find;
 use calling::seat_of;
 use nets::Net;
 use nets::Refusal;
@@ -18,6 +22,7 @@ ghost use Rattle.pool_state.specs.Rules.{answerAs};
 ghost use Rattle.change.specs.Calls.{Added, Removed};
 ghost use Rattle.change.specs.Simplified.{Simplifies};
 
+pub mod adding;
 mod calling;
 mod shrinking;
 
@@ -25,19 +30,14 @@ mod shrinking;
 pub fn add(pool: &mut [u32], set: u32, net: Net) -> Answer
     ensures { λ r. ⌜ Added (now (pool .entry)) set net (answerAs r) (now (pool .exit)) ⌝ }
 {
-    let asked = ask(pool, set, net);
-    match asked {
-        Asked::Refused(no) => Answer::Refused(no),
-        Asked::Go(found, s) => {
-            let at = seat_of(pool, found);
-            let n = trie_insert::insert_size(pool, at.base, at.first, at.end, s) as u32;
-            let verdict = judge(pool, set, found, n);
-            match verdict {
-                Verdict::No(no) => Answer::Refused(no),
-                Verdict::Fits => {
-                    trie_insert::insert(pool, at.base, at.first, at.end, at.used, s);
-                    granted(pool, set, found, n)
-                }
+    let f = find(pool, set);
+    match f {
+        Found::Refused(no) => Answer::Refused(no),
+        Found::Set(found) => {
+            let grown = add_found(pool, set, found, net);
+            match grown {
+                Grown::Grew(then) => Answer::Granted(then.held),
+                Grown::Refused(no) => Answer::Refused(no),
             }
         }
     }

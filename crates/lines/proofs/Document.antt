@@ -10,7 +10,7 @@ use Rattle.nets.specs.Lists.{nodesL, addL, simplifyL}
 use Rattle.nets.specs.Networks.{netBits, width}
 use Rattle.text.specs.Decimal.{isDigit, allDigits, decimalFrom, plain, isNumber, leading, behind, readNumber}
 use Rattle.text.specs.Ipv4.{address, ipv4, readNext, readQuad, readLine}
-use Rattle.lines.specs.Lines.{linesOf, withLines}
+use Rattle.lines.specs.Lines.{linesOf, withNets, withLines}
 
 abbrev bytes : String → List ℕ
 bytes String.[] = []
@@ -28,5 +28,5 @@ unfolding linesOf
 document-lines = refl
 
 pub document-list : (simplifyL (withLines [] (linesOf input)) ≡ printed) × (nodesL printed ≡ 32)
-unfolding linesOf withLines isDigit allDigits decimalFrom plain isNumber leading behind readNumber readNext readQuad readLine netBits width bits before size levels listOf insertT trieOf simplifyT addL simplifyL nodesL
+unfolding linesOf withNets isDigit allDigits decimalFrom plain isNumber leading behind readNumber readNext readQuad readLine netBits width bits before size levels listOf insertT trieOf simplifyT addL simplifyL nodesL
 document-list = (refl, refl)

@@ -8,29 +8,74 @@ use native.Mathlib.Omega.{arith}
 use lib.Dec.{eqb, ltb}
 use lib.ListN.{length, take, set, length-set}
 use borrow.Author.Tests.{eqb-true, eqb-false, eq-eqb, ne-eqb}
-use Rattle.lines.specs.Lines.{lineFeed, linesOf, lineNo, wordsWith, Result, taken}
-use Rattle.lines.specs.Reading.{places, begun, kept, pushed, ended, stepped, fed, finished, fedAll, allRead}
+use Rattle.pool_state.specs.Decode.{Decoded, damaged, sound, decode}
+use Rattle.lines.specs.Lines.{lineFeed, linesOf, lineNo, wordsWith, Result, taken, poolNo, allTaken}
+use Rattle.lines.specs.Reading.{places, begun, kept, pushed, stopped, ended, stepped, passed, closed, checked, fed, finished, fedAll, allRead}
 use Rattle.lines.specs.declared.Reader.{Reader}
-use Rattle.lines.proofs.Steps.{fed-refused, finished-refused, finished-none, finished-line}
+use Rattle.lines.proofs.Steps.{passed-refused, closed-refused, closed-none, closed-line, checked-refused, checked-sound, checked-damaged, two}
+use Rattle.lines.proofs.Lists.{poolNo-line}
 use Rattle.lines.proofs.Taking.{wordsWith-refused}
 use Rattle.lines.proofs.Keeping.{kept-pushed, take-more, lineNo-kept, wordsWith-kept}
 use Rattle.lines.proofs.Cutting.{Plain, plain-more, linesOf-feed, linesOf-rest}
 
--- Pieces fed one after the other are fed as one.
-fed-append : (s t w : List ℕ) (r : Reader) → fed w r (s ++ t) ≡ (let x = fed w r s in fed (x .1) (x .0) t)
-unfolding fed
-fed-append [] t w r = refl
-fed-append (b ∷ s) t w r = let y = stepped w r b in go y (eqb (r .no) 0) refl (fed-append s t (y .1) (y .0))
+-- Pieces passed one after the other are passed as one.
+passed-append : (s t w : List ℕ) (r : Reader) → passed w r (s ++ t) ≡ (let x = passed w r s in passed (x .1) (x .0) t)
+unfolding passed
+passed-append [] t w r = refl
+passed-append (b ∷ s) t w r = let y = stepped w r b in go y (eqb (r .no) 0) refl (passed-append s t (y .1) (y .0))
   where
-    go : (y : Reader × List ℕ) (c : Bool) → eqb (r .no) 0 ≡ c → fed (y .1) (y .0) (s ++ t) ≡ (let x = fed (y .1) (y .0) s in fed (x .1) (x .0) t)
-        → cond c (fed (y .1) (y .0) (s ++ t)) (r, w) ≡ (let x = cond c (fed (y .1) (y .0) s) (r, w) in fed (x .1) (x .0) t)
+    go : (y : Reader × List ℕ) (c : Bool) → eqb (r .no) 0 ≡ c → passed (y .1) (y .0) (s ++ t) ≡ (let x = passed (y .1) (y .0) s in passed (x .1) (x .0) t)
+        → cond c (passed (y .1) (y .0) (s ++ t)) (r, w) ≡ (let x = cond c (passed (y .1) (y .0) s) (r, w) in passed (x .1) (x .0) t)
     go y true e h = h
-    go y false e h = fed-refused w r t (eqb-false (r .no) 0 e)
+    go y false e h = passed-refused w r t (eqb-false (r .no) 0 e)
 
-fedAll-flatten : (ps : List (List ℕ)) (w : List ℕ) (r : Reader) → fedAll w r ps ≡ fed w r (flatten ps)
-unfolding fedAll flatten fed
-fedAll-flatten [] w r = refl
-fedAll-flatten (p ∷ ps) w r = let x = fed w r p in fedAll-flatten ps (x .1) (x .0) ∙ sym (fed-append p (flatten ps) w r)
+-- A reading that goes on is one on sound words: so it stays, and a second check leaves it.
+abbrev Fit : Reader × List ℕ → Type 0
+Fit x = x .0 .no ≡ 0 → poolNo (decode (x .1)) ≡ 0
+
+fit-checked : (w : List ℕ) (r : Reader) → Fit (checked w r, w)
+unfolding checked
+fit-checked w r = go (eqb (r .no) 0) refl
+  where
+    go : (b : Bool) → eqb (r .no) 0 ≡ b → cond b (stopped r (poolNo (decode w))) r .no ≡ 0 → poolNo (decode w) ≡ 0
+    go true q e = e
+    go false q e = absurd (eqb-false (r .no) 0 q e)
+
+checked-fit : (w : List ℕ) (r : Reader) → Fit (r, w) → checked w r ≡ r
+checked-fit w r h = go (eqb (r .no) 0) refl
+  where
+    go : (b : Bool) → eqb (r .no) 0 ≡ b → checked w r ≡ r
+    go true q = let e = eqb-true (r .no) 0 q in checked-sound w r e (h e)
+    go false q = checked-refused w r (eqb-false (r .no) 0 q)
+
+fit-stepped : (w : List ℕ) (r : Reader) (b : ℕ) → poolNo (decode w) ≡ 0 → Fit (stepped w r b)
+unfolding ended
+fit-stepped w r b z = go (eqb b lineFeed)
+  where
+    go : (t : Bool) → Fit (cond t (ended w r) (pushed r b, w))
+    go true e = poolNo-line w (kept r) z
+    go false e = z
+
+fit-passed : (s w : List ℕ) (r : Reader) → Fit (r, w) → Fit (passed w r s)
+unfolding passed
+fit-passed [] w r h = h
+fit-passed (b ∷ s) w r h = let y = stepped w r b in go (passed (y .1) (y .0) s) (eqb (r .no) 0) refl (λ z. fit-passed s (y .1) (y .0) (fit-stepped w r b z))
+  where
+    go : (x : Reader × List ℕ) (c : Bool) → eqb (r .no) 0 ≡ c → (poolNo (decode w) ≡ 0 → Fit x) → Fit (cond c x (r, w))
+    go x true q g = g (h (eqb-true (r .no) 0 q))
+    go x false q g = h
+
+abbrev closing : Reader × List ℕ → Reader × List ℕ
+closing x = closed (x .1) (x .0)
+
+-- so the pieces are checked as one
+pieces-one : (ps : List (List ℕ)) (w : List ℕ) (r : Reader) → (let x = fedAll w r ps in finished (x .1) (x .0)) ≡ closing (passed w (checked w r) (flatten ps))
+unfolding fedAll flatten passed fed finished
+pieces-one [] w r = refl
+pieces-one (p ∷ ps) w r =
+    let x = passed w (checked w r) p in
+    let c = checked-fit (x .1) (x .0) (fit-passed p w (checked w r) (fit-checked w r)) in
+    pieces-one ps (x .1) (x .0) ∙ ap (λ q. closing (passed (x .1) q (flatten ps))) c ∙ ap closing (sym (passed-append p (flatten ps) w (checked w r)))
 
 -- The reader is amid line k, of which t has been read.
 record Amid (r : Reader) (k : ℕ) (t : List ℕ) : Type 0 where
@@ -99,49 +144,57 @@ comes-line w r k t a = go (eqb (lineNo w t) 0) refl
     go true e = let b = amid-added w r k t a (eqb-true (lineNo w t) 0 e) in record { number = b .number; no = b .going; words = words-ended w r k t a }
     go false e = comes-refused w r k t a (eqb-false (lineNo w t) 0 e)
 
-comes-end : (w : List ℕ) (r : Reader) (k : ℕ) (t : List ℕ) → Amid r k t → Plain t → Comes (finished w r) (taken k w (linesOf t))
+comes-end : (w : List ℕ) (r : Reader) (k : ℕ) (t : List ℕ) → Amid r k t → Plain t → Comes (closed w r) (taken k w (linesOf t))
 unfolding taken linesOf
 comes-end w r k [] a p =
     let z = take-none (r .len) (r .line) (omega (arith, a .wide)) (a .line) in
-    rw (← finished-none w r (a .going) z) (record { number = a .number; no = a .going; words = refl })
+    rw (← closed-none w r (a .going) z) (record { number = a .number; no = a .going; words = refl })
 comes-end w r k (c ∷ t) a p =
-    rw (← finished-line w r (a .going) (λ z. nil≢cons (rw z at (a .line))) refl) (rw (linesOf-rest c t p) (comes-line w r k (c ∷ t) a))
-
-abbrev ends : Reader × List ℕ → Reader × List ℕ
-ends x = finished (x .1) (x .0)
+    rw (← closed-line w r (a .going) (λ z. nil≢cons (rw z at (a .line))) refl) (rw (linesOf-rest c t p) (comes-line w r k (c ∷ t) a))
 
 -- One byte more of the input, if the rest of it is read so.
 module _ (b : ℕ) (s w : List ℕ) (r : Reader) (k : ℕ) (t : List ℕ) (a : Amid r k t) (p : Plain t)
-    (rest : (w : List ℕ) (r : Reader) (k : ℕ) (t : List ℕ) → Amid r k t → Plain t → Comes (ends (fed w r s)) (taken k w (linesOf (t ++ s)))) where
-  comes-feed : Comes (let x = ended w r in ends (fed (x .1) (x .0) s)) (taken k w (t ∷ linesOf s))
+    (rest : (w : List ℕ) (r : Reader) (k : ℕ) (t : List ℕ) → Amid r k t → Plain t → Comes (closing (passed w r s)) (taken k w (linesOf (t ++ s)))) where
+  comes-feed : Comes (let x = ended w r in closing (passed (x .1) (x .0) s)) (taken k w (t ∷ linesOf s))
   unfolding taken
   comes-feed = go (eqb (lineNo w t) 0) refl
     where
       go : (c : Bool) → eqb (lineNo w t) 0 ≡ c
-          → Comes (let x = ended w r in ends (fed (x .1) (x .0) s)) (cond c (taken (k + 1) (wordsWith w t) (linesOf s)) (record { number = k; no = lineNo w t; words = w }))
+          → Comes (let x = ended w r in closing (passed (x .1) (x .0) s)) (cond c (taken (k + 1) (wordsWith w t) (linesOf s)) (record { number = k; no = lineNo w t; words = w }))
       go true e = rw (words-ended w r k t a) (rest (wordsWith w t) (ended w r .0) (k + 1) [] (amid-added w r k t a (eqb-true (lineNo w t) 0 e)) tt)
       go false e =
           let h = comes-refused w r k t a (eqb-false (lineNo w t) 0 e) in
           let ne : ended w r .0 .no ≡ 0 → ⊥ = λ z. eqb-false (lineNo w t) 0 e (sym (h .no) ∙ z) in
-          rw (← fed-refused (ended w r .1) (ended w r .0) s ne, ← finished-refused (ended w r .1) (ended w r .0) ne) h
+          rw (← passed-refused (ended w r .1) (ended w r .0) s ne, ← closed-refused (ended w r .1) (ended w r .0) ne) h
 
-  comes-byte : Comes (ends (fed w r (b ∷ s))) (taken k w (linesOf (t ++ (b ∷ s))))
-  unfolding fed
+  comes-byte : Comes (closing (passed w r (b ∷ s))) (taken k w (linesOf (t ++ (b ∷ s))))
+  unfolding passed
   comes-byte = rw (eq-eqb (r .no) 0 (a .going)) (go (eqb b lineFeed) refl)
     where
       go : (c : Bool) → eqb b lineFeed ≡ c
-          → Comes (let x = cond c (ended w r) (pushed r b, w) in ends (fed (x .1) (x .0) s)) (taken k w (linesOf (t ++ (b ∷ s))))
+          → Comes (let x = cond c (ended w r) (pushed r b, w) in closing (passed (x .1) (x .0) s)) (taken k w (linesOf (t ++ (b ∷ s))))
       go true e = rw (eqb-true b lineFeed e, linesOf-feed t s p) comes-feed
       go false e = rw (append-assoc t (b ∷ []) s) at (rest w (pushed r b) k (t ++ (b ∷ [])) (amid-pushed r k t b a) (plain-more t b p e))
 
-comes : (s w : List ℕ) (r : Reader) (k : ℕ) (t : List ℕ) → Amid r k t → Plain t → Comes (ends (fed w r s)) (taken k w (linesOf (t ++ s)))
-unfolding fed
+comes : (s w : List ℕ) (r : Reader) (k : ℕ) (t : List ℕ) → Amid r k t → Plain t → Comes (closing (passed w r s)) (taken k w (linesOf (t ++ s)))
+unfolding passed
 comes [] w r k t a p = rw (append-nil t) (comes-end w r k t a p)
 comes (b ∷ s) w r k t a p = comes-byte b s w r k t a p (comes s)
 
--- Whatever the pieces, the reading comes to what the lines of the whole input come to.
-pub input-read : (w : List ℕ) (ps : List (List ℕ)) → Comes (allRead w ps) (taken 1 w (linesOf (flatten ps)))
-input-read w ps = rw (fedAll-flatten ps w begun) (comes (flatten ps) w begun 1 [] (record { going = refl; wide = refl; line = refl; number = refl }) tt)
+-- Whatever the pieces, the reading comes to what the lines of the whole input come to; on damaged words to 2.
+begun-amid : Amid begun 1 []
+begun-amid = record { going = refl; wide = refl; line = refl; number = refl }
+
+pub input-read : (w : List ℕ) (ps : List (List ℕ)) → Comes (allRead w ps) (allTaken w (linesOf (flatten ps)))
+unfolding allTaken
+input-read w ps = rw (pieces-one ps w begun) (go (decode w) refl)
+  where
+    go : (d : Decoded) → decode w ≡ d
+        → Comes (closing (passed w (checked w begun) (flatten ps))) (let x = poolNo d in cond (eqb x 0) (taken 1 w (linesOf (flatten ps))) (record { number = 1; no = x; words = w }))
+    go damaged e =
+        let q = stopped begun 2 in
+        rw (checked-damaged w begun refl (ap poolNo e), ← passed-refused w q (flatten ps) two, ← closed-refused w q two) (record { number = refl; no = refl; words = refl })
+    go (sound S) e = rw (checked-sound w begun refl (ap poolNo e)) (comes (flatten ps) w begun 1 [] begun-amid tt)
 
 -- Two outcomes that the contract of feed allows are equal, and so for finish.
 pub feed-determined : (w : List ℕ) (r : Reader) (p : List ℕ) {q s : Reader} {v u : List ℕ} → (q, v) ≡ fed w r p → (s, u) ≡ fed w r p → (q ≡ s) × (v ≡ u)

@@ -1,53 +1,112 @@
--- The returns of the calls, by the tests on the way to each; and the loop over a piece: what is left of it completes what is fed. Assumes nothing.
+-- The returns of the calls, by the tests on the way to each; and the loop over a piece: what is left of it completes what is passed. Assumes nothing.
 use mathlib.Core.List.{List, [], _∷_}
-use mathlib.Core.Path.{_≡_, refl, ap}
+use mathlib.Core.Bool.{true, false}
+use mathlib.Core.Path.{_≡_, refl, ap, sym, _∙_}
 use Prim.Native.Nat.{ℕ, suc, _+_, _%_, _^_, _<_}
 use native.Mathlib.Numerals.{add-one}
+use native.Mathlib.Omega.{arith}
 use lib.ListN.{length, drop, getD}
 use lib.Seq.{drop-cons, drop-length}
 use borrow.Author.Tests.{eq-eqb, ne-eqb}
-use Rattle.lines.specs.Lines.{lineFeed, lineNo, wordsWith}
-use Rattle.lines.specs.Reading.{kept, pushed, ended, stepped, fed, finished}
+use Rattle.pool_state.specs.Decode.{decode}
+use Rattle.pool_state.specs.Rules.{surveyOf}
+use Rattle.pool_state.specs.Steps.{Surveyed}
+use Rattle.pool_state.specs.declared.Survey.{Survey}
+use Rattle.pool_state.proofs.Seen.{survey-sound, survey-damaged}
+use Rattle.lines.specs.Lines.{lineFeed, poolNo}
+use Rattle.lines.specs.Reading.{kept, pushed, stopped, ended, stepped, passed, closed, checked, fed, finished}
+use Rattle.lines.specs.Steps.{Takes, Leads}
+use Rattle.lines.specs.declared.Going.{Going}
 use Rattle.lines.specs.declared.Reader.{Reader}
+use Rattle.lines.specs.declared.Took.{Took}
 
 module _ (w : List ℕ) (r : Reader) where
-  module _ {x : ℕ} {v : List ℕ} (h : (x ≡ lineNo w (kept r)) × (v ≡ wordsWith w (kept r))) where
-    pub ended-refused : (x ≡ 0 → ⊥) → (record { line = r .line; len = r .len; number = r .number; no = x }, v) ≡ ended w r
+  module _ {t : Took} {v : List ℕ} (h : Takes w (kept r) t v) where
+    pub ended-refused : (t .no ≡ 0 → ⊥) → Leads (ended w r) (record { reader = stopped r (t .no); found = t .found }) v
     unfolding ended
-    ended-refused ne = rw (← h .0, ← h .1, ne-eqb x 0 ne)
+    ended-refused ne = record { comes = rw (← h .no, ← h .words, ne-eqb (t .no) 0 ne); found = h .found }
 
-    pub ended-added : {m : ℕ} → x ≡ 0 → m ≡ (r .number + 1) % 2 ^ 64 → (record { line = r .line; len = 0; number = m; no = x }, v) ≡ ended w r
+    pub ended-added : {m : ℕ} → t .no ≡ 0 → m ≡ (r .number + 1) % 2 ^ 64 → Leads (ended w r) (record { reader = record { line = r .line; len = 0; number = m; no = t .no }; found = t .found }) v
     unfolding ended
-    ended-added e k = rw (← h .0, ← h .1, eq-eqb x 0 e, ← k)
+    ended-added e k = record { comes = rw (← h .no, ← h .words, eq-eqb (t .no) 0 e, ← k); found = h .found }
 
-  pub stepped-feed : {b : ℕ} {s : Reader} {v : List ℕ} → b ≡ lineFeed → (s, v) ≡ ended w r → (s, v) ≡ stepped w r b
+  pub stepped-feed : {b : ℕ} {g : Going} {v : List ℕ} → b ≡ lineFeed → Leads (ended w r) g v → Leads (stepped w r b) g v
   stepped-feed {b} e h = rw (eq-eqb b lineFeed e) h
 
-  pub stepped-byte : {b : ℕ} {s : Reader} → (b ≡ lineFeed → ⊥) → s ≡ pushed r b → (s, w) ≡ stepped w r b
-  stepped-byte {b} ne h = rw (ne-eqb b lineFeed ne, ← h)
+  pub stepped-byte : {b : ℕ} {s : Reader} {f : Survey} → (b ≡ lineFeed → ⊥) → s ≡ pushed r b → Surveyed w 0 f → Leads (stepped w r b) (record { reader = s; found = f }) w
+  stepped-byte {b} ne h g = record { comes = rw (ne-eqb b lineFeed ne, ← h); found = g }
 
-  pub fed-refused : (s : List ℕ) → (r .no ≡ 0 → ⊥) → (r, w) ≡ fed w r s
-  unfolding fed
-  fed-refused [] ne = refl
-  fed-refused (b ∷ s) ne = rw (ne-eqb (r .no) 0 ne)
+module _ (w : List ℕ) (r : Reader) where
+  pub passed-refused : (s : List ℕ) → (r .no ≡ 0 → ⊥) → (r, w) ≡ passed w r s
+  unfolding passed
+  passed-refused [] ne = refl
+  passed-refused (b ∷ s) ne = rw (ne-eqb (r .no) 0 ne)
 
-  pub fed-all : (s : List ℕ) {i : ℕ} → i ≡ length s → (r, w) ≡ fed w r (drop i s)
-  unfolding fed
-  fed-all s e = rw (e, drop-length s)
+  pub passed-all : (s : List ℕ) {i : ℕ} → i ≡ length s → (r, w) ≡ passed w r (drop i s)
+  unfolding passed
+  passed-all s e = rw (e, drop-length s)
 
-  pub fed-step : (s : List ℕ) {i : ℕ} {v : List ℕ} {q : Reader} → i < length s → r .no ≡ 0 → (q, v) ≡ stepped w r (getD s i 0)
-      → fed v q (drop (i + 1) s) ≡ fed w r (drop i s)
-  unfolding fed
-  fed-step s {i} lt e h = rw (add-one i, drop-cons s i 0 lt, eq-eqb (r .no) 0 e) (ap (λ x. fed (x .1) (x .0) (drop (suc i) s)) h)
+  pub passed-step : (s : List ℕ) {i : ℕ} {v : List ℕ} {q : Reader} → i < length s → r .no ≡ 0 → (q, v) ≡ stepped w r (getD s i 0)
+      → passed v q (drop (i + 1) s) ≡ passed w r (drop i s)
+  unfolding passed
+  passed-step s {i} lt e h = rw (add-one i, drop-cons s i 0 lt, eq-eqb (r .no) 0 e) (ap (λ x. passed (x .1) (x .0) (drop (suc i) s)) h)
 
-  pub finished-refused : (r .no ≡ 0 → ⊥) → (r, w) ≡ finished w r
-  unfolding finished
-  finished-refused ne = rw (ne-eqb (r .no) 0 ne)
+  pub closed-refused : (r .no ≡ 0 → ⊥) → (r, w) ≡ closed w r
+  unfolding closed
+  closed-refused ne = rw (ne-eqb (r .no) 0 ne)
 
-  pub finished-none : r .no ≡ 0 → r .len ≡ 0 → (r, w) ≡ finished w r
-  unfolding finished
-  finished-none e z = rw (eq-eqb (r .no) 0 e, eq-eqb (r .len) 0 z)
+  pub closed-none : r .no ≡ 0 → r .len ≡ 0 → (r, w) ≡ closed w r
+  unfolding closed
+  closed-none e z = rw (eq-eqb (r .no) 0 e, eq-eqb (r .len) 0 z)
 
-  pub finished-line : {v : List ℕ} {q : Reader} → r .no ≡ 0 → (r .len ≡ 0 → ⊥) → (q, v) ≡ ended w r → (q, v) ≡ finished w r
-  unfolding finished
-  finished-line e ne h = rw (eq-eqb (r .no) 0 e, ne-eqb (r .len) 0 ne) h
+  pub closed-line : {v : List ℕ} {q : Reader} → r .no ≡ 0 → (r .len ≡ 0 → ⊥) → (q, v) ≡ ended w r → (q, v) ≡ closed w r
+  unfolding closed
+  closed-line e ne h = rw (eq-eqb (r .no) 0 e, ne-eqb (r .len) 0 ne) h
+
+pub two : _≡_ {A = ℕ} 2 0 → ⊥
+two e = absurd (omega arith)
+
+-- The check: a reading that has ended stays as it is, one on sound words too, and one on damaged words ends.
+pub checked-refused : (w : List ℕ) (r : Reader) → (r .no ≡ 0 → ⊥) → checked w r ≡ r
+unfolding checked
+checked-refused w r ne = rw (ne-eqb (r .no) 0 ne)
+
+pub checked-sound : (w : List ℕ) (r : Reader) → r .no ≡ 0 → poolNo (decode w) ≡ 0 → checked w r ≡ r
+unfolding checked
+checked-sound w r e z = rw (eq-eqb (r .no) 0 e, z) (ap (stopped r) (sym e))
+
+pub checked-damaged : (w : List ℕ) (r : Reader) → r .no ≡ 0 → poolNo (decode w) ≡ 2 → checked w r ≡ stopped r 2
+unfolding checked
+checked-damaged w r e z = rw (eq-eqb (r .no) 0 e, z)
+
+module _ (w : List ℕ) (v : Survey) (e : v ≡ surveyOf (decode w) 0) where
+  poolNo-sound : v .sound ≡ true → poolNo (decode w) ≡ 0
+  poolNo-sound q = rw (survey-sound w 0 v e q .1)
+
+  poolNo-damaged : v .sound ≡ false → poolNo (decode w) ≡ 2
+  poolNo-damaged q = rw (survey-damaged w 0 v e q)
+
+  module _ (r : Reader) (z : r .no ≡ 0) where
+    pub fed-damaged : (s : List ℕ) {x : Reader} → v .sound ≡ false → x ≡ stopped r 2 → (x, w) ≡ fed w r s
+    unfolding fed
+    fed-damaged s q h = rw (h, checked-damaged w r z (poolNo-damaged q)) (passed-refused w (stopped r 2) s two)
+
+    pub fed-passed : (s : List ℕ) {x : Reader × List ℕ} → v .sound ≡ true → x ≡ passed w r s → x ≡ fed w r s
+    unfolding fed
+    fed-passed s q h = rw (checked-sound w r z (poolNo-sound q)) h
+
+    pub finished-damaged : {x : Reader} → v .sound ≡ false → x ≡ stopped r 2 → (x, w) ≡ finished w r
+    unfolding finished
+    finished-damaged q h = rw (h, checked-damaged w r z (poolNo-damaged q)) (closed-refused w (stopped r 2) two)
+
+    pub finished-closed : {x : Reader × List ℕ} → v .sound ≡ true → x ≡ closed w r → x ≡ finished w r
+    unfolding finished
+    finished-closed q h = rw (checked-sound w r z (poolNo-sound q)) h
+
+pub fed-refused : (w : List ℕ) (r : Reader) (s : List ℕ) → (r .no ≡ 0 → ⊥) → (r, w) ≡ fed w r s
+unfolding fed
+fed-refused w r s ne = rw (checked-refused w r ne) (passed-refused w r s ne)
+
+pub finished-refused : (w : List ℕ) (r : Reader) → (r .no ≡ 0 → ⊥) → (r, w) ≡ finished w r
+unfolding finished
+finished-refused w r ne = rw (checked-refused w r ne) (closed-refused w r ne)

@@ -5,7 +5,9 @@
 --   wordsWith w l      the words afterwards
 --   taken k w ls       the lines ls, the first of them number k, taken one after the other from the words w on, up to the first that is refused: its number and
 --                      its refusal, and the words before it; where none is refused the number behind the last line, 0, and the words with all of them
---   withLines l ls     the list that set 0 then has, if it had l
+--   poolNo d           the refusal of every reading into a damaged pool, or 0
+--   allTaken w ls      the lines ls of a whole input: none is taken where the words w are damaged
+--   withNets l ns      the list that set 0 then has, if it had l and the networks ns are added;  withLines l ls: those of the lines ls
 use mathlib.Core.Bool.{cond}
 use mathlib.Core.List.{List, [], _∷_}
 use Prim.Native.Nat.{ℕ, _+_}
@@ -15,7 +17,7 @@ use Rattle.nets.specs.Lists.{addL}
 use Rattle.nets.specs.Networks.{netBits}
 use Rattle.nets.specs.declared.Net.{Net}
 use Rattle.text.specs.Ipv4.{readLine}
-use Rattle.pool_state.specs.Decode.{decode}
+use Rattle.pool_state.specs.Decode.{Decoded, damaged, sound, decode}
 use Rattle.pool_state.specs.Changes.{changeRule, wordsAfter, relistRules, relistSet, netRules}
 use Rattle.change.specs.Calls.{listWith}
 
@@ -53,7 +55,21 @@ unfoldable pub taken : ℕ → List ℕ → List (List ℕ) → Result
 taken k w [] = record { number = k; no = 0; words = w }
 taken k w (l ∷ ls) = cond (eqb (lineNo w l) 0) (taken (k + 1) (wordsWith w l) ls) (record { number = k; no = lineNo w l; words = w })
 
--- the list l with the networks of the lines ls added, one after the other
-unfoldable pub withLines : List Bits → List (List ℕ) → List Bits
-withLines l [] = l
-withLines l (x ∷ ls) = withLines (addL l (netBits (readLine x .1))) ls
+abbrev pub poolNo : Decoded → ℕ
+poolNo damaged = 2
+poolNo (sound S) = 0
+
+unfoldable pub allTaken : List ℕ → List (List ℕ) → Result
+allTaken w ls = let x = poolNo (decode w) in cond (eqb x 0) (taken 1 w ls) (record { number = 1; no = x; words = w })
+
+-- the list l with the networks ns added, one after the other;  the networks of the lines ls
+unfoldable pub withNets : List Bits → List Net → List Bits
+withNets l [] = l
+withNets l (n ∷ ns) = withNets (addL l (netBits n)) ns
+
+abbrev pub netsOf : List (List ℕ) → List Net
+netsOf [] = []
+netsOf (l ∷ ls) = readLine l .1 ∷ netsOf ls
+
+abbrev pub withLines : List Bits → List (List ℕ) → List Bits
+withLines l ls = withNets l (netsOf ls)

@@ -3,17 +3,21 @@
 --   begun              before the first byte
 --   kept r             the bytes kept of the line
 --   pushed r b         one byte more of the line
+--   stopped r x        the reading ends with the refusal x
 --   ended w r          the line has ended: its network is added and the next line begins, or the reading ends here
 --   stepped w r b      a byte of the input
---   fed w r s          the bytes s, up to the first line that is refused
---   finished w r       the input has ended, and with it a line that lacks its line feed
+--   passed w r s       the bytes s, up to the first line that is refused
+--   closed w r         the input has ended, and with it a line that lacks its line feed
+--   checked w r        a reading that goes on is one on sound words, and ends with 2 on damaged ones
+--   fed w r s, finished w r      the calls: the check, and then the bytes, or the end
 --   fedAll w r ps      the pieces ps one after the other;  allRead w ps: from the first byte to the end of the input
 use mathlib.Core.Bool.{cond}
 use mathlib.Core.List.{List, [], _∷_}
 use Prim.Native.Nat.{ℕ, _+_, _%_, _^_}
 use lib.Dec.{eqb, ltb}
 use lib.ListN.{take, set, replicate}
-use Rattle.lines.specs.Lines.{lineFeed, lineNo, wordsWith}
+use Rattle.pool_state.specs.Decode.{decode}
+use Rattle.lines.specs.Lines.{lineFeed, lineNo, wordsWith, poolNo}
 use Rattle.lines.specs.declared.Reader.{Reader}
 
 abbrev pub places : ℕ
@@ -28,10 +32,12 @@ kept r = take (r .len) (r .line)
 unfoldable pub pushed : Reader → ℕ → Reader
 pushed r b = cond (ltb (r .len) places) (record { line = set (r .line) (r .len) b; len = r .len + 1; number = r .number; no = r .no }) r
 
+abbrev pub stopped : Reader → ℕ → Reader
+stopped r x = record { line = r .line; len = r .len; number = r .number; no = x }
+
 -- by the refusal of the line, or 0; numbers go on from 0 behind the largest
 abbrev pub endedAs : ℕ → Reader → Reader
-endedAs x r =
-    cond (eqb x 0) (record { line = r .line; len = 0; number = (r .number + 1) % 2 ^ 64; no = x }) (record { line = r .line; len = r .len; number = r .number; no = x })
+endedAs x r = cond (eqb x 0) (record { line = r .line; len = 0; number = (r .number + 1) % 2 ^ 64; no = x }) (stopped r x)
 
 unfoldable pub ended : List ℕ → Reader → Reader × List ℕ
 ended w r = (endedAs (lineNo w (kept r)) r, wordsWith w (kept r))
@@ -39,12 +45,21 @@ ended w r = (endedAs (lineNo w (kept r)) r, wordsWith w (kept r))
 abbrev pub stepped : List ℕ → Reader → ℕ → Reader × List ℕ
 stepped w r b = cond (eqb b lineFeed) (ended w r) (pushed r b, w)
 
+unfoldable pub passed : List ℕ → Reader → List ℕ → Reader × List ℕ
+passed w r [] = (r, w)
+passed w r (b ∷ s) = cond (eqb (r .no) 0) (let x = stepped w r b in passed (x .1) (x .0) s) (r, w)
+
+unfoldable pub closed : List ℕ → Reader → Reader × List ℕ
+closed w r = cond (eqb (r .no) 0) (cond (eqb (r .len) 0) (r, w) (ended w r)) (r, w)
+
+unfoldable pub checked : List ℕ → Reader → Reader
+checked w r = cond (eqb (r .no) 0) (stopped r (poolNo (decode w))) r
+
 unfoldable pub fed : List ℕ → Reader → List ℕ → Reader × List ℕ
-fed w r [] = (r, w)
-fed w r (b ∷ s) = cond (eqb (r .no) 0) (let x = stepped w r b in fed (x .1) (x .0) s) (r, w)
+fed w r s = passed w (checked w r) s
 
 unfoldable pub finished : List ℕ → Reader → Reader × List ℕ
-finished w r = cond (eqb (r .no) 0) (cond (eqb (r .len) 0) (r, w) (ended w r)) (r, w)
+finished w r = closed w (checked w r)
 
 unfoldable pub fedAll : List ℕ → Reader → List (List ℕ) → Reader × List ℕ
 fedAll w r [] = (r, w)

@@ -1,9 +1,14 @@
 // Lines of IPv4 networks, added to set 0 of a pool. The input comes in pieces of any length: start, then feed with each piece, then finish.
+use change::adding::Grown;
+use change::adding::add_found;
+use nets::Refusal;
 use nets::Taken;
-use pool_state::Answer;
+use pool_check::survey;
+use pool_state::Survey;
 ghost use mathlib.Core.Path.{_≡_};
-ghost use Rattle.lines.specs.Lines.{lineNo, wordsWith};
-ghost use Rattle.lines.specs.Reading.{begun, kept, pushed, ended, stepped, fed, finished};
+ghost use Rattle.pool_state.specs.Steps.{Surveyed};
+ghost use Rattle.lines.specs.Reading.{begun, kept, pushed, stopped, ended, stepped, passed, fed, finished};
+ghost use Rattle.lines.specs.Steps.{Takes, Leads};
 
 // The bytes kept of a line: one more than the longest line of a network has, so that a line too long for one is still too long here.
 const KEPT: usize = 19;
@@ -14,6 +19,18 @@ pub struct Reader {
     pub len: usize,
     pub number: u64,
     pub no: u8,
+}
+
+// A reading under way: the reader, and what a pass over the pool finds as it is now. One pass at the start of a call serves all its lines.
+struct Going {
+    reader: Reader,
+    found: Survey,
+}
+
+// What became of a line: its refusal, or 0, and what a pass over the pool finds then.
+struct Took {
+    no: u8,
+    found: Survey,
 }
 
 // Before the first byte.
@@ -40,70 +57,108 @@ fn push(mut r: Reader, byte: u8) -> Reader
     r
 }
 
+// The pool is damaged: the reading ends.
+fn damaged(mut r: Reader) -> Reader
+    ensures { λ s. ⌜ s ≡ stopped r 2 ⌝ }
+{
+    let no = Refusal::Damaged;
+    r.no = no.number();
+    r
+}
+
 // The refusal of a line, or 0 where its network is added.
-fn take(pool: &mut [u32], line: &[u8]) -> u8
-    ensures { λ r. ⌜ (r ≡ lineNo (now (pool .entry)) (now (line .entry))) × (now (pool .exit) ≡ wordsWith (now (pool .entry)) (now (line .entry))) ⌝ }
+fn take(pool: &mut [u32], found: Survey, line: &[u8]) -> Took
+    requires { ⌜ Surveyed (now pool) 0 found ⌝ }
+    ensures { λ t. ⌜ Takes (now (pool .entry)) (now (line .entry)) t (now (pool .exit)) ⌝ }
 {
     let taken = text::read_line(line);
     match taken {
-        Taken::Refused(no) => no.number(),
+        Taken::Refused(no) => Took {
+            no: no.number(),
+            found,
+        },
         Taken::Network(net) => {
-            let answer = change::add(pool, 0, net);
-            match answer {
-                Answer::Refused(no) => no.number(),
-                Answer::Granted(_) => 0,
+            let grown = add_found(pool, 0, found, net);
+            match grown {
+                Grown::Refused(no) => Took {
+                    no: no.number(),
+                    found,
+                },
+                Grown::Grew(then) => Took { no: 0, found: then },
             }
         }
     }
 }
 
 // The refusal of the line that is kept, or 0 where its network is added.
-fn take_kept(pool: &mut [u32], r: Reader) -> u8
-    ensures { λ no. ⌜ (no ≡ lineNo (now (pool .entry)) (kept r)) × (now (pool .exit) ≡ wordsWith (now (pool .entry)) (kept r)) ⌝ }
+fn take_kept(pool: &mut [u32], g: Going) -> Took
+    requires { ⌜ Surveyed (now pool) 0 (g .found) ⌝ }
+    ensures { λ t. ⌜ Takes (now (pool .entry)) (kept (g .reader)) t (now (pool .exit)) ⌝ }
 {
-    let line = r.line;
-    let len = r.len;
+    let line = g.reader.line;
+    let len = g.reader.len;
     if len < KEPT {
-        return take(pool, &line[..len]);
+        return take(pool, g.found, &line[..len]);
     }
-    take(pool, &line)
+    take(pool, g.found, &line)
 }
 
 // The line has ended: its network is added and the next line begins, or the reading ends here.
-fn end(pool: &mut [u32], mut r: Reader) -> Reader
-    ensures { λ s. ⌜ (s, now (pool .exit)) ≡ ended (now (pool .entry)) r ⌝ }
+fn end(pool: &mut [u32], g: Going) -> Going
+    requires { ⌜ Surveyed (now pool) 0 (g .found) ⌝ }
+    ensures { λ h. ⌜ Leads (ended (now (pool .entry)) (g .reader)) h (now (pool .exit)) ⌝ }
 {
-    let no = take_kept(pool, r);
-    r.no = no;
-    if no != 0 {
-        return r;
+    let took = take_kept(pool, g);
+    let found = took.found;
+    let mut reader = g.reader;
+    reader.no = took.no;
+    if took.no != 0 {
+        return Going { reader, found };
     }
-    r.len = 0;
-    r.number = std::num::wrapping_add_u64(r.number, 1);
-    r
+    reader.len = 0;
+    reader.number = std::num::wrapping_add_u64(reader.number, 1);
+    Going { reader, found }
 }
 
 // What one byte of the input does.
-fn step(pool: &mut [u32], r: Reader, byte: u8) -> Reader
-    ensures { λ s. ⌜ (s, now (pool .exit)) ≡ stepped (now (pool .entry)) r byte ⌝ }
+fn step(pool: &mut [u32], g: Going, byte: u8) -> Going
+    requires { ⌜ Surveyed (now pool) 0 (g .found) ⌝ }
+    ensures { λ h. ⌜ Leads (stepped (now (pool .entry)) (g .reader) byte) h (now (pool .exit)) ⌝ }
 {
     if byte == b'\n' {
-        return end(pool, r);
+        return end(pool, g);
     }
-    push(r, byte)
+    let found = g.found;
+    let reader = push(g.reader, byte);
+    Going { reader, found }
 }
 
-// A piece of the input, up to the first line that is refused.
+// The bytes of a piece, up to the first line that is refused.
+fn pass(pool: &mut [u32], g: Going, piece: &[u8]) -> Reader
+    requires { ⌜ Surveyed (now pool) 0 (g .found) ⌝ }
+    ensures { λ s. ⌜ (s, now (pool .exit)) ≡ passed (now (pool .entry)) (g .reader) (now (piece .entry)) ⌝ }
+{
+    let mut g = g;
+    let mut i = 0;
+    while i < piece.len() && g.reader.no == 0 {
+        g = step(pool, g, piece[i]);
+        i += 1;
+    }
+    g.reader
+}
+
+// A piece of the input, up to the first line that is refused. A pool that is damaged ends the reading before any byte.
 pub fn feed(pool: &mut [u32], r: Reader, piece: &[u8]) -> Reader
     ensures { λ s. ⌜ (s, now (pool .exit)) ≡ fed (now (pool .entry)) r (now (piece .entry)) ⌝ }
 {
-    let mut r = r;
-    let mut i = 0;
-    while i < piece.len() && r.no == 0 {
-        r = step(pool, r, piece[i]);
-        i += 1;
+    if r.no != 0 {
+        return r;
     }
-    r
+    let found = survey(pool, 0);
+    if !found.sound {
+        return damaged(r);
+    }
+    pass(pool, Going { reader: r, found }, piece)
 }
 
 // The end of the input ends a line that lacks its line feed.
@@ -113,8 +168,13 @@ pub fn finish(pool: &mut [u32], r: Reader) -> Reader
     if r.no != 0 {
         return r;
     }
+    let found = survey(pool, 0);
+    if !found.sound {
+        return damaged(r);
+    }
     if r.len == 0 {
         return r;
     }
-    end(pool, r)
+    let g = end(pool, Going { reader: r, found });
+    g.reader
 }

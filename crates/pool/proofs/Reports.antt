@@ -13,13 +13,12 @@ use Rattle.pool_state.specs.States.{State}
 use Rattle.pool_state.specs.Decode.{sound, decode}
 use Rattle.pool_state.specs.Rules.{answerOn, shareIn, limitIn, freeRule, heldRule, planRule, surveyOf}
 use Rattle.pool_state.specs.Changes.{setAt}
-use Rattle.pool_state.specs.Steps.{Surveyed}
 use Rattle.pool_state.specs.declared.Survey.{Survey}
 use Rattle.nodes.proofs.Has.{has-seg}
 use Rattle.nodes.proofs.Zeros.{zeros-enc}
 use Rattle.pool_state.proofs.Holds.{set-listOf}
 use Rattle.pool_state.proofs.Decoded.{decode-header, decode-set, decode-share, decode-limit}
-use Rattle.pool_state.proofs.Seen.{Seen, placeOf, trieAt, survey-sound, survey-header, survey-damaged, seen-header, own-length, own-has}
+use Rattle.pool_state.proofs.Seen.{Seen, placeOf, trieAt, survey-sound, survey-damaged, seen-header, own-length, own-has}
 
 module _ (w : List ℕ) (k : ℕ) (v : Survey) (e : v ≡ surveyOf (decode w) k) where
   -- A damaged pool.
@@ -48,10 +47,6 @@ module _ (w : List ℕ) (k : ℕ) (v : Survey) (e : v ≡ surveyOf (decode w) k)
     pub plan-none : (3, (0, 0)) ≡ planRule (decode w) k
     unfolding planRule answerOn
     plan-none = rw (outside .1, outside .2)
-
--- a sound pool has a first set
-pub surveyed-first : {w : List ℕ} {v : Survey} → v ≡ surveyOf (decode w) 0 → v .sound ≡ true → Surveyed w 0 v
-surveyed-first {w} {v} e f = record { found = e; sound = f; known = omega (arith, survey-header w 0 v e f) }
 
 -- A set of a sound pool.
 module _ {w : List ℕ} {S : State} {k : ℕ} {v : Survey} (h : Seen w S k v) where

@@ -105,7 +105,7 @@ fn in_limit(w: &[u32], s: usize, nodes: u32) -> bool
 }
 
 // What set s claims of the pool: the larger of its share and its nodes.
-fn claim_at(w: &[u32], s: usize, nodes: u32) -> u32
+pub fn claim_at(w: &[u32], s: usize, nodes: u32) -> u32
     requires { ⌜ (s < 64) × (base (s + 1) ≤ length (now w)) ⌝ }
     ensures { λ r. ⌜ r ≡ max (shareIn (now (w .entry)) s) nodes ⌝ }
 {

@@ -23,3 +23,4 @@ pub mod Returns
 pub mod Determined
 pub mod Past
 pub mod Leaves
+pub mod Resurveyed

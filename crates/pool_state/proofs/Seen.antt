@@ -76,6 +76,10 @@ module _ (w : List ℕ) (k : ℕ) (v : Survey) (e : v ≡ surveyOf (decode w) k)
         held = ap (λ (x : Survey). x .held) f;
       }
 
+-- a sound pool has a first set
+pub surveyed-first : {w : List ℕ} {v : Survey} → v ≡ surveyOf (decode w) 0 → v .sound ≡ true → Surveyed w 0 v
+surveyed-first {w} {v} e f = record { found = e; sound = f; known = omega (arith, survey-header w 0 v e f) }
+
 module _ {w : List ℕ} {k : ℕ} {v : Survey} (h : Surveyed w k v) where
   pub seen-as : (S : State) → decode w ≡ sound S → Seen w S k v
   seen-as S d = survey-seen w k v (h .found) S d (h .known)

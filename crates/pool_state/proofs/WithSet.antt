@@ -35,13 +35,13 @@ setsWith-other zero (suc j) x (s ∷ ss) ne = refl
 setsWith-other (suc k) zero x (s ∷ ss) ne = refl
 setsWith-other (suc k) (suc j) x (s ∷ ss) ne = setsWith-other k j x ss (λ e. ne (ap suc e))
 
-used-setsWith : (k : ℕ) (x : SetState) (ss : List SetState) → k < length ss → used (setsWith k x ss) + held (getD ss k noSet) ≡ used ss + held x
+pub used-setsWith : (k : ℕ) (x : SetState) (ss : List SetState) → k < length ss → used (setsWith k x ss) + held (getD ss k noSet) ≡ used ss + held x
 unfolding used
 used-setsWith k x [] lt = absurd (omega arith)
 used-setsWith zero x (s ∷ ss) lt = omega arith
 used-setsWith (suc k) x (s ∷ ss) lt = omega (arith, used-setsWith k x ss (omega arith))
 
-claimed-setsWith : (k : ℕ) (x : SetState) (ss : List SetState) → k < length ss → claimed (setsWith k x ss) + claim (getD ss k noSet) ≡ claimed ss + claim x
+pub claimed-setsWith : (k : ℕ) (x : SetState) (ss : List SetState) → k < length ss → claimed (setsWith k x ss) + claim (getD ss k noSet) ≡ claimed ss + claim x
 unfolding claimed
 claimed-setsWith k x [] lt = absurd (omega arith)
 claimed-setsWith zero x (s ∷ ss) lt = omega arith

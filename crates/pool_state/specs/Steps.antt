@@ -2,6 +2,7 @@
 --
 --   Refuses d k x                x is the number of every call on set k: 2 damaged, 3 no such set
 --   Surveyed w k v               v is what a pass over the sound pool found out for its set k
+--   surveyWith x v n             what a pass finds where v was found, once the set, whose share is x, has n nodes
 --   Judges w k n r               r is the verdict on a result of n nodes for set k
 --   behindAt w b v               the words of the sets behind that set, in words whose nodes begin at b;  Gap w b v n: what it takes to move them to where they stand behind n nodes
 --   relinked w k i old new       the words with the roots right after set k, which begins at node i, went from old nodes to new ones
@@ -9,7 +10,7 @@
 use mathlib.Core.Path.{_≡_}
 use mathlib.Core.Bool.{true, cond}
 use mathlib.Core.List.{List, [], _∷_}
-use Prim.Native.Nat.{ℕ, zero, suc, _+_, _-_, _≤_, _<_}
+use Prim.Native.Nat.{ℕ, zero, suc, _+_, _-_, _≤_, _<_, max}
 use lib.Dec.{eqb}
 use lib.ListN.{length, getD, take, drop}
 use Rattle.nets.specs.Bits.{Bits}
@@ -31,6 +32,9 @@ pub record Surveyed (w : List ℕ) (k : ℕ) (v : Survey) : Type 0 where
   pub found : v ≡ surveyOf (decode w) k
   pub sound : v .sound ≡ true
   pub known : k < getD w 2 0
+
+abbrev pub surveyWith : ℕ → Survey → ℕ → Survey
+surveyWith x v n = record { sound = true; used = v .used - v .held + n; claimed = v .claimed - max x (v .held) + max x n; at = v .at; held = n }
 
 pub record Judges (w : List ℕ) (k n : ℕ) (r : Verdict) : Type 0 where
   pub verdict : (S : State) (l : List Bits) → decode w ≡ sound S → nodesL l ≡ n → verdictAs r ≡ firstNo (grantRules S k l)

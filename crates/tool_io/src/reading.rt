@@ -14,9 +14,9 @@ struct Turn {
     got: isize,
 }
 
-// Reads one piece.
+// Reads one piece. It is a large one, since each is begun with a check of the pool.
 fn read_some(fd: i32, pool: &mut [u32], r: Reader) -> Turn {
-    let mut buf = io::buffer();
+    let mut buf = io::large_buffer();
     let got = libc::read(fd, &mut buf);
     let n = io::count(got, &buf);
     let reader = lines::feed(pool, r, &buf[..n]);

@@ -3,8 +3,8 @@ use denote.Ref.{now}
 use native.Mathlib.Omega.{arith}
 use borrow.Author.Needs.{needs}
 use Rattle.pool_state.specs.Steps.{Surveyed}
-use Rattle.pool_state.proofs.Seen.{seen, figures}
-use Rattle.pool.proofs.Reports.{surveyed-first, free-granted, free-damaged}
+use Rattle.pool_state.proofs.Seen.{surveyed-first, seen, figures}
+use Rattle.pool.proofs.Reports.{free-granted, free-damaged}
 use Rattle.pool.proofs.free.Statement.{statement}
 use Rattle.pool.proofs.free.Tie as tie
 

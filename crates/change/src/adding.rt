@@ -1,0 +1,64 @@
+// Adding to a set that a pass over the pool has found. It answers what a pass would find then, so one pass serves any number of networks.
+use crate::calling::Asked;
+use crate::calling::ask_found;
+use crate::calling::seat_of;
+use nets::Net;
+use nets::Refusal;
+use pool_change::judging::judge;
+use pool_change::relinking::granted;
+use pool_check::claim_at;
+use pool_state::Survey;
+use pool_state::Verdict;
+ghost use mathlib.Core.Path.{_≡_};
+ghost use Prim.Native.Nat.{_≤_};
+ghost use Rattle.pool_state.specs.Rules.{shareIn};
+ghost use Rattle.pool_state.specs.Steps.{Surveyed, surveyWith};
+ghost use Rattle.change.specs.Steps.{Grows};
+
+// The network is added, with what a pass over the pool finds now; or it is refused, and nothing changed.
+pub enum Grown {
+    Grew(Survey),
+    Refused(Refusal),
+}
+
+// What a pass over the pool finds once the surveyed set has n nodes.
+fn survey_with(pool: &[u32], set: u32, found: Survey, n: u32) -> Survey
+    requires { ⌜ Surveyed (now pool) set found × (n ≤ 4194304) ⌝ }
+    ensures { λ r. ⌜ r ≡ surveyWith (shareIn (now (pool .entry)) set) found n ⌝ }
+{
+    let s = set as usize;
+    let old = claim_at(pool, s, found.held);
+    let new = claim_at(pool, s, n);
+    Survey {
+        sound: true,
+        used: found.used - found.held + n,
+        claimed: found.claimed - old + new,
+        at: found.at,
+        held: n,
+    }
+}
+
+// Adds a network to the surveyed set. Nothing is read but the network's path, the words of the header and the records.
+pub fn add_found(pool: &mut [u32], set: u32, found: Survey, net: Net) -> Grown
+    requires { ⌜ Surveyed (now pool) set found ⌝ }
+    ensures { λ r. ⌜ Grows (now (pool .entry)) set net r (now (pool .exit)) ⌝ }
+{
+    let asked = ask_found(pool, set, found, net);
+    match asked {
+        Asked::Refused(no) => Grown::Refused(no),
+        Asked::Go(v, s) => {
+            let at = seat_of(pool, v);
+            let n = trie_insert::insert_size(pool, at.base, at.first, at.end, s) as u32;
+            let verdict = judge(pool, set, v, n);
+            match verdict {
+                Verdict::No(no) => Grown::Refused(no),
+                Verdict::Fits => {
+                    let then = survey_with(pool, set, v, n);
+                    trie_insert::insert(pool, at.base, at.first, at.end, at.used, s);
+                    granted(pool, set, v, n);
+                    Grown::Grew(then)
+                }
+            }
+        }
+    }
+}
