@@ -20,7 +20,7 @@ use Rattle.pool_state.specs.Changes.{listAt}
 use Rattle.pool_state.specs.Steps.{Refuses}
 use Rattle.pool_state.specs.declared.Survey.{Survey}
 use Rattle.pool_state.proofs.Decoded.{decode-header}
-use Rattle.pool_state.proofs.Seats.{Seats}
+use Rattle.pool_state.proofs.Seats.{Seats, seats-family}
 use Rattle.pool_state.proofs.Seen.{Seen, seen, seen-figures, seen-empty, seen-some}
 use Rattle.pool_state.proofs.Changed.{withTrie, behind-first, gap-asks}
 use Rattle.pool_state.proofs.Returns.{Result, changed, isEmpty-some, change-seat, change-args}
@@ -70,13 +70,10 @@ pub ask-refused : {w : List ℕ} {k : ℕ} (d : List ℕ) (x : Refusal) → Refu
 ask-refused {w} {k} d x h = changed (change-seat (loadRules (readFile d) k) (λ S. fileList (readFile d)) w k h)
 
 module _ {w : List ℕ} {k : ℕ} {v : Survey} {s : Seat} (d : List ℕ) (h : Seats w k v s) {r : Checked} (c : r ≡ checkedOf (readFile d)) where
-  seat-in : s .family ≡ getD w 1 0
-  seat-in = ap (λ (x : Seat). x .family) (h .seat)
-
   ask-args : (x : Refusal) → ((S : State) → Seen w S k v → s .family ≡ S .family → firstNo (loadRules (readFile d) k S) ≡ number x) → Asks w k d (Refused x)
   ask-args x q =
       let (S, g) = seen (h .surveyed) in
-      changed (change-args (loadRules (readFile d) k) (λ S. fileList (readFile d)) g (q S g (seat-in ∙ decode-header w S (g .decoded) .family)) (number-some x))
+      changed (change-args (loadRules (readFile d) k) (λ S. fileList (readFile d)) g (q S g (seats-family h ∙ decode-header w S (g .decoded) .family)) (number-some x))
 
   pub ask-broken : r ≡ checked.Broken → Asks w k d (Refused BadFile)
   ask-broken i = ask-args BadFile (λ S g o. loadRules-broken (readFile d) k S (checked-broken (readFile d) (sym c ∙ i)))
@@ -92,7 +89,7 @@ module _ {w : List ℕ} {k : ℕ} {v : Survey} {s : Seat} (d : List ℕ) (h : Se
       pub ask-go : v .held ≡ 0 → Asks w k d (Go v f n)
       ask-go z =
           let (l, reads, nodes) = checked-file (readFile d) f n (sym c ∙ i) in
-          record { surveyed = h .surveyed; empty = z; list = l; reads = reads; family = own ∙ seat-in; nodes = nodes }
+          record { surveyed = h .surveyed; empty = z; list = l; reads = reads; family = own ∙ seats-family h; nodes = nodes }
 
 -- A load that goes on, with the list of its file.
 module _ {w : List ℕ} {k : ℕ} {d : List ℕ} {v : Survey} {f n : ℕ} (c : Ready w k d v f n) where
