@@ -13,7 +13,7 @@ use Rattle.nets.specs.Tries.{Trie, size, levels, listOf}
 use Rattle.nets.specs.Networks.{width}
 use Rattle.nets.specs.Refusals.{number, firstNo}
 use Rattle.nets.specs.declared.Refusal.{Refusal}
-use Rattle.nets.specs.declared.Refusal.the-variants.{Damaged, NoSet, Occupied}
+use Rattle.nets.specs.declared.Refusal.the-variants.{NoSet, Occupied}
 use Rattle.nets.proofs.Answers.{number-some}
 use Rattle.nets.proofs.Combining.{listOf-union, listOf-common}
 use Rattle.nets.proofs.Excluding.{listOf-except}
@@ -21,17 +21,17 @@ use Rattle.trie_emit.specs.Combine.{opOf, joined, opOn}
 use Rattle.trie_emit.proofs.Answers.{length-body}
 use Rattle.trie_emit.proofs.Combine.{opOn-union, opOn-common, opOn-except, size-op}
 use Rattle.pool_state.specs.States.{State, roomOf}
-use Rattle.pool_state.specs.Decode.{recordAt, sound, decode}
-use Rattle.pool_state.specs.Rules.{surveyOf}
+use Rattle.pool_state.specs.Decode.{recordAt, decode}
 use Rattle.pool_state.specs.Changes.{listAt}
+use Rattle.pool_state.specs.Steps.{Refuses, Surveyed}
 use Rattle.pool_state.specs.declared.Survey.{Survey}
 use Rattle.pool_state.proofs.Decoded.{decode-header}
-use Rattle.pool_state.proofs.Seen.{Seen, trieAt, survey-sound, refuses-damaged, refuses-noset, survey-seen, seen, seen-figures, seen-empty, seen-some}
+use Rattle.pool_state.proofs.Seen.{Seen, trieAt, seen, seen-figures, seen-empty, seen-some}
 use Rattle.pool_state.proofs.Changed.{withTrie, behind-first, gap-asks}
 use Rattle.pool_state.proofs.Returns.{Result, isEmpty-some, change-seat, change-args, changed}
 use Rattle.combine.specs.Rules.{combineRules}
 use Rattle.combine.specs.Steps.{Operation, merging, intersecting, excluding, combineL, Ready, Asks, sourcesOf, Reads, Writable, written}
-use Rattle.combine.specs.declared.asking.Asked.the-variants.{Go, Refused}
+use Rattle.combine.specs.declared.asking.Destination.the-variants.{Empty, Refused}
 use Rattle.combine.specs.declared.asking.Sources.{Sources}
 use Rattle.combine.proofs.Sources.{Source, source}
 
@@ -56,33 +56,28 @@ module _ (to first second : ℕ) (S : State) where
       all-right e = rw (lt-leb (length (S .sets)) first lt, lt-leb (length (S .sets)) second ls, e)
 
 -- What `ask` finds.
-module _ {w : List ℕ} {to : ℕ} {v : Survey} (first second : ℕ) (e : v ≡ surveyOf (decode w) to) where
-  pub ask-damaged : v .sound ≡ false → Asks w to first second (Refused Damaged)
-  ask-damaged q f = changed (change-seat (combineRules to first second) f w to (refuses-damaged w to v e q))
+pub ask-refused : {w : List ℕ} {to : ℕ} (first second : ℕ) (x : Refusal) → Refuses (decode w) to (number x) → Asks w to first second (Refused x)
+ask-refused {w} {to} first second x h f = changed (change-seat (combineRules to first second) f w to h)
 
-  pub ask-noset : v .sound ≡ true → getD w 2 0 ≤ to → Asks w to first second (Refused NoSet)
-  ask-noset q le f = changed (change-seat (combineRules to first second) f w to (refuses-noset w to v e q le))
+module _ {w : List ℕ} {to : ℕ} {v : Survey} (first second : ℕ) (h : Surveyed w to v) where
+  ask-args : (x : Refusal) → ((S : State) → Seen w S to v → getD w 2 0 ≡ length (S .sets) → firstNo (combineRules to first second S) ≡ number x) → Asks w to first second (Refused x)
+  ask-args x q f =
+      let (S, g) = seen h in
+      changed (change-args (combineRules to first second) f g (q S g (decode-header w S (g .decoded) .sets)) (number-some x))
 
-  module _ (q : v .sound ≡ true) (lt : to < getD w 2 0) where
-    ask-args : (x : Refusal) → ((S : State) → Seen w S to v → getD w 2 0 ≡ length (S .sets) → firstNo (combineRules to first second S) ≡ number x) → Asks w to first second (Refused x)
-    ask-args x h f =
-        let y = survey-sound w to v e q in
-        let g = survey-seen w to v e (y .0) (y .1) lt in
-        changed (change-args (combineRules to first second) f g (h (y .0) g (decode-header w (y .0) (y .1) .sets)) (number-some x))
+  pub ask-first : getD w 2 0 ≤ first → Asks w to first second (Refused NoSet)
+  ask-first le = ask-args NoSet (λ S g n. no-first to first second S (omega arith))
 
-    pub ask-first : getD w 2 0 ≤ first → Asks w to first second (Refused NoSet)
-    ask-first le = ask-args NoSet (λ S g n. no-first to first second S (omega arith))
+  module _ (lf : first < getD w 2 0) where
+    pub ask-second : getD w 2 0 ≤ second → Asks w to first second (Refused NoSet)
+    ask-second le = ask-args NoSet (λ S g n. no-second to first second S (omega arith) (omega arith))
 
-    module _ (lf : first < getD w 2 0) where
-      pub ask-second : getD w 2 0 ≤ second → Asks w to first second (Refused NoSet)
-      ask-second le = ask-args NoSet (λ S g n. no-second to first second S (omega arith) (omega arith))
+    module _ (ls : second < getD w 2 0) where
+      pub ask-occupied : (v .held ≡ 0 → ⊥) → Asks w to first second (Refused Occupied)
+      ask-occupied ne = ask-args Occupied (λ S g n. no-empty to first second S (omega arith) (omega arith) (seen-some g ne))
 
-      module _ (ls : second < getD w 2 0) where
-        pub ask-occupied : (v .held ≡ 0 → ⊥) → Asks w to first second (Refused Occupied)
-        ask-occupied ne = ask-args Occupied (λ S g n. no-empty to first second S (omega arith) (omega arith) (seen-some g ne))
-
-        pub ask-go : v .held ≡ 0 → Asks w to first second (Go v)
-        ask-go z = record { surveyed = record { found = e; sound = q; known = lt }; known = (lf, ls); empty = z }
+      pub ask-empty : v .held ≡ 0 → Asks w to first second (Empty v)
+      ask-empty z = record { surveyed = h; known = (lf, ls); empty = z }
 
 -- What an operation makes of two lists is done on their tries, and how large it can be.
 listOf-op : {op : ℕ} (w : ℕ) (t u : Trie) → Operation op → levels t ≤ suc w → levels u ≤ suc w → listOf (opOn op (suc w) t u) ≡ combineL op (listOf t) (listOf u)

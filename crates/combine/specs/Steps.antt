@@ -26,8 +26,8 @@ use Rattle.pool_state.specs.Changes.{Relisted}
 use Rattle.pool_state.specs.Steps.{Surveyed, behindAt, Gap}
 use Rattle.pool_state.specs.declared.Survey.{Survey}
 use Rattle.combine.specs.Rules.{combineRules}
-use Rattle.combine.specs.declared.asking.Asked.{Asked}
-use Rattle.combine.specs.declared.asking.Asked.the-variants.{Go, Refused}
+use Rattle.combine.specs.declared.asking.Destination.{Destination}
+use Rattle.combine.specs.declared.asking.Destination.the-variants.{Empty, Refused}
 use Rattle.combine.specs.declared.asking.Sources.{Sources}
 
 pub data Operation : ℕ → Type 0 where
@@ -46,8 +46,8 @@ pub record Ready (w : List ℕ) (to first second : ℕ) (v : Survey) : Type 0 wh
   pub empty : v .held ≡ 0
 
 -- a refusal is that of every operation
-abbrev pub Asks : List ℕ → ℕ → ℕ → ℕ → Asked → Type 0
-Asks w to first second (Go v) = Ready w to first second v
+abbrev pub Asks : List ℕ → ℕ → ℕ → ℕ → Destination → Type 0
+Asks w to first second (Empty v) = Ready w to first second v
 Asks w to first second (Refused x) = (f : State → List Bits) → Relisted w to (combineRules to first second) f (number x, 0) w
 
 abbrev pub sourcesOf : List ℕ → ℕ → ℕ → Sources

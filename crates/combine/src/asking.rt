@@ -3,7 +3,8 @@ use nets::Refusal;
 use pool_check::HEAD;
 use pool_check::RECORD;
 use pool_check::most_levels;
-use pool_check::survey;
+use pool_check::seats::seat_of;
+use pool_state::Seated;
 use pool_state::Survey;
 ghost use mathlib.Core.Path.{_≡_};
 ghost use Prim.Native.Nat.{_<_};
@@ -11,9 +12,9 @@ ghost use lib.ListN.{length};
 ghost use Rattle.pool_state.specs.Decode.{recordAt};
 ghost use Rattle.combine.specs.Steps.{Asks, sourcesOf};
 
-// What a combination goes on with: what a pass over the pool found for its destination. Or its refusal.
-pub enum Asked {
-    Go(Survey),
+// The destination of a combination, which is empty: what a pass over the pool found for it. Or the refusal.
+pub enum Destination {
+    Empty(Survey),
     Refused(Refusal),
 }
 
@@ -26,27 +27,26 @@ pub struct Sources {
 }
 
 // The pool is sound, the three sets are there, and the destination is empty.
-pub fn ask(pool: &[u32], to: u32, first: u32, second: u32) -> Asked
+pub fn ask(pool: &[u32], to: u32, first: u32, second: u32) -> Destination
     ensures { λ r. ⌜ Asks (now (pool .entry)) to first second r ⌝ }
 {
-    let found = survey(pool, to);
-    if !found.sound {
-        return Asked::Refused(Refusal::Damaged);
+    let seated = seat_of(pool, to);
+    match seated {
+        Seated::Refused(no) => Destination::Refused(no),
+        Seated::At(found, _) => {
+            let sets = pool[2];
+            if sets <= first {
+                return Destination::Refused(Refusal::NoSet);
+            }
+            if sets <= second {
+                return Destination::Refused(Refusal::NoSet);
+            }
+            if found.held != 0 {
+                return Destination::Refused(Refusal::Occupied);
+            }
+            Destination::Empty(found)
+        }
     }
-    let sets = pool[2];
-    if sets <= to {
-        return Asked::Refused(Refusal::NoSet);
-    }
-    if sets <= first {
-        return Asked::Refused(Refusal::NoSet);
-    }
-    if sets <= second {
-        return Asked::Refused(Refusal::NoSet);
-    }
-    if found.held != 0 {
-        return Asked::Refused(Refusal::Occupied);
-    }
-    Asked::Go(found)
 }
 
 // What a combination of two sets reads.

@@ -1,5 +1,5 @@
 // One combination for every operation: the result is counted and judged before anything is written, and then written once, into a gap of just its nodes.
-use crate::asking::Asked;
+use crate::asking::Destination;
 use crate::asking::Sources;
 use crate::asking::ask;
 use crate::asking::sources_of;
@@ -69,8 +69,8 @@ pub fn combine(pool: &mut [u32], op: usize, to: u32, first: u32, second: u32) ->
 {
     let asked = ask(pool, to, first, second);
     match asked {
-        Asked::Refused(no) => Answer::Refused(no),
-        Asked::Go(v) => {
+        Destination::Refused(no) => Answer::Refused(no),
+        Destination::Empty(v) => {
             let s = sources_of(pool, first, second);
             let n = count(pool, op, s, v) as u32;
             let verdict = judge(pool, to, v, n);

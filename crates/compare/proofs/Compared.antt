@@ -13,16 +13,19 @@ use Rattle.nets.specs.Tries.{Trie, none, node, size, levels, isNone, listOf, tr
 use Rattle.nets.proofs.Strings.{and-left, and-right, equal-refl, equal-is}
 use Rattle.nodes.specs.Words.{Has, place, enc}
 use Rattle.nodes.specs.Parse.{Stands}
+use Rattle.nodes.specs.declared.seats.Seat.{Seat}
 use Rattle.nodes.proofs.Tries.{some}
 use Rattle.nodes.proofs.Unique.{unique}
 use Rattle.pool_state.specs.States.{State}
 use Rattle.pool_state.specs.Decode.{recordAt, base, rootAt, decode}
-use Rattle.pool_state.specs.Rules.{answerOn, startOf, surveyOf}
+use Rattle.pool_state.specs.Rules.{answerOn, unknown, startOf}
 use Rattle.pool_state.specs.Changes.{listAt}
-use Rattle.pool_state.specs.Steps.{Surveyed}
+use Rattle.pool_state.specs.Steps.{Refuses, Surveyed}
 use Rattle.pool_state.specs.declared.Survey.{Survey}
+use Rattle.pool_state.proofs.Answered.{owes-seat}
 use Rattle.pool_state.proofs.Decoded.{decode-header, decode-root}
-use Rattle.pool_state.proofs.Seen.{Seen, trieAt, survey-sound, survey-damaged, seen, seen-figures, own-has, own-length, seen-list, seen-size, seen-empty, seen-some}
+use Rattle.pool_state.proofs.Seats.{seatOf}
+use Rattle.pool_state.proofs.Seen.{Seen, trieAt, seen, seen-figures, own-has, own-length, seen-list, seen-size, seen-empty, seen-some}
 use Rattle.compare.specs.Rules.{sameList, equalRule, Agree}
 use Rattle.pool_state.proofs.Beside.{its, beside-seen, beside-root}
 
@@ -60,25 +63,17 @@ root-le : (i : ℕ) (t : Trie) → cond (isNone t) 0 i ≤ i
 root-le i none = omega arith
 root-le i (node l r) = omega arith
 
--- The refusals.
-module _ (w : List ℕ) (first second : ℕ) (v : Survey) (e : v ≡ surveyOf (decode w) first) where
-  pub equal-damaged : v .sound ≡ false → (2, false) ≡ equalRule (decode w) first second
-  unfolding equalRule answerOn
-  equal-damaged q = rw (survey-damaged w first v e q)
+-- A refusal of the first set is the call's, and the second has to be there too.
+pub equal-refused : (w : List ℕ) (first second : ℕ) {x : ℕ} → Refuses (decode w) first x → (x, false) ≡ equalRule (decode w) first second
+unfolding equalRule
+equal-refused w first second h = owes-seat (λ S. unknown S second ∷ []) false _ w (λ S. w) (decode w) first h .0
 
-  module _ (q : v .sound ≡ true) where
-    pub equal-first : getD w 2 0 ≤ first → (3, false) ≡ equalRule (decode w) first second
-    unfolding equalRule answerOn
-    equal-first le =
-        let x = survey-sound w first v e q in
-        rw (x .1, le-leb (length (x .0 .sets)) first (omega (arith, decode-header w (x .0) (x .1) .sets)))
-
-    pub equal-second : first < getD w 2 0 → getD w 2 0 ≤ second → (3, false) ≡ equalRule (decode w) first second
-    unfolding equalRule answerOn
-    equal-second lt le =
-        let x = survey-sound w first v e q in
-        let n = decode-header w (x .0) (x .1) .sets in
-        rw (x .1, lt-leb (length (x .0 .sets)) first (omega arith), le-leb (length (x .0 .sets)) second (omega arith))
+pub equal-noset : {w : List ℕ} {first : ℕ} {v : Survey} (second : ℕ) → Surveyed w first v → getD w 2 0 ≤ second → (3, false) ≡ equalRule (decode w) first second
+unfolding equalRule answerOn
+equal-noset {w} {first} second h le =
+    let (S, g) = seen h in
+    let n = decode-header w S (g .decoded) .sets in
+    rw (g .decoded, lt-leb (length (S .sets)) first (g .known), le-leb (length (S .sets)) second (omega arith))
 
 -- Two sets that are there.
 module _ {w : List ℕ} {first second : ℕ} {v : Survey} (h : Surveyed w first v) (lt : second < getD w 2 0) where
@@ -105,11 +100,14 @@ module _ {w : List ℕ} {first second : ℕ} {v : Survey} (h : Surveyed w first 
   unfolding equalRule answerOn
   told c e = rw (one .decoded, lt-leb (length (state .sets)) first (one .known), lt-leb (length (state .sets)) second (other .known), e)
 
-  pub equal-places : (place b (v .at) + v .held ≤ length w) × (place b (getD w (recordAt second) 0) + v .held ≤ length w)
-  equal-places =
+  places : (place b (v .at) + v .held ≤ length w) × (place b (getD w (recordAt second) 0) + v .held ≤ length w)
+  places =
       let f = seen-figures one in
       let g = seen-figures other in
       (omega arith, omega (arith, beside-root one second lt, root-le (found .at) (trieAt state second)))
+
+  pub equal-places : {s : Seat} → s ≡ seatOf w v → (place (s .base) (s .first) + v .held ≤ length w) × (place (s .base) (getD w (recordAt second) 0) + v .held ≤ length w)
+  equal-places e = rw e places
 
   root-tells : eqb (getD w (recordAt second) 0) 0 ≡ sameList [] (listAt state second)
   root-tells =
@@ -157,8 +155,12 @@ module _ {w : List ℕ} {first second : ℕ} {v : Survey} (h : Surveyed w first 
           let q : Stands w b n (levels u) (found .at) u = record { deep = omega arith; within = omega (arith, seen-size other); has = own-has other } in
           unique (y .first) (λ e. some (sym (seen-size one) ∙ ap size e)) (there .0) p q
 
-      pub equal-words : (c : Bool) → Agreed c → (0, c) ≡ equalRule (decode w) first second
-      equal-words true f = told true (rw (sym (seen-list one) ∙ ap listOf (one-trie f) ∙ seen-list other) (sameList-refl (listAt state second)))
-      equal-words false (k, l, ne) =
+      tells : (c : Bool) → Agreed c → (0, c) ≡ equalRule (decode w) first second
+      tells true f = told true (rw (sym (seen-list one) ∙ ap listOf (one-trie f) ∙ seen-list other) (sameList-refl (listAt state second)))
+      tells false (k, l, ne) =
           told false (sameList-not (listAt state first) (listAt state second) (λ e. ne (own-has one .at k (omega (arith, own-length one)) ∙ ap (λ m. getD (enc (trieOf m)) k 0) e
           ∙ rw (there .1) (sym (own-has other .at k (omega (arith, own-length one, ap (λ m. length (enc (trieOf m))) e)))))))
+
+      pub equal-words : {s : Seat} → s ≡ seatOf w v → (c : Bool) → Agree w (place (s .base) (s .first)) (place (s .base) (getD w (recordAt second) 0)) (v .held) c
+          → (0, c) ≡ equalRule (decode w) first second
+      equal-words e c f = tells c (rw e at f)

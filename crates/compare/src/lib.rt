@@ -3,7 +3,8 @@ use comparing::same_words;
 use nets::Refusal;
 use pool_check::HEAD;
 use pool_check::RECORD;
-use pool_check::survey;
+use pool_check::seats::seat_of;
+use pool_state::Seated;
 use pool_state::Told;
 ghost use mathlib.Core.Path.{_≡_};
 ghost use Rattle.compare.specs.Rules.{equalRule};
@@ -16,25 +17,23 @@ mod comparing;
 pub fn equal(pool: &[u32], first: u32, second: u32) -> Told
     ensures { λ r. ⌜ toldAs r ≡ equalRule (decode (now (pool .entry))) first second ⌝ }
 {
-    let found = survey(pool, first);
-    if !found.sound {
-        return Told::Refused(Refusal::Damaged);
+    let seated = seat_of(pool, first);
+    match seated {
+        Seated::Refused(no) => Told::Refused(no),
+        Seated::At(found, seat) => {
+            if pool[2] <= second {
+                return Told::Refused(Refusal::NoSet);
+            }
+            let root = pool[HEAD + RECORD * (second as usize)] as usize;
+            let n = found.held as usize;
+            if n == 0 {
+                return Told::Is(root == 0);
+            }
+            if root == 0 {
+                return Told::Is(false);
+            }
+            let p = seat.base + (seat.first - 1);
+            Told::Is(same_words(pool, p, seat.base + (root - 1), n))
+        }
     }
-    let sets = pool[2];
-    if sets <= first {
-        return Told::Refused(Refusal::NoSet);
-    }
-    if sets <= second {
-        return Told::Refused(Refusal::NoSet);
-    }
-    let root = pool[HEAD + RECORD * (second as usize)] as usize;
-    let n = found.held as usize;
-    if n == 0 {
-        return Told::Is(root == 0);
-    }
-    if root == 0 {
-        return Told::Is(false);
-    }
-    let b = HEAD + RECORD * (sets as usize);
-    Told::Is(same_words(pool, b + (found.at as usize - 1), b + (root - 1), n))
 }

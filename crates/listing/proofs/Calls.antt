@@ -1,11 +1,10 @@
--- The calls on a set: where its trie stands, by what a survey has seen, and then a law for each return of list and next, by the tests on the way to it.
--- Assumes nothing.
+-- A law for each return of list and next, by the tests on the way to it. Assumes nothing.
 use mathlib.Core.Path.{_≡_, refl, sym, ap, _∙_}
 use mathlib.Core.Bool.{Bool, true, false}
 use mathlib.Core.List.{List}
 use Prim.Native.Nat.{ℕ, _+_, _*_, _≤_, _<_}
 use native.Mathlib.Omega.{arith}
-use lib.ListN.{length, getD}
+use lib.ListN.{length}
 use borrow.Author.Tests.{lt-leb}
 use Rattle.nets.specs.Lists.{past, Found, found, missing, nextL}
 use Rattle.nets.specs.Networks.{isFamily, refusalOf, startOf, noBits, prefixAs}
@@ -16,26 +15,23 @@ use Rattle.nets.specs.declared.Prefix.{Prefix}
 use Rattle.nets.specs.declared.Prefix.the-variants as prefix
 use Rattle.nets.specs.declared.PrefixBits.{PrefixBits}
 use Rattle.nets.specs.declared.Refusal.{Refusal}
-use Rattle.nets.specs.declared.Refusal.the-variants.{Damaged, NoSet, ShortBuffer}
-use Rattle.nets.proofs.Numbers.{bitsLeft-start, startOf-few, family-few}
+use Rattle.nets.specs.declared.Refusal.the-variants.{ShortBuffer}
+use Rattle.nets.proofs.Numbers.{bitsLeft-start, startOf-few}
 use Rattle.nets.proofs.Answers.{number-some, prefix-bits, prefix-refused}
 use Rattle.nodes.specs.Words.{put}
 use Rattle.pool_state.specs.States.{State}
-use Rattle.pool_state.specs.Decode.{Decoded, sound, base, decode}
-use Rattle.pool_state.specs.Rules.{answerAs, surveyOf}
+use Rattle.pool_state.specs.Decode.{Decoded, sound, decode}
+use Rattle.pool_state.specs.Rules.{answerAs}
 use Rattle.pool_state.specs.Changes.{listAt}
 use Rattle.pool_state.specs.Steps.{Refuses}
 use Rattle.pool_state.specs.declared.Answer.{Answer}
 use Rattle.pool_state.specs.declared.Answer.the-variants as answer
-use Rattle.pool_state.specs.declared.Survey.{Survey}
 use Rattle.pool_state.proofs.Answered.{owes-refused, owes-granted, owes-seat, firstNo-short, firstNo-fits}
 use Rattle.pool_state.proofs.Claims.{isState-family}
-use Rattle.pool_state.proofs.Header.{isHeader-header}
-use Rattle.pool_state.proofs.Decoded.{decode-header, decode-state, decode-set}
-use Rattle.pool_state.proofs.Seen.{Seen, trieAt, behind, refuses-damaged, refuses-noset, survey-seen, seen-header, seen-segment, seen-list}
+use Rattle.pool_state.proofs.Decoded.{decode-state}
+use Rattle.pool_state.proofs.Seen.{trieAt}
 use Rattle.trie_paths.specs.Rows.{rowsOf}
 use Rattle.trie_paths.specs.Spans.{Holds}
-use Rattle.listing.specs.Seats.{seatAt, Sits, Seats}
 use Rattle.trie_paths.specs.Laying.{rowForm, tallied, clear, Starts, Layable, laid}
 use Rattle.listing.specs.Calls.{listRules, listRule, rowsAfter, Listed, fromRules, placeFrom, nothing, foundAs, nextRules, nextRule}
 use Rattle.trie_next.specs.Following.{placeOf, nextAs}
@@ -47,48 +43,17 @@ use Rattle.trie_next.specs.declared.following.Place.the-variants as place
 use Rattle.trie_next.specs.declared.following.Next.{Next}
 use Rattle.trie_next.specs.declared.following.Next.the-variants as next
 use Rattle.nodes.specs.declared.seats.Seat.{Seat}
-use Rattle.listing.specs.declared.seats.Seated.the-variants.{Refused}
 use Rattle.trie_paths.proofs.Reading.{spans-small}
 use Rattle.trie_paths.proofs.Counting.{listOf-size}
 use Rattle.trie_paths.proofs.RowForm.{rows-laid}
 use Rattle.pool_state.proofs.Returns.{netRules-own, netRules-other}
-
--- Where the trie of a set stands.
-module _ (w : List ℕ) (k : ℕ) (v : Survey) (e : v ≡ surveyOf (decode w) k) where
-  pub seat-damaged : v .sound ≡ false → Seats w k (Refused Damaged)
-  seat-damaged q = refuses-damaged w k v e q
-
-  pub seat-noset : v .sound ≡ true → getD w 2 0 ≤ k → Seats w k (Refused NoSet)
-  seat-noset q le = refuses-noset w k v e q le
-
-module _ {w : List ℕ} {S : State} {k : ℕ} {v : Survey} (h : Seen w S k v) where
-  pub seat-family : getD w 1 0 ≤ 6
-  seat-family = family-few (getD w 1 0) (isHeader-header w (seen-header h .known) .family)
-
-  pub seat-sits : Sits w k S (record { family = getD w 1 0; base = base (getD w 2 0); first = v .at; end = v .at + v .held })
-  seat-sits =
-      let d = decode-set w S (h .decoded) k (h .known) in
-      record {
-        decoded = h .decoded;
-        known = h .known;
-        seat = rw (seen-header h .family, seen-header h .sets, h .at, h .held);
-        family = seen-header h .family;
-        list = seen-list h;
-        holds = record { stands = record { u = v .used + 1; rest = behind S k; is = seen-segment h }; deep = rw (seen-header h .family) (d .trie .deep) };
-      }
-
--- so it does in every state that the words hold
-pub sits-at : (w : List ℕ) (S : State) (k : ℕ) → decode w ≡ sound S → k < length (S .sets) → Sits w k S (seatAt S k)
-sits-at w S k d lt =
-    let h = survey-seen w k (surveyOf (decode w) k) refl S d (rw (decode-header w S d .sets) lt) in
-    let r = seat-sits h in
-    rw (r .seat) at r
+use Rattle.listing.proofs.Seats.{Sits}
 
 -- The returns of list.
 listed : {w v u : List ℕ} {k : ℕ} {r : Answer} → (answerAs r ≡ listRule (decode w) k (length v)) × (u ≡ rowsAfter v (decode w) k) → Listed w k v r u
 listed h = record { answer = h .0; rows = h .1 }
 
-pub list-refused : {w v : List ℕ} {k : ℕ} (x : Refusal) → Seats w k (Refused x) → Listed w k v (answer.Refused x) v
+pub list-refused : {w v : List ℕ} {k : ℕ} (x : Refusal) → Refuses (decode w) k (number x) → Listed w k v (answer.Refused x) v
 unfolding listRule rowsAfter listRules
 list-refused {w} {v} {k} x e = listed (owes-seat _ 0 _ v _ (decode w) k e)
 

@@ -1,3 +1,4 @@
--- The calls on a set, and their outcomes.
+-- The trie of a set in its seat; the calls on a set, and their outcomes.
+pub mod Seats
 pub mod Calls
 pub mod Outcomes

@@ -25,7 +25,8 @@ use Rattle.pool_state.proofs.Determined.{answerAs-one, owed-one}
 use Rattle.trie_paths.specs.Rows.{rowsOf}
 use Rattle.listing.specs.Calls.{listRules, listRule, rowsAfter, Listed, fromRules, placeFrom, nothing, foundAs, followerAs, nextRules, nextRule}
 use Rattle.trie_paths.proofs.RowForm.{length-rowsOf}
-use Rattle.listing.proofs.Calls.{sits-at, numbered, next-refused}
+use Rattle.listing.proofs.Seats.{sits-at}
+use Rattle.listing.proofs.Calls.{numbered, next-refused}
 use Rattle.listing.specs.declared.From.{From}
 use Rattle.listing.specs.declared.Follower.{Follower}
 use Rattle.listing.specs.declared.Follower.the-variants.{Network, End, Refused}

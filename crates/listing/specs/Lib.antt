@@ -1,4 +1,3 @@
--- What a reader must believe of list and next; then where the trie of a set stands, and a place as an argument.
+-- What a reader must believe of list and next; then a place as an argument.
 pub mod Calls
-pub mod Seats
 pub mod Places

@@ -4,9 +4,9 @@ use nets::Net;
 use nets::Refusal;
 use places::Placed;
 use places::place_of;
+use pool_check::seats::seat_of;
 use pool_state::Answer;
-use seats::Seated;
-use seats::seat_of;
+use pool_state::Seated;
 use trie_list::lengths::starts;
 use trie_list::lengths::tally;
 use trie_list::rows::write_rows;
@@ -17,7 +17,6 @@ ghost use Rattle.pool_state.specs.Decode.{decode};
 ghost use Rattle.listing.specs.Calls.{Listed, followerAs, nextRule};
 
 mod places;
-pub mod seats;
 
 // From the first network on, or behind a network, which need not be listed.
 pub enum From {
@@ -40,7 +39,7 @@ pub fn list(pool: &[u32], set: u32, rows: &mut [u64]) -> Answer
     let seated = seat_of(pool, set);
     match seated {
         Seated::Refused(no) => Answer::Refused(no),
-        Seated::At(s) => {
+        Seated::At(_, s) => {
             let mut next = tally(pool, s.base, s.first, s.end);
             let n = starts(&mut next);
             if rows.len() < 3 * n {
@@ -59,7 +58,7 @@ pub fn next(pool: &[u32], set: u32, from: From) -> Follower
     let seated = seat_of(pool, set);
     match seated {
         Seated::Refused(no) => Follower::Refused(no),
-        Seated::At(s) => {
+        Seated::At(_, s) => {
             let placed = place_of(s.family, from);
             match placed {
                 Placed::Refused(no) => Follower::Refused(no),

@@ -6,6 +6,7 @@ use native.Mathlib.Omega.{arith}
 use lib.ListN.{length}
 use Rattle.nets.specs.Lists.{nextL}
 use Rattle.nets.specs.Tries.{Trie, none, levels, listOf}
+use Rattle.nets.specs.Refusals.{number}
 use Rattle.nets.specs.declared.Net.{Net}
 use Rattle.nets.specs.declared.Refusal.{Refusal}
 use Rattle.nets.specs.declared.Refusal.the-variants.{ShortBuffer}
@@ -14,6 +15,7 @@ use Rattle.pool_state.specs.States.{State}
 use Rattle.pool_state.specs.Decode.{decode}
 use Rattle.pool_state.specs.Changes.{listAt}
 use Rattle.pool_state.specs.Rules.{answerAs}
+use Rattle.pool_state.specs.Steps.{Refuses}
 use Rattle.pool_state.specs.declared.Answer.{Answer}
 use Rattle.pool_state.specs.declared.Answer.the-variants as answer
 use Rattle.pool_state.proofs.Answered.{owes-refused, owes-granted, owes-seat, firstNo-short, firstNo-fits}
@@ -21,9 +23,8 @@ use Rattle.pool_state.proofs.Claims.{isState-family}
 use Rattle.pool_state.proofs.Decoded.{decode-state}
 use Rattle.pool_state.proofs.Seen.{trieAt}
 use Rattle.trie_paths.specs.Spans.{Spans}
-use Rattle.listing.specs.Seats.{Sits, Seats}
+use Rattle.listing.proofs.Seats.{Sits}
 use Rattle.nodes.specs.declared.seats.Seat.{Seat}
-use Rattle.listing.specs.declared.seats.Seated.the-variants.{Refused}
 use Rattle.trie_next.specs.Spots.{beforeAll, goneOn, StandsIn}
 use Rattle.trie_next.specs.declared.spots.Spot.{Spot}
 use Rattle.trie_next.proofs.Onward.{stands-nowhere, seat-gone}
@@ -38,7 +39,7 @@ begins-idle {w} h = record { trie = none; stands = stands-nowhere w; family = re
 listed : {w : List ℕ} {v u : List Net} {k : ℕ} {r : Answer} → (answerAs r ≡ rowRule (decode w) k (length v)) × (u ≡ rowAfter v (decode w) k) → Listed w k v r u
 listed h = record { answer = h .0; row = h .1 }
 
-pub begins-refused : {w : List ℕ} {k n : ℕ} (x : Refusal) → Seats w k (Refused x) → Begins w k n (idle (answer.Refused x))
+pub begins-refused : {w : List ℕ} {k n : ℕ} (x : Refusal) → Refuses (decode w) k (number x) → Begins w k n (idle (answer.Refused x))
 unfolding rowRule rowAfter rowRules
 begins-refused {w} {k} x e = begins-idle (λ v q. listed (owes-seat _ 0 _ v _ (decode w) k e))
 

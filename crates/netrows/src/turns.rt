@@ -3,10 +3,10 @@ ghost use mathlib.Core.Path.{_≡_};
 ghost use Rattle.nets.specs.Tries.{Trie, listOf};
 ghost use Rattle.trie_next.specs.Spots.{StandsIn};
 ghost use Rattle.netrows.specs.Turns.{idle, turnAfter, Stores, Begins};
-use listing::seats::Seated;
-use listing::seats::seat_of;
 use nets::Refusal;
+use pool_check::seats::seat_of;
 use pool_state::Answer;
+use pool_state::Seated;
 use trie_list::rows::count;
 use trie_next::spots::Spot;
 use trie_next::spots::before_all;
@@ -38,7 +38,7 @@ pub fn begin(pool: &[u32], set: u32, entries: usize) -> Turn
     let seated = seat_of(pool, set);
     match seated {
         Seated::Refused(no) => idle(Answer::Refused(no)),
-        Seated::At(seat) => {
+        Seated::At(_, seat) => {
             let n = count(pool, seat.base, seat.first, seat.end);
             if entries < n {
                 return idle(Answer::Refused(Refusal::ShortBuffer));

@@ -3,9 +3,11 @@ use nets::Refusal;
 use nodes::reading::zeros_at;
 use pool_check::HEAD;
 use pool_check::RECORD;
+use pool_check::seats::seat_of;
 use pool_check::survey;
 pub use pool_state::Answer;
 pub use pool_state::Report;
+use pool_state::Seated;
 pub use pool_state::Told;
 ghost use mathlib.Core.Path.{_≡_};
 ghost use Rattle.pool_state.specs.Decode.{decode};
@@ -48,29 +50,26 @@ pub fn free(pool: &[u32]) -> Answer
 pub fn held(pool: &[u32], set: u32) -> Report
     ensures { λ r. ⌜ reportAs r ≡ heldRule (decode (now (pool .entry))) set ⌝ }
 {
-    let found = survey(pool, set);
-    if !found.sound {
-        return Report::Refused(Refusal::Damaged);
+    let seated = seat_of(pool, set);
+    match seated {
+        Seated::Refused(no) => Report::Refused(no),
+        Seated::At(found, seat) => {
+            let n = zeros_at(pool, seat.base + (seat.first - 1), found.held);
+            Report::Numbers(found.held, n)
+        }
     }
-    let sets = pool[2];
-    if sets <= set {
-        return Report::Refused(Refusal::NoSet);
-    }
-    let first = HEAD + RECORD * (sets as usize) + (found.at as usize - 1);
-    Report::Numbers(found.held, zeros_at(pool, first, found.held))
 }
 
 // The share and the limit of a set.
 pub fn plan(pool: &[u32], set: u32) -> Report
     ensures { λ r. ⌜ reportAs r ≡ planRule (decode (now (pool .entry))) set ⌝ }
 {
-    let found = survey(pool, set);
-    if !found.sound {
-        return Report::Refused(Refusal::Damaged);
+    let seated = seat_of(pool, set);
+    match seated {
+        Seated::Refused(no) => Report::Refused(no),
+        Seated::At(_, _) => {
+            let record = HEAD + RECORD * (set as usize);
+            Report::Numbers(pool[record + 1], pool[record + 2])
+        }
     }
-    if pool[2] <= set {
-        return Report::Refused(Refusal::NoSet);
-    }
-    let record = HEAD + RECORD * (set as usize);
-    Report::Numbers(pool[record + 1], pool[record + 2])
 }

@@ -1,4 +1,4 @@
-// The check of a whole pool, in one pass over its sets.
+// The check of a whole pool, in one pass over its sets, and the seat of one of them.
 use nets::families::is_family;
 use nodes::reading::trie_end;
 use pool_state::Survey;
@@ -12,6 +12,8 @@ ghost use Rattle.nodes.specs.Parse.{Room, after};
 ghost use Rattle.pool_state.specs.States.{isSize};
 ghost use Rattle.pool_state.specs.Decode.{base, isHeader, readSet, decode};
 ghost use Rattle.pool_state.specs.Rules.{shareIn, limitIn, noSurvey, surveyOf};
+
+pub mod seats;
 
 // The first word of every pool.
 pub const MARK: u32 = 1296126540;

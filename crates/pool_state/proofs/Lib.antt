@@ -11,8 +11,9 @@ pub mod Setups
 pub mod Holds
 pub mod Encoded
 pub mod Decoded
--- What a pass over a pool has seen of one set, and of another beside it.
+-- What a pass over a pool has seen of one set, where it is seated, and of another set beside it.
 pub mod Seen
+pub mod Seats
 pub mod Beside
 -- A change of one set: judged, linked again, written, answered.
 pub mod Judged

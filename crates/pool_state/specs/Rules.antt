@@ -7,6 +7,7 @@
 --   layoutNo, laid      the answer of layout, and the words that a granted one leaves; Laid: both, as its contract
 --   freeRule, heldRule, planRule      the free nodes; nodes and networks of a set; share and limit of a set
 --   surveyOf            what one pass over a pool finds out for the calls on set k
+--   seatAt S k, seatedRule      the seat of its trie, behind the sets before it; that and the survey, or the refusal of every call on it
 use mathlib.Core.Bool.{Bool, true, false, cond, _&&_}
 use mathlib.Core.List.{List, [], _∷_}
 use mathlib.Core.Path.{_≡_}
@@ -18,11 +19,14 @@ use Rattle.nets.specs.declared.Refusal.the-variants.{NoSet, ShortBuffer}
 use Rattle.nodes.specs.Words.{put}
 use Rattle.pool_state.specs.States.{SetState, State, held, claimed, used, freeOf, isSize}
 use Rattle.nets.specs.Networks.{isFamily}
-use Rattle.pool_state.specs.Decode.{Decoded, damaged, sound, leastWords, recordAt, over}
+use Rattle.nodes.specs.declared.seats.Seat.{Seat}
+use Rattle.pool_state.specs.Decode.{Decoded, damaged, sound, leastWords, recordAt, base, over}
 use Rattle.pool_state.specs.declared.Answer.{Answer}
 use Rattle.pool_state.specs.declared.Answer.the-variants as answer
 use Rattle.pool_state.specs.declared.Report.{Report}
 use Rattle.pool_state.specs.declared.Report.the-variants as report
+use Rattle.pool_state.specs.declared.Seated.{Seated}
+use Rattle.pool_state.specs.declared.Seated.the-variants as seated
 use Rattle.pool_state.specs.declared.Survey.{Survey}
 use Rattle.pool_state.specs.declared.Told.{Told}
 use Rattle.pool_state.specs.declared.Told.the-variants as told
@@ -149,3 +153,22 @@ unfoldable pub surveyOf : Decoded → ℕ → Survey
 surveyOf damaged k = noSurvey
 surveyOf (sound S) k =
     record { sound = true; used = used (S .sets); claimed = claimed (S .sets); at = startOf k 1 (S .sets); held = held (getD (S .sets) k noSet) }
+
+abbrev pub seatAt : State → ℕ → Seat
+seatAt S k =
+    record {
+      family = S .family;
+      base = base (length (S .sets));
+      first = startOf k 1 (S .sets);
+      end = startOf k 1 (S .sets) + held (getD (S .sets) k noSet);
+    }
+
+abbrev pub noSeat : Seat
+noSeat = record { family = 0; base = 0; first = 0; end = 0 }
+
+abbrev pub seatedAs : Seated → ℕ × (Survey × Seat)
+seatedAs (seated.At v s) = (0, (v, s))
+seatedAs (seated.Refused r) = (number r, (noSurvey, noSeat))
+
+unfoldable pub seatedRule : Decoded → ℕ → ℕ × (Survey × Seat)
+seatedRule d k = onSet d k (noSurvey, noSeat) (λ S s. (surveyOf (sound S) k, seatAt S k))

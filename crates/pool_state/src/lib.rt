@@ -1,5 +1,6 @@
 // What a pool is: its state, the words that hold it and the rules of its calls stand in specs/, their laws in proofs/. Here is what the calls answer, and what one pass over a pool finds out.
 use nets::Refusal;
+use nodes::seats::Seat;
 
 // What a changing call answers: the nodes of its result.
 pub enum Answer {
@@ -32,4 +33,10 @@ pub struct Survey {
     pub claimed: u32,
     pub at: u32,
     pub held: u32,
+}
+
+// Where the set of a call stands: what one pass over the pool found out for it, and the seat of its trie. Or the refusal of every call on it.
+pub enum Seated {
+    At(Survey, Seat),
+    Refused(Refusal),
 }

@@ -1,6 +1,5 @@
 -- A load: what `ask` finds, a law for each return, and then the list of the file as a result (`Result` of pool_state's proofs/Returns.antt says what becomes of it), and what writing it
 -- asks. Assumes nothing.
-use mathlib.Core.Bool.{true, false}
 use mathlib.Core.List.{List, []}
 use mathlib.Core.Path.{_≡_, refl, sym, ap, _∙_}
 use Prim.Native.Nat.{ℕ, _+_, _≤_, _<_}
@@ -12,15 +11,17 @@ use Rattle.nets.specs.Lists.{nodesL}
 use Rattle.nets.specs.Tries.{Trie, size, listOf, trieOf}
 use Rattle.nets.specs.Refusals.{number, firstNo}
 use Rattle.nets.specs.declared.Refusal.{Refusal}
-use Rattle.nets.specs.declared.Refusal.the-variants.{Damaged, NoSet, BadFile, WrongFamily, Occupied}
+use Rattle.nets.specs.declared.Refusal.the-variants.{BadFile, WrongFamily, Occupied}
 use Rattle.nets.proofs.Answers.{number-some}
+use Rattle.nodes.specs.declared.seats.Seat.{Seat}
 use Rattle.pool_state.specs.States.{State, roomOf}
 use Rattle.pool_state.specs.Decode.{decode}
-use Rattle.pool_state.specs.Rules.{surveyOf}
 use Rattle.pool_state.specs.Changes.{listAt}
+use Rattle.pool_state.specs.Steps.{Refuses}
 use Rattle.pool_state.specs.declared.Survey.{Survey}
 use Rattle.pool_state.proofs.Decoded.{decode-header}
-use Rattle.pool_state.proofs.Seen.{Seen, survey-sound, refuses-damaged, refuses-noset, survey-seen, seen, seen-figures, seen-empty, seen-some}
+use Rattle.pool_state.proofs.Seats.{Seats, seats-family}
+use Rattle.pool_state.proofs.Seen.{Seen, seen, seen-figures, seen-empty, seen-some}
 use Rattle.pool_state.proofs.Changed.{withTrie, behind-first, gap-asks}
 use Rattle.pool_state.proofs.Returns.{Result, changed, isEmpty-some, change-seat, change-args}
 use Rattle.setfile_format.specs.Files.{File, broken, file, readFile}
@@ -65,35 +66,30 @@ module _ (x : File) (k : ℕ) (S : State) where
       loadRules-right n = rw (e, eq-eqb f (S .family) own, n)
 
 -- What `ask` finds.
-module _ {w : List ℕ} {k : ℕ} {v : Survey} (d : List ℕ) (e : v ≡ surveyOf (decode w) k) where
-  pub ask-damaged : v .sound ≡ false → Asks w k d (Refused Damaged)
-  ask-damaged q = changed (change-seat (loadRules (readFile d) k) (λ S. fileList (readFile d)) w k (refuses-damaged w k v e q))
+pub ask-refused : {w : List ℕ} {k : ℕ} (d : List ℕ) (x : Refusal) → Refuses (decode w) k (number x) → Asks w k d (Refused x)
+ask-refused {w} {k} d x h = changed (change-seat (loadRules (readFile d) k) (λ S. fileList (readFile d)) w k h)
 
-  pub ask-noset : v .sound ≡ true → getD w 2 0 ≤ k → Asks w k d (Refused NoSet)
-  ask-noset q le = changed (change-seat (loadRules (readFile d) k) (λ S. fileList (readFile d)) w k (refuses-noset w k v e q le))
+module _ {w : List ℕ} {k : ℕ} {v : Survey} {s : Seat} (d : List ℕ) (h : Seats w k v s) {r : Checked} (c : r ≡ checkedOf (readFile d)) where
+  ask-args : (x : Refusal) → ((S : State) → Seen w S k v → s .family ≡ S .family → firstNo (loadRules (readFile d) k S) ≡ number x) → Asks w k d (Refused x)
+  ask-args x q =
+      let (S, g) = seen (h .surveyed) in
+      changed (change-args (loadRules (readFile d) k) (λ S. fileList (readFile d)) g (q S g (seats-family h ∙ decode-header w S (g .decoded) .family)) (number-some x))
 
-  module _ (q : v .sound ≡ true) (lt : k < getD w 2 0) {r : Checked} (c : r ≡ checkedOf (readFile d)) where
-    ask-args : (x : Refusal) → ((S : State) → Seen w S k v → getD w 1 0 ≡ S .family → firstNo (loadRules (readFile d) k S) ≡ number x) → Asks w k d (Refused x)
-    ask-args x h =
-        let y = survey-sound w k v e q in
-        let g = survey-seen w k v e (y .0) (y .1) lt in
-        changed (change-args (loadRules (readFile d) k) (λ S. fileList (readFile d)) g (h (y .0) g (decode-header w (y .0) (y .1) .family)) (number-some x))
+  pub ask-broken : r ≡ checked.Broken → Asks w k d (Refused BadFile)
+  ask-broken i = ask-args BadFile (λ S g o. loadRules-broken (readFile d) k S (checked-broken (readFile d) (sym c ∙ i)))
 
-    pub ask-broken : r ≡ checked.Broken → Asks w k d (Refused BadFile)
-    ask-broken i = ask-args BadFile (λ S g o. loadRules-broken (readFile d) k S (checked-broken (readFile d) (sym c ∙ i)))
+  module _ {f n : ℕ} (i : r ≡ checked.File f n) where
+    pub ask-family : (f ≡ s .family → ⊥) → Asks w k d (Refused WrongFamily)
+    ask-family ne = let its = checked-file (readFile d) f n (sym c ∙ i) in ask-args WrongFamily (λ S g o. loadRules-other (readFile d) k S f (its .0) (its .1) (λ z. ne (z ∙ sym o)))
 
-    module _ {f n : ℕ} (i : r ≡ checked.File f n) where
-      pub ask-family : (f ≡ getD w 1 0 → ⊥) → Asks w k d (Refused WrongFamily)
-      ask-family ne = let its = checked-file (readFile d) f n (sym c ∙ i) in ask-args WrongFamily (λ S g o. loadRules-other (readFile d) k S f (its .0) (its .1) (λ z. ne (z ∙ sym o)))
+    module _ (own : f ≡ s .family) where
+      pub ask-occupied : (v .held ≡ 0 → ⊥) → Asks w k d (Refused Occupied)
+      ask-occupied ne = let its = checked-file (readFile d) f n (sym c ∙ i) in ask-args Occupied (λ S g o. loadRules-occupied (readFile d) k S f (its .0) (its .1) (own ∙ o) (seen-some g ne))
 
-      module _ (own : f ≡ getD w 1 0) where
-        pub ask-occupied : (v .held ≡ 0 → ⊥) → Asks w k d (Refused Occupied)
-        ask-occupied ne = let its = checked-file (readFile d) f n (sym c ∙ i) in ask-args Occupied (λ S g o. loadRules-occupied (readFile d) k S f (its .0) (its .1) (own ∙ o) (seen-some g ne))
-
-        pub ask-go : v .held ≡ 0 → Asks w k d (Go v f n)
-        ask-go z =
-            let (l, reads, nodes) = checked-file (readFile d) f n (sym c ∙ i) in
-            record { surveyed = record { found = e; sound = q; known = lt }; empty = z; list = l; reads = reads; family = own; nodes = nodes }
+      pub ask-go : v .held ≡ 0 → Asks w k d (Go v f n)
+      ask-go z =
+          let (l, reads, nodes) = checked-file (readFile d) f n (sym c ∙ i) in
+          record { surveyed = h .surveyed; empty = z; list = l; reads = reads; family = own ∙ seats-family h; nodes = nodes }
 
 -- A load that goes on, with the list of its file.
 module _ {w : List ℕ} {k : ℕ} {d : List ℕ} {v : Survey} {f n : ℕ} (c : Ready w k d v f n) where

@@ -6,6 +6,7 @@ use native.Mathlib.Omega.{arith}
 use lib.ListN.{length}
 use Rattle.nets.specs.Networks.{width}
 use Rattle.nets.specs.Tries.{listOf, trieOf}
+use Rattle.nets.specs.Refusals.{number}
 use Rattle.nets.specs.declared.Refusal.{Refusal}
 use Rattle.nets.specs.declared.Refusal.the-variants.{ShortBuffer}
 use Rattle.nets.proofs.Answers.{number-some}
@@ -14,6 +15,7 @@ use Rattle.pool_state.specs.States.{State}
 use Rattle.pool_state.specs.Decode.{sound, decode}
 use Rattle.pool_state.specs.Changes.{setAt, listAt}
 use Rattle.pool_state.specs.Rules.{answerAs}
+use Rattle.pool_state.specs.Steps.{Refuses}
 use Rattle.pool_state.specs.declared.Answer.{Answer}
 use Rattle.pool_state.specs.declared.Answer.the-variants as answer
 use Rattle.pool_state.proofs.Answered.{owes-refused, owes-granted, owes-seat, firstNo-short, firstNo-fits}
@@ -22,9 +24,8 @@ use Rattle.pool_state.proofs.Header.{isHeader-header}
 use Rattle.pool_state.proofs.Holds.{set-size}
 use Rattle.pool_state.proofs.Decoded.{decode-header, decode-state, decode-set}
 use Rattle.trie_paths.specs.Laying.{tallied, clear, Starts}
-use Rattle.listing.specs.Seats.{Sits, Seats}
+use Rattle.listing.proofs.Seats.{Sits}
 use Rattle.nodes.specs.declared.seats.Seat.{Seat}
-use Rattle.listing.specs.declared.seats.Seated.the-variants.{Refused}
 use Rattle.trie_paths.proofs.Counting.{listOf-size}
 use Rattle.setfile_format.specs.Files.{fileBytes, mostEntries, fileOf}
 use Rattle.setfile_format.proofs.Written.{length-fileOf, fileBytes-few}
@@ -34,7 +35,7 @@ use Rattle.setfile.specs.Calls.{fileAt, saveRules, saveRule, bytesAfter,
 saved : {w v u : List ℕ} {k : ℕ} {r : Answer} → (answerAs r ≡ saveRule (decode w) k (length v)) × (u ≡ bytesAfter v (decode w) k) → Saved w k v r u
 saved h = record { answer = h .0; bytes = h .1 }
 
-pub save-refused : {w v : List ℕ} {k : ℕ} (x : Refusal) → Seats w k (Refused x) → Saved w k v (answer.Refused x) v
+pub save-refused : {w v : List ℕ} {k : ℕ} (x : Refusal) → Refuses (decode w) k (number x) → Saved w k v (answer.Refused x) v
 unfolding saveRule bytesAfter saveRules
 save-refused {w} {v} {k} x e = saved (owes-seat _ 0 _ v _ (decode w) k e)
 

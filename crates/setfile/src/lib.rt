@@ -1,13 +1,13 @@
 // Set files: a set into bytes, and bytes into a set. Each call checks the pool in one pass.
-use listing::seats::Seated;
-use listing::seats::seat_of;
 use loading::Asked;
 use loading::ask;
 use loading::write;
 use nets::Refusal;
 use pool_change::judging::judge;
 use pool_change::relinking::granted;
+use pool_check::seats::seat_of;
 use pool_state::Answer;
+use pool_state::Seated;
 use pool_state::Verdict;
 use setfile_entries::reading::file_bytes;
 use setfile_write::saving::write_file;
@@ -26,7 +26,7 @@ pub fn save(pool: &[u32], set: u32, out: &mut [u8]) -> Answer
     let seated = seat_of(pool, set);
     match seated {
         Seated::Refused(no) => Answer::Refused(no),
-        Seated::At(s) => {
+        Seated::At(_, s) => {
             let mut next = tally(pool, s.base, s.first, s.end);
             let n = starts(&mut next);
             let size = file_bytes(s.family, n);

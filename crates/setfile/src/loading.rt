@@ -3,7 +3,8 @@ use nets::Refusal;
 use pool_change::relinking::shift_behind;
 use pool_check::HEAD;
 use pool_check::RECORD;
-use pool_check::survey;
+use pool_check::seats::seat_of;
+use pool_state::Seated;
 use pool_state::Survey;
 use setfile_build::build;
 use setfile_order::Checked;
@@ -23,24 +24,23 @@ pub enum Asked {
 pub fn ask(pool: &[u32], set: u32, bytes: &[u8]) -> Asked
     ensures { λ r. ⌜ Asks (now (pool .entry)) set (now (bytes .entry)) r ⌝ }
 {
-    let found = survey(pool, set);
-    if !found.sound {
-        return Asked::Refused(Refusal::Damaged);
-    }
-    if pool[2] <= set {
-        return Asked::Refused(Refusal::NoSet);
-    }
-    let checked = check(bytes);
-    match checked {
-        Checked::Broken => Asked::Refused(Refusal::BadFile),
-        Checked::File(family, nodes) => {
-            if family as u32 != pool[1] {
-                return Asked::Refused(Refusal::WrongFamily);
+    let seated = seat_of(pool, set);
+    match seated {
+        Seated::Refused(no) => Asked::Refused(no),
+        Seated::At(found, seat) => {
+            let checked = check(bytes);
+            match checked {
+                Checked::Broken => Asked::Refused(Refusal::BadFile),
+                Checked::File(family, nodes) => {
+                    if family != seat.family {
+                        return Asked::Refused(Refusal::WrongFamily);
+                    }
+                    if found.held != 0 {
+                        return Asked::Refused(Refusal::Occupied);
+                    }
+                    Asked::Go(found, family, nodes)
+                }
             }
-            if found.held != 0 {
-                return Asked::Refused(Refusal::Occupied);
-            }
-            Asked::Go(found, family, nodes)
         }
     }
 }

@@ -10,22 +10,18 @@ use lib.ListN.{length}
 use borrow.Author.Tests.{lt-ltb, le-ltb, ltb-true}
 use Rattle.nets.specs.Bits.{Bits}
 use Rattle.nets.specs.Networks.{isFamily, netFrom}
-use Rattle.nets.specs.Refusals.{number}
 use Rattle.nets.specs.Tries.{Trie, none, levels, listOf}
 use Rattle.nets.specs.declared.Net.{Net}
-use Rattle.nets.specs.declared.Refusal.{Refusal}
 use Rattle.pool_state.specs.States.{State}
 use Rattle.pool_state.specs.Decode.{Decoded, damaged, sound, decode}
 use Rattle.pool_state.proofs.Claims.{isState-family}
 use Rattle.pool_state.proofs.Decoded.{decode-state}
 use Rattle.pool_state.proofs.Seen.{trieAt}
 use Rattle.pool_state.specs.Steps.{Refuses}
-use Rattle.listing.specs.Seats.{Sits, Seats}
 use Rattle.nodes.specs.declared.seats.Seat.{Seat}
-use Rattle.listing.specs.declared.seats.Seated.the-variants.{Refused}
 use Rattle.trie_paths.proofs.Reading.{spans-small}
 use Rattle.trie_paths.proofs.Counting.{listOf-size}
-use Rattle.listing.proofs.Calls.{sits-at}
+use Rattle.listing.proofs.Seats.{Sits, sits-at}
 use Rattle.trie_next.specs.Spots.{nowhere, beforeAll, goneOn, Right, StandsIn, Goes}
 use Rattle.trie_next.specs.declared.spots.Spot.{Spot}
 use Rattle.trie_next.proofs.Onward.{stands-nowhere, seat-gone, Lists, lists-trie, ahead, ahead-all, gone-more, gone-last, right-gone}
@@ -33,13 +29,10 @@ use Rattle.walk.specs.Walks.{walkNo, listIn, seatIn, beginIn, walkFrom, 
 use Rattle.walk.specs.declared.walking.Walk.{Walk}
 
 -- The returns of `begin`.
-refuses : (d : Decoded) (k x : ℕ) → Refuses d k x → record { spot = beforeAll nowhere; no = x } ≡ beginIn d k
+pub begins-refused : (d : Decoded) (k x : ℕ) → Refuses d k x → record { spot = beforeAll nowhere; no = x } ≡ beginIn d k
 unfolding walkNo seatIn
-refuses damaged k x e = rw e
-refuses (sound S) k x e = rw (e .1, le-ltb k (length (S .sets)) (e .0))
-
-pub begins-refused : (w : List ℕ) (k : ℕ) (x : Refusal) → Seats w k (Refused x) → record { spot = beforeAll nowhere; no = number x } ≡ beginIn (decode w) k
-begins-refused w k x e = refuses (decode w) k (number x) e
+begins-refused damaged k x e = rw e
+begins-refused (sound S) k x e = rw (e .1, le-ltb k (length (S .sets)) (e .0))
 
 pub begins-at : {w : List ℕ} {k : ℕ} {S : State} {s : Seat} → Sits w k S s → record { spot = beforeAll s; no = 0 } ≡ beginIn (decode w) k
 unfolding walkNo seatIn

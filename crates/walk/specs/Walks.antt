@@ -18,7 +18,7 @@ use Rattle.nets.specs.Bits.{Bits}
 use Rattle.nets.specs.declared.Net.{Net}
 use Rattle.pool_state.specs.Decode.{Decoded, damaged, sound, decode}
 use Rattle.pool_state.specs.Changes.{listAt}
-use Rattle.listing.specs.Seats.{seatAt}
+use Rattle.pool_state.specs.Rules.{seatAt}
 use Rattle.nodes.specs.declared.seats.Seat.{Seat}
 use Rattle.trie_next.specs.Spots.{nowhere, beforeAll, goneOn, Right}
 use Rattle.walk.specs.declared.beginning.Stage.{Stage}

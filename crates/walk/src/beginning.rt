@@ -2,8 +2,8 @@
 ghost use mathlib.Core.Path.{_≡_};
 ghost use Rattle.pool_state.specs.Decode.{decode};
 ghost use Rattle.walk.specs.Walks.{beginIn};
-use listing::seats::Seated;
-use listing::seats::seat_of;
+use pool_check::seats::seat_of;
+use pool_state::Seated;
 use trie_next::spots::Spot;
 use trie_next::spots::before_all;
 use trie_next::spots::nowhere;
@@ -24,7 +24,7 @@ pub fn begin(pool: &[u32], set: u32) -> Stage
             spot: before_all(nowhere()),
             no: no.number(),
         },
-        Seated::At(seat) => Stage {
+        Seated::At(_, seat) => Stage {
             spot: before_all(seat),
             no: 0,
         },

@@ -7,14 +7,15 @@ use lib.ListN.{length}
 use Rattle.nets.specs.Tries.{listOf}
 use Rattle.pool_state.specs.States.{State}
 use Rattle.pool_state.proofs.Seen.{trieAt}
-use Rattle.listing.specs.Seats.{Sits}
+use Rattle.pool_state.proofs.Seats.{seated-refused}
 use Rattle.trie_paths.proofs.Placing.{total-is, counts-fit}
+use Rattle.listing.proofs.Seats.{Sits, seated-sits}
 use Rattle.listing.proofs.Calls.{list-refused, list-few, list-layable, list-short, list-granted}
 use Rattle.listing.proofs.list.Statement.{statement}
 use Rattle.listing.proofs.list.Tie as tie
 
-sits : (c : tie.After-known-told2) → let a = c .before .before .before .before .before .before .args in (S : State) × Sits (now (a .pool)) (a .set) S (c .before .seated2 .given .0 .0)
-sits c = rw (c .before .seated2 .given .1) at (c .before .before .before .seat-of .ensures)
+sits : (c : tie.After-known-told2) → let a = c .before .before .before .before .before .before .args in (S : State) × Sits (now (a .pool)) (a .set) S (c .before .seated2 .given .0 .1 .0)
+sits c = seated-sits _ _ (c .before .before .before .seat-of .ensures) _ _ (c .before .seated2 .given .1)
 
 -- the number of its networks
 counted : (c : tie.After-starts) → let d = c .before .before .before in
@@ -37,7 +38,7 @@ list-spec =
     let h = sits (d .before .before .before) .1 in
     (_, list-layable h (counted d) (d .before .before .tally .ensures _ _ (h .holds)) (d .starts .ensures .0) (c .before .before .if1 .left)))
     (λ c. let d = c .before .before .before .before .before .before in omega (arith, list-few (sits (d .before .before .before) .1) (counted d)))
-    (λ c. list-refused _ (rw (c .before .seated .given .1) at (c .before .before .before .seat-of .ensures)))
+    (λ c. list-refused _ (seated-refused _ _ (c .before .before .before .seat-of .ensures) _ (c .before .seated .given .1)))
     (λ c. search needs)
     (λ c.
     let r = c .before .before in

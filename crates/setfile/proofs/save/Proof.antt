@@ -7,14 +7,15 @@ use lib.ListN.{length}
 use Rattle.nets.specs.Tries.{listOf, trieOf}
 use Rattle.pool_state.specs.States.{State}
 use Rattle.pool_state.specs.Changes.{listAt}
-use Rattle.listing.specs.Seats.{Sits}
+use Rattle.pool_state.proofs.Seats.{seated-refused}
+use Rattle.listing.proofs.Seats.{Sits, seated-sits}
 use Rattle.trie_paths.proofs.Placing.{total-is, counts-fit}
 use Rattle.setfile.proofs.Returns.{save-refused, save-few, save-fits, save-writable, save-short, save-granted}
 use Rattle.setfile.proofs.save.Statement.{statement}
 use Rattle.setfile.proofs.save.Tie as tie
 
-sits : (c : tie.After-known-told2) → let a = c .before .before .before .before .before .before .args in (S : State) × Sits (now (a .pool)) (a .set) S (c .before .seated2 .given .0 .0)
-sits c = rw (c .before .seated2 .given .1) at (c .before .before .before .seat-of .ensures)
+sits : (c : tie.After-known-told2) → let a = c .before .before .before .before .before .before .args in (S : State) × Sits (now (a .pool)) (a .set) S (c .before .seated2 .given .0 .1 .0)
+sits c = seated-sits _ _ (c .before .before .before .seat-of .ensures) _ _ (c .before .seated2 .given .1)
 
 -- the number of its networks
 counted : (c : tie.After-starts) → let d = c .before .before .before in
@@ -38,7 +39,7 @@ save-spec =
     let h = sits (d .before .before .before) .1 in
     (_, save-writable h (counted d) (e .before .file-bytes .ensures) (d .before .before .tally .ensures _ _ (h .holds)) (d .starts .ensures .0) (e .if1 .left)))
     (λ c. let d = c .before .before .before .before .before .before in omega (arith, save-fits (sits (d .before .before .before .before) .1) (counted (d .before)) (d .file-bytes .ensures)))
-    (λ c. save-refused _ (rw (c .before .seated .given .1) at (c .before .before .before .seat-of .ensures)))
+    (λ c. save-refused _ (seated-refused _ _ (c .before .before .before .seat-of .ensures) _ (c .before .seated .given .1)))
     (λ c. search needs)
     (λ c.
     let r = c .before .before in

@@ -1,40 +1,30 @@
 -- `asking::ask` meets its contract, each return by the tests on the way to it. Assumes nothing.
-use mathlib.Core.Bool.{true}
-use mathlib.Core.Path.{_≡_}
+use denote.Ref.{now}
 use native.Mathlib.Omega.{arith}
 use borrow.Author.Needs.{needs}
-use borrow.Author.Tests.{not-true, not-false}
-use Rattle.pool_state.proofs.Seen.{survey-long}
-use Rattle.combine.proofs.Calls.{ask-damaged, ask-noset, ask-first, ask-second, ask-occupied, ask-go}
+use Rattle.pool_state.specs.Steps.{Surveyed}
+use Rattle.pool_state.proofs.Seats.{seated-refused, seated-at}
+use Rattle.pool_state.proofs.Seen.{figures}
+use Rattle.combine.proofs.Calls.{ask-refused, ask-first, ask-second, ask-occupied, ask-empty}
 use Rattle.combine.proofs.asking.ask.Statement.{statement}
 use Rattle.combine.proofs.asking.ask.Tie as tie
 
-abbrev surveyed : tie.Else1 → tie.After-survey
-surveyed c = c .before .before
+surveyed : (c : tie.After-seated2) → let a = c .before .before .before .before .args in Surveyed (now (a .pool)) (a .to) (c .seated2 .given .0 .0)
+surveyed c = seated-at _ _ (c .before .before .seat-of .ensures) _ _ (c .seated2 .given .1) .surveyed
 
-sound : (c : tie.Else1) → surveyed c .survey .result .sound ≡ true
-sound c = not-false _ (c .if1 .left)
-
-abbrev passed : tie.Else2 → tie.Else1
-passed c = c .before .before
+abbrev seated : tie.Else1 → tie.After-seated2
+seated c = c .before .before .before
 
 pub ask-spec : {M : Type 1} → statement M
 ask-spec =
     tie.close
     (tie.spec
     (λ c κs. search needs)
-    (λ c. ask-damaged _ _ (c .before .before .survey .ensures) (not-true _ (c .if1 .taken)))
-    (λ c. let s = c .before in omega (arith, survey-long _ _ _ (surveyed s .survey .ensures) (sound s)))
-    (λ c. let s = c .before .before in ask-noset _ _ (surveyed s .survey .ensures) (sound s) (c .if2 .taken))
-    (λ c. let k = c .before in let s = passed k in ask-first _ _ (surveyed s .survey .ensures) (sound s) (k .if2 .left) (c .if3 .taken))
-    (λ c. let k = c .before .before in let s = passed k in ask-second _ _ (surveyed s .survey .ensures) (sound s) (k .if2 .left) (c .before .if3 .left) (c .if4 .taken))
-    (λ c.
-    let i = c .before .before in
-    let k = i .before .before in
-    let s = passed k in
-    ask-occupied _ _ (surveyed s .survey .ensures) (sound s) (k .if2 .left) (i .before .if3 .left) (i .if4 .left) (c .if5 .taken))
-    (λ c.
-    let i = c .before .before in
-    let k = i .before .before in
-    let s = passed k in
-    ask-go _ _ (surveyed s .survey .ensures) (sound s) (k .if2 .left) (i .before .if3 .left) (i .if4 .left) (c .if5 .left)))
+    (λ c. search needs)
+    (λ c. search needs)
+    (λ c. omega (arith, figures (surveyed (c .before .before)) .long))
+    (λ c. ask-first _ _ (surveyed (c .before .before .before)) (c .if1 .taken))
+    (λ c. let e = c .before in ask-second _ _ (surveyed (seated e)) (e .if1 .left) (c .if2 .taken))
+    (λ c. let i = c .before .before in let e = i .before in ask-occupied _ _ (surveyed (seated e)) (e .if1 .left) (i .if2 .left) (c .if3 .taken))
+    (λ c. ask-refused _ _ _ (seated-refused _ _ (c .before .before .before .seat-of .ensures) _ (c .before .seated .given .1)))
+    (λ c. let i = c .before .before in let e = i .before in ask-empty _ _ (surveyed (seated e)) (e .if1 .left) (i .if2 .left) (c .if3 .left)))

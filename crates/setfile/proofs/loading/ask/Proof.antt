@@ -1,46 +1,37 @@
 -- `loading::ask` meets its contract, each return by the tests on the way to it. Assumes nothing.
-use mathlib.Core.Bool.{true}
-use mathlib.Core.Path.{_≡_}
-use native.Mathlib.Omega.{arith}
+use denote.Ref.{now}
 use borrow.Author.Needs.{needs}
-use borrow.Author.Tests.{not-true, not-false}
-use Rattle.pool_state.proofs.Seen.{survey-long}
-use Rattle.setfile.proofs.Loads.{ask-damaged, ask-noset, ask-broken, ask-family, ask-occupied, ask-go}
+use Rattle.pool_state.proofs.Seats.{Seats, seated-refused, seated-at}
+use Rattle.setfile.proofs.Loads.{ask-refused, ask-broken, ask-family, ask-occupied, ask-go}
 use Rattle.setfile.proofs.loading.ask.Statement.{statement}
 use Rattle.setfile.proofs.loading.ask.Tie as tie
 
-sound : (c : tie.Else1) → c .before .before .survey .result .sound ≡ true
-sound c = not-false _ (c .if1 .left)
+abbrev seated : tie.After-check → tie.After-seated2
+seated c = c .before .before
+
+seats : (c : tie.After-check) → let d = seated c in let a = d .before .before .before .before .before .args in Seats (now (a .pool)) (a .set) (d .seated2 .given .0 .0) (d .seated2 .given .0 .1 .0)
+seats c = let d = seated c in seated-at _ _ (d .before .before .seat-of .ensures) _ _ (d .seated2 .given .1)
 
 pub ask-spec : {M : Type 1} → statement M
 ask-spec =
     tie.close
     (tie.spec
     (λ c κs. search needs)
-    (λ c. ask-damaged _ (c .before .before .survey .ensures) (not-true _ (c .if1 .taken)))
-    (λ c. let s = c .before in omega (arith, survey-long _ _ _ (s .before .before .survey .ensures) (sound s)))
-    (λ c. let s = c .before .before in ask-noset _ (s .before .before .survey .ensures) (sound s) (c .if2 .taken))
+    (λ c. search needs)
+    (λ c. search needs)
     (λ c κs. search needs)
     (λ c. search needs)
     (λ c. search needs)
-    (λ c. search needs)
-    (λ c. let s = c .before .before .before .before .before .before .before in omega (arith, survey-long _ _ _ (s .before .before .survey .ensures) (sound s)))
+    (λ c. let f = c .before .before .before in let k = f .before .before in ask-family _ (seats k) (k .check .ensures) (f .checked .given .1) (c .if1 .taken))
     (λ c.
-    let i = c .before .before .before in
-    let k = i .before .before .before in
-    let s = k .before .before in
-    ask-family _ (s .before .before .survey .ensures) (sound s) (k .if2 .left) (i .before .before .check .ensures) (i .checked .given .1) (c .if3 .taken))
+    let e = c .before .before in
+    let f = e .before .before .before in
+    let k = f .before .before in
+    ask-occupied _ (seats k) (k .check .ensures) (f .checked .given .1) (e .if1 .left) (c .if2 .taken))
+    (λ c. ask-refused _ _ (seated-refused _ _ (c .before .before .before .seat-of .ensures) _ (c .before .seated .given .1)))
+    (λ c. let k = c .before .before in ask-broken _ (seats k) (k .check .ensures) (c .enum-told .given .1))
     (λ c.
-    let i = c .before .before .before .before .before in
-    let k = i .before .before .before in
-    let s = k .before .before in
-    ask-occupied _ (s .before .before .survey .ensures) (sound s) (k .if2 .left) (i .before .before .check .ensures) (i .checked .given .1) (c .before .before .if3 .left) (c .if4 .taken))
-    (λ c.
-    let k = c .before .before .before in
-    let s = k .before .before in
-    ask-broken _ (s .before .before .survey .ensures) (sound s) (k .if2 .left) (c .before .before .check .ensures) (c .enum-told .given .1))
-    (λ c.
-    let i = c .before .before .before .before .before in
-    let k = i .before .before .before in
-    let s = k .before .before in
-    ask-go _ (s .before .before .survey .ensures) (sound s) (k .if2 .left) (i .before .before .check .ensures) (i .checked .given .1) (c .before .before .if3 .left) (c .if4 .left)))
+    let e = c .before .before in
+    let f = e .before .before .before in
+    let k = f .before .before in
+    ask-go _ (seats k) (k .check .ensures) (f .checked .given .1) (e .if1 .left) (c .if2 .left)))
