@@ -244,6 +244,28 @@ fn files() {
     }
 }
 
+/// Lines into an empty set, /24 networks side by side: ascending, where each is added behind the last, and shuffled, where each moves the nodes behind it. The Rust parses the same lines and adds.
+fn lines(d: &mut Dice) {
+    for (what, n, shuffled) in [("lines, ascending", 1_000_000, false), ("lines, shuffled", 20_000, true), ("lines, shuffled", 100_000, true)] {
+        let mut nets: Vec<u32> = (0..n).collect();
+        for k in (1..n as usize).rev().filter(|_| shuffled) {
+            nets.swap(k, d.below(k as u64 + 1) as usize);
+        }
+        let text: String = nets.iter().map(|k| format!("{}.{}.{}.0/24\n", k >> 16, k >> 8 & 255, k & 255)).collect();
+        let c = Call { b: text.len() as u32, tail: text.clone().into_bytes(), ..Call::new(LINES) };
+        let empty = pool(4, &[]);
+        let mut w = empty.clone();
+        let (mut ours, mut theirs) = (vec![], vec![]);
+        for _ in 0..3 {
+            w.copy_from_slice(&empty);
+            ours.push(call(&mut w, &c));
+            let mut r = IpRange::<Ipv4Net>::new();
+            theirs.push(seconds(|| text.lines().for_each(|l| drop(r.add(l.parse().unwrap())))));
+        }
+        row(what, 4, n as usize, n as usize, (timed(ours), timed(theirs)));
+    }
+}
+
 pub fn main() -> bool {
     println!("| what | family | networks | ours, least | ours, median | iprange, least | iprange, median | times |");
     println!("|---|---|---|---|---|---|---|---|");
@@ -259,5 +281,6 @@ pub fn main() -> bool {
         measure::<Ipv4Net>(d, 4, &(0..n).map(|k| (24, k << 8)).collect());
     }
     files();
+    lines(d);
     true
 }

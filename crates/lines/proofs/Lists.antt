@@ -19,13 +19,13 @@ use Rattle.change.proofs.Outcomes.{add-leaves}
 use Rattle.lines.specs.Lines.{addNo, addWords, lineNo, wordsWith, poolNo}
 use Rattle.lines.proofs.Taking.{wordsWith-refused}
 
--- An added network.
+-- An added network: it is a granted call of add, and leaves the state with the network in the list of set 0.
 module _ (w : List ℕ) (S : State) (n : Net) (d : decode w ≡ sound S) (e : addNo w n ≡ 0) where
   granted : relistNo S 0 (netRules n S) (listWith 0 n S) ≡ 0
   unfolding changeRule answerOn relistRules
   granted = sym (ap (λ D. changeRule D 0 (relistRules 0 (netRules n) (listWith 0 n)) (relistSet 0 (listWith 0 n)) .0) d) ∙ e
 
-  added : Added w 0 n (0, nodesL (listWith 0 n S)) (addWords w n)
+  pub added : Added w 0 n (0, nodesL (listWith 0 n S)) (addWords w n)
   unfolding changeRule answerOn relistRules relistSet
   added = record { answer = rw (d, granted); words = refl }
 
