@@ -1,11 +1,11 @@
 -- The calls with a network: what `ask` finds, a law for each return, and then the result, counted and written (`Result` of pool's proofs/Returns.antt says what becomes of it).
 -- A change of lists is done on tries (`Works`), so one law serves add and remove. Assumes nothing.
 use mathlib.Core.Path.{_≡_, refl, sym, _∙_}
-use mathlib.Core.Bool.{true, false}
+use mathlib.Core.Bool.{true}
 use mathlib.Core.List.{List}
 use Prim.Native.Nat.{ℕ, _+_, _-_, _*_, _≤_, _<_}
 use native.Mathlib.Omega.{arith}
-use lib.ListN.{length, getD}
+use lib.ListN.{length}
 use Rattle.nets.specs.Bits.{Bits}
 use Rattle.nets.specs.Lists.{addL, removeL}
 use Rattle.nets.specs.Tries.{Trie, size, listOf, insertT}
@@ -14,7 +14,7 @@ use Rattle.nets.specs.Refusals.{number, answered, firstNo}
 use Rattle.nets.specs.Networks.{isFamily, netBits, refusalOf, bitsLeft, startOf, noBits, prefixAs}
 use Rattle.nets.specs.declared.Net.{Net}
 use Rattle.nets.specs.declared.Refusal.{Refusal}
-use Rattle.nets.specs.declared.Refusal.the-variants.{Damaged, NoSet, WrongFamily}
+use Rattle.nets.specs.declared.Refusal.the-variants.{WrongFamily}
 use Rattle.nets.specs.declared.Prefix.{Prefix}
 use Rattle.nets.specs.declared.Prefix.the-variants as prefix
 use Rattle.nets.specs.declared.PrefixBits.{PrefixBits}
@@ -24,52 +24,50 @@ use Rattle.nets.proofs.Numbers.{bitsLeft-start, startOf-few}
 use Rattle.nets.proofs.Handing.{length-bitsLeft}
 use Rattle.nets.proofs.Answers.{number-some, prefix-bits, prefix-refused}
 use Rattle.nodes.specs.Segments.{Segment, Spliced}
+use Rattle.nodes.specs.declared.seats.Seat.{Seat}
 use Rattle.pool_state.specs.States.{State, roomOf}
-use Rattle.pool_state.specs.Decode.{base, sound, decode}
-use Rattle.pool_state.specs.Rules.{surveyOf}
+use Rattle.pool_state.specs.Decode.{decode}
+use Rattle.pool_state.specs.Rules.{seatOf}
 use Rattle.pool_state.specs.Changes.{listAt, netRules}
+use Rattle.pool_state.specs.Steps.{Refuses}
 use Rattle.pool_state.specs.declared.Survey.{Survey}
 use Rattle.pool_state.proofs.Claims.{isState-family}
 use Rattle.pool_state.proofs.Decoded.{decode-header, decode-state}
-use Rattle.pool_state.proofs.Seen.{Seen, behind, survey-sound, refuses-damaged, refuses-noset, survey-seen, seen, seen-figures, trieAt, seen-list, seen-size, seen-segment}
+use Rattle.pool_state.proofs.Seats.{Seats, seats-family}
+use Rattle.pool_state.proofs.Seen.{Seen, behind, seen, seen-state, seen-header, seen-figures, trieAt, seen-list, seen-size, seen-segment}
 use Rattle.pool_state.proofs.Changed.{withTrie, gap-asks}
 use Rattle.pool_state.proofs.Returns.{Result, change-seat, change-args, changed, netRules-own, netRules-other}
-use Rattle.change.specs.Steps.{Ready, Asks, seatOf}
+use Rattle.change.specs.Steps.{Ready, Asks}
 use Rattle.change.specs.declared.calling.Asked.the-variants.{Go, Refused}
-use Rattle.change.specs.declared.calling.Seat.{Seat}
 use Rattle.trie_insert.proofs.Insertion.{size-insert}
 use Rattle.trie_remove.proofs.Remains.{size-removeT}
 
 -- What `ask` finds.
-module _ {w : List ℕ} {k : ℕ} {v : Survey} (n : Net) (e : v ≡ surveyOf (decode w) k) where
-  pub ask-damaged : v .sound ≡ false → Asks w k n (Refused Damaged)
-  ask-damaged q f = changed (change-seat (netRules n) f w k (refuses-damaged w k v e q))
+pub ask-refused : {w : List ℕ} {k : ℕ} (n : Net) (x : Refusal) → Refuses (decode w) k (number x) → Asks w k n (Refused x)
+ask-refused {w} {k} n x h f = changed (change-seat (netRules n) f w k h)
 
-  pub ask-noset : v .sound ≡ true → getD w 2 0 ≤ k → Asks w k n (Refused NoSet)
-  ask-noset q le f = changed (change-seat (netRules n) f w k (refuses-noset w k v e q le))
+module _ {w : List ℕ} {k : ℕ} {v : Survey} {t : Seat} (n : Net) (h : Seats w k v t) where
+  ask-args : (x : Refusal) → ((S : State) → isFamily (S .family) ≡ true → t .family ≡ S .family → firstNo (netRules n S) ≡ number x) → Asks w k n (Refused x)
+  ask-args x g f =
+      let (S, s) = seen (h .surveyed) in
+      changed (change-args (netRules n) f s (g S (isState-family S (seen-state s)) (seats-family h ∙ seen-header s .family)) (number-some x))
 
-  module _ (q : v .sound ≡ true) (lt : k < getD w 2 0) where
-    ask-args : (x : Refusal) → ((S : State) → isFamily (S .family) ≡ true → getD w 1 0 ≡ S .family → firstNo (netRules n S) ≡ number x) → Asks w k n (Refused x)
-    ask-args x h f =
-        let y = survey-sound w k v e q in
-        changed (change-args (netRules n) f (survey-seen w k v e (y .0) (y .1) lt) (h (y .0) (isState-family (y .0) (decode-state w (y .0) (y .1))) (decode-header w (y .0) (y .1) .family)) (number-some x))
+  pub ask-family : (n .family ≡ t .family → ⊥) → Asks w k n (Refused WrongFamily)
+  ask-family ne = ask-args WrongFamily (λ S f o. netRules-other n S (λ z. ne (z ∙ sym o)))
 
-    pub ask-family : (n .family ≡ getD w 1 0 → ⊥) → Asks w k n (Refused WrongFamily)
-    ask-family ne = ask-args WrongFamily (λ S f o. netRules-other n S (λ z. ne (z ∙ sym o)))
+  module _ (own : n .family ≡ t .family) (p : Prefix) (g : prefixAs p ≡ answered (refusalOf n) noBits (startOf n)) where
+    pub ask-network : (x : Refusal) → p ≡ prefix.Refused x → Asks w k n (Refused x)
+    ask-network x q = ask-args x (λ S f o. netRules-own n S f (own ∙ o) ∙ prefix-refused n p x g q)
 
-    module _ (own : n .family ≡ getD w 1 0) (p : Prefix) (g : prefixAs p ≡ answered (refusalOf n) noBits (startOf n)) where
-      pub ask-network : (x : Refusal) → p ≡ prefix.Refused x → Asks w k n (Refused x)
-      ask-network x h = ask-args x (λ S f o. netRules-own n S f (own ∙ o) ∙ prefix-refused n p x g h)
-
-      pub ask-go : (s : PrefixBits) → p ≡ prefix.Bits s → Asks w k n (Go v s)
-      ask-go s h =
-          let y = prefix-bits n p s g h in
-          record {
-            surveyed = record { found = e; sound = q; known = lt };
-            right = λ S d. netRules-own n S (isState-family S (decode-state w S d)) (own ∙ decode-header w S d .family) ∙ y .0;
-            bits = rw (y .1) (bitsLeft-start n (y .0));
-            few = rw (y .1) (startOf-few n (y .0));
-          }
+    pub ask-go : (s : PrefixBits) → p ≡ prefix.Bits s → Asks w k n (Go v s)
+    ask-go s q =
+        let y = prefix-bits n p s g q in
+        record {
+          surveyed = h .surveyed;
+          right = λ S d. netRules-own n S (isState-family S (decode-state w S d)) (own ∙ seats-family h ∙ decode-header w S d .family) ∙ y .0;
+          bits = rw (y .1) (bitsLeft-start n (y .0));
+          few = rw (y .1) (startOf-few n (y .0));
+        }
 
 -- T does to tries what L does to lists, and it takes at most two nodes more for each bit of the path, and one.
 pub record Works (T : Bits → Trie → Trie) (L : List Bits → Bits → List Bits) : Type 0 where
@@ -93,10 +91,7 @@ module _ {w : List ℕ} {k : ℕ} {n : Net} {v : Survey} {s : PrefixBits} (h : R
   here : Seen w state k v
   here = seen (h .surveyed) .1
 
-  pub seat-long : 2 < length w
-  seat-long = omega (arith, seen-figures here .long)
-
-  pub seat-stands : {t : Seat} → t ≡ seatOf w v → Segment w (t .base) (t .first) (t .end) (t .used) trie (behind state k)
+  pub seat-stands : {t : Seat} → t ≡ seatOf w v → Segment w (t .base) (t .first) (t .end) (v .used + 1) trie (behind state k)
   seat-stands q = rw q (seen-segment here)
 
 -- what T makes of the trie in the seat t has m nodes
@@ -122,11 +117,11 @@ module _ {T : Bits → Trie → Trie} {L : List Bits → Bits → List Bits} {w 
   sees : Seen w S k v
   sees = here (h .ready)
 
-  pub result-stands : Segment w (t .base) (t .first) (t .end) (t .used) old (behind S k)
+  pub result-stands : Segment w (t .base) (t .first) (t .end) (v .used + 1) old (behind S k)
   result-stands = seat-stands (h .ready) (h .seat)
 
   counted : size new ≡ m
-  counted = sym (h .counts old (behind S k) (t .used) result-stands)
+  counted = sym (h .counts old (behind S k) (v .used + 1) result-stands)
 
   pub result : Result w S k v (netRules n) after new m
   result =
@@ -138,7 +133,7 @@ module _ {T : Bits → Trie → Trie} {L : List Bits → Bits → List Bits} {w 
       omega (arith, counted, h .works .few (bitsLeft s) old, length-bitsLeft s (h .ready .few), h .ready .few, seen-size sees, f .held, f .claimed, f .nodes)
 
   -- it is granted, and written
-  pub result-room : m ≤ roomOf S k → t .base + (t .used - 1) + size new ≤ length w + size old
+  pub result-room : m ≤ roomOf S k → t .base + (v .used + 1 - 1) + size new ≤ length w + size old
   result-room le = rw (h .seat) (omega (arith, gap-asks sees {u = w} le refl .room, counted, seen-size sees))
 
   pub result-wrote : {u : List ℕ} {y : ℕ} → Spliced w u (t .base) (t .first) y new (behind S k) → u ≡ withTrie w S k v new

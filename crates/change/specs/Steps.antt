@@ -1,26 +1,23 @@
--- The steps that the calls with a network share: what they find, and where the trie of the set stands.
+-- The step that the calls with a network share: what they find first.
 --
 --   Ready w k n v s      the call goes on: v is what a pass over the pool found, and s hands out the bits of n
 --   Asks w k n x         it goes on, or x is the refusal of every call with n on set k
---   seatOf w v           the place of the trie
 use mathlib.Core.Path.{_≡_}
 use mathlib.Core.List.{List}
-use Prim.Native.Nat.{ℕ, _+_, _≤_}
-use lib.ListN.{getD}
+use Prim.Native.Nat.{ℕ, _≤_}
 use Rattle.nets.specs.Bits.{Bits}
 use Rattle.nets.specs.Networks.{netBits, bitsLeft}
 use Rattle.nets.specs.Refusals.{firstNo}
 use Rattle.nets.specs.declared.Net.{Net}
 use Rattle.nets.specs.declared.PrefixBits.{PrefixBits}
 use Rattle.pool_state.specs.States.{State}
-use Rattle.pool_state.specs.Decode.{base, sound, decode}
+use Rattle.pool_state.specs.Decode.{sound, decode}
 use Rattle.pool_state.specs.Changes.{Changed, netRules}
 use Rattle.pool_state.specs.Steps.{Surveyed}
 use Rattle.pool_state.specs.declared.Answer.the-variants as answer
 use Rattle.pool_state.specs.declared.Survey.{Survey}
 use Rattle.change.specs.declared.calling.Asked.{Asked}
 use Rattle.change.specs.declared.calling.Asked.the-variants.{Go, Refused}
-use Rattle.change.specs.declared.calling.Seat.{Seat}
 
 pub record Ready (w : List ℕ) (k : ℕ) (n : Net) (v : Survey) (s : PrefixBits) : Type 0 where
   pub surveyed : Surveyed w k v
@@ -31,6 +28,3 @@ pub record Ready (w : List ℕ) (k : ℕ) (n : Net) (v : Survey) (s : PrefixBits
 abbrev pub Asks : List ℕ → ℕ → Net → Asked → Type 0
 Asks w k n (Go v s) = Ready w k n v s
 Asks w k n (Refused x) = (f : State → List Bits) → Changed w k (netRules n) f (answer.Refused x) w
-
-abbrev pub seatOf : List ℕ → Survey → Seat
-seatOf w v = record { base = base (getD w 2 0); first = v .at; end = v .at + v .held; used = v .used + 1 }
