@@ -1,7 +1,7 @@
--- The calls with a network: what they find first, a law for each return, and then the result, counted and written (`Result` of pool's proofs/Returns.antt says what becomes of it).
+-- The calls with a network: what `ask` finds, a law for each return, and then the result, counted and written (`Result` of pool's proofs/Returns.antt says what becomes of it).
 -- A change of lists is done on tries (`Works`), so one law serves add and remove. Assumes nothing.
 use mathlib.Core.Path.{_≡_, refl, sym, _∙_}
-use mathlib.Core.Bool.{true, false}
+use mathlib.Core.Bool.{true}
 use mathlib.Core.List.{List}
 use Prim.Native.Nat.{ℕ, _+_, _-_, _*_, _≤_, _<_}
 use native.Mathlib.Omega.{arith}
@@ -14,7 +14,7 @@ use Rattle.nets.specs.Refusals.{number, answered, firstNo}
 use Rattle.nets.specs.Networks.{isFamily, netBits, refusalOf, bitsLeft, startOf, noBits, prefixAs}
 use Rattle.nets.specs.declared.Net.{Net}
 use Rattle.nets.specs.declared.Refusal.{Refusal}
-use Rattle.nets.specs.declared.Refusal.the-variants.{Damaged, NoSet, WrongFamily}
+use Rattle.nets.specs.declared.Refusal.the-variants.{WrongFamily}
 use Rattle.nets.specs.declared.Prefix.{Prefix}
 use Rattle.nets.specs.declared.Prefix.the-variants as prefix
 use Rattle.nets.specs.declared.PrefixBits.{PrefixBits}
@@ -24,33 +24,27 @@ use Rattle.nets.proofs.Numbers.{bitsLeft-start, startOf-few}
 use Rattle.nets.proofs.Handing.{length-bitsLeft}
 use Rattle.nets.proofs.Answers.{number-some, prefix-bits, prefix-refused}
 use Rattle.nodes.specs.Segments.{Segment, Spliced}
+use Rattle.nodes.specs.declared.seats.Seat.{Seat}
 use Rattle.pool_state.specs.States.{State, roomOf}
-use Rattle.pool_state.specs.Decode.{base, sound, decode}
-use Rattle.pool_state.specs.Rules.{surveyOf}
+use Rattle.pool_state.specs.Decode.{decode}
+use Rattle.pool_state.specs.Rules.{seatOf}
 use Rattle.pool_state.specs.Changes.{listAt, netRules}
-use Rattle.pool_state.specs.Steps.{Surveyed}
+use Rattle.pool_state.specs.Steps.{Refuses, Surveyed}
 use Rattle.pool_state.specs.declared.Survey.{Survey}
 use Rattle.pool_state.proofs.Claims.{isState-family}
 use Rattle.pool_state.proofs.Decoded.{decode-header, decode-state}
-use Rattle.pool_state.proofs.Seen.{Seen, behind, refuses-damaged, refuses-noset, seen, seen-state, seen-header, seen-figures, trieAt, seen-list, seen-size, seen-segment}
+use Rattle.pool_state.proofs.Seen.{Seen, behind, seen, seen-state, seen-header, seen-figures, trieAt, seen-list, seen-size, seen-segment}
 use Rattle.pool_state.proofs.Changed.{withTrie, gap-asks}
 use Rattle.pool_state.proofs.Returns.{Result, change-seat, change-args, changed, netRules-own, netRules-other}
-use Rattle.change.specs.Steps.{Finds, Ready, Asks, seatOf}
+use Rattle.change.specs.Steps.{Ready, Asks}
 use Rattle.change.specs.declared.calling.Asked.the-variants.{Go, Refused}
-use Rattle.change.specs.declared.calling.Found.the-variants as found
-use Rattle.change.specs.declared.calling.Seat.{Seat}
 use Rattle.trie_insert.proofs.Insertion.{size-insert}
 use Rattle.trie_remove.proofs.Remains.{size-removeT}
 
--- What `find` finds.
-module _ {w : List ℕ} {k : ℕ} {v : Survey} (e : v ≡ surveyOf (decode w) k) where
-  pub find-damaged : v .sound ≡ false → Finds w k (found.Refused Damaged)
-  find-damaged q a f = changed (change-seat a f w k (refuses-damaged w k v e q))
+-- What `ask` finds.
+pub ask-refused : {w : List ℕ} {k : ℕ} (n : Net) (x : Refusal) → Refuses (decode w) k (number x) → Asks w k n (Refused x)
+ask-refused {w} {k} n x h f = changed (change-seat (netRules n) f w k h)
 
-  pub find-noset : v .sound ≡ true → getD w 2 0 ≤ k → Finds w k (found.Refused NoSet)
-  find-noset q le a f = changed (change-seat a f w k (refuses-noset w k v e q le))
-
--- What `ask_found` finds.
 module _ {w : List ℕ} {k : ℕ} {v : Survey} (n : Net) (h : Surveyed w k v) where
   ask-args : (x : Refusal) → ((S : State) → isFamily (S .family) ≡ true → getD w 1 0 ≡ S .family → firstNo (netRules n S) ≡ number x) → Asks w k n (Refused x)
   ask-args x g f =
@@ -96,10 +90,7 @@ module _ {w : List ℕ} {k : ℕ} {n : Net} {v : Survey} {s : PrefixBits} (h : R
   here : Seen w state k v
   here = seen (h .surveyed) .1
 
-  pub seat-long : 2 < length w
-  seat-long = omega (arith, seen-figures here .long)
-
-  pub seat-stands : {t : Seat} → t ≡ seatOf w v → Segment w (t .base) (t .first) (t .end) (t .used) trie (behind state k)
+  pub seat-stands : {t : Seat} → t ≡ seatOf w v → Segment w (t .base) (t .first) (t .end) (v .used + 1) trie (behind state k)
   seat-stands q = rw q (seen-segment here)
 
 -- what T makes of the trie in the seat t has m nodes
@@ -125,11 +116,11 @@ module _ {T : Bits → Trie → Trie} {L : List Bits → Bits → List Bits} {w 
   pub sees : Seen w S k v
   sees = here (h .ready)
 
-  pub result-stands : Segment w (t .base) (t .first) (t .end) (t .used) old (behind S k)
+  pub result-stands : Segment w (t .base) (t .first) (t .end) (v .used + 1) old (behind S k)
   result-stands = seat-stands (h .ready) (h .seat)
 
   counted : size new ≡ m
-  counted = sym (h .counts old (behind S k) (t .used) result-stands)
+  counted = sym (h .counts old (behind S k) (v .used + 1) result-stands)
 
   pub result : Result w S k v (netRules n) after new m
   result =
@@ -141,7 +132,7 @@ module _ {T : Bits → Trie → Trie} {L : List Bits → Bits → List Bits} {w 
       omega (arith, counted, h .works .few (bitsLeft s) old, length-bitsLeft s (h .ready .few), h .ready .few, seen-size sees, f .held, f .claimed, f .nodes)
 
   -- it is granted, and written
-  pub result-room : m ≤ roomOf S k → t .base + (t .used - 1) + size new ≤ length w + size old
+  pub result-room : m ≤ roomOf S k → t .base + (v .used + 1 - 1) + size new ≤ length w + size old
   result-room le = rw (h .seat) (omega (arith, gap-asks sees {u = w} le refl .room, counted, seen-size sees))
 
   pub result-wrote : {u : List ℕ} {y : ℕ} → Spliced w u (t .base) (t .first) y new (behind S k) → u ≡ withTrie w S k v new

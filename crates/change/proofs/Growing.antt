@@ -23,7 +23,7 @@ use Rattle.pool_state.proofs.Seen.{seen-header, seen-figures}
 use Rattle.change.specs.Calls.{listWith}
 use Rattle.change.specs.Steps.{Grows}
 use Rattle.change.specs.declared.adding.Grown.the-variants as grown
-use Rattle.change.specs.declared.calling.Seat.{Seat}
+use Rattle.nodes.specs.declared.seats.Seat.{Seat}
 use Rattle.change.proofs.Calls.{Counted, S, new, sees, result}
 use Rattle.change.proofs.Outcomes.{add-list}
 

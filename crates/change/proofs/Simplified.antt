@@ -1,7 +1,6 @@
 -- Simplifying a set: the steps of the call, a law for each return, and what the contract says of every buffer. The result has no more nodes than the set, so it is never refused, it is written
 -- where the set stands, and the sets behind it close up. Assumes nothing.
 use mathlib.Core.Path.{_≡_, refl, sym, ap, _∙_}
-use mathlib.Core.Bool.{true, false}
 use mathlib.Core.List.{List, [], _++_}
 use Prim.Native.Nat.{ℕ, suc, _+_, _-_, _≤_, _<_}
 use native.Mathlib.Omega.{arith}
@@ -10,7 +9,8 @@ use borrow.Author.Tests.{le-ltb}
 use Rattle.nets.specs.Lists.{nodesL, simplifyL}
 use Rattle.nets.specs.Tries.{Trie, size, simplifyT}
 use Rattle.nets.specs.Networks.{width}
-use Rattle.nets.specs.Refusals.{firstNo}
+use Rattle.nets.specs.Refusals.{number, firstNo}
+use Rattle.nets.specs.declared.Refusal.{Refusal}
 use Rattle.nets.proofs.Nodes.{nodesL-listOf}
 use Rattle.nets.proofs.TrieOf.{isList-within}
 use Rattle.nets.proofs.Simplifying.{isList-simplify}
@@ -25,9 +25,9 @@ use Rattle.trie_emit.proofs.Answers.{end-is, full-size, settled}
 use Rattle.trie_emit.proofs.Simplify.{size-simplify}
 use Rattle.pool_state.specs.States.{State, held, roomOf}
 use Rattle.pool_state.specs.Decode.{base, sound, decode}
-use Rattle.pool_state.specs.Rules.{answerOn, answerAs, surveyOf}
+use Rattle.pool_state.specs.Rules.{answerOn, answerAs}
 use Rattle.pool_state.specs.Changes.{setAt, listAt, withSet, changeRule, setWith, grantRules, relistRules, relistSet, relistNo}
-use Rattle.pool_state.specs.Steps.{behindAt, Gap, relinked, Relink}
+use Rattle.pool_state.specs.Steps.{Refuses, behindAt, Gap, relinked, Relink}
 use Rattle.pool_state.specs.declared.Answer.{Answer}
 use Rattle.pool_state.specs.declared.Survey.{Survey}
 use Rattle.pool_state.proofs.Determined.{changed-one}
@@ -37,7 +37,7 @@ use Rattle.pool_state.proofs.Claims.{isList-listAt, held-limit}
 use Rattle.pool_state.proofs.Holds.{set-size}
 use Rattle.pool_state.proofs.Decoded.{decode-state, decode-set}
 use Rattle.pool_state.proofs.Judged.{relistNo-known}
-use Rattle.pool_state.proofs.Seen.{Seen, behind, refuses-damaged, refuses-noset, seen-header, seen-figures, trieAt, seen-segment}
+use Rattle.pool_state.proofs.Seen.{Seen, behind, seen-header, seen-figures, trieAt, seen-segment}
 use Rattle.pool_state.proofs.Changed.{withTrie, behind-last, relink-asks, gap-asks}
 use Rattle.pool_state.proofs.Returns.{change-seat, change-granted, changed}
 use Rattle.change.specs.Simplified.{listSimple, noArgs, Simplifies, Shrunk}
@@ -90,35 +90,31 @@ module _ (w : List ℕ) (S : State) (k : ℕ) (d : decode w ≡ sound S) (lt : k
   relistNo-simplify = relistNo-known S k [] (simplifyL (listAt S k)) lt ∙ grant-simplify
 
 -- The returns of the call.
-module _ {w : List ℕ} {k : ℕ} {v : Survey} (e : v ≡ surveyOf (decode w) k) where
-  pub return-damaged : v .sound ≡ false → Simplifies w k (2, 0) w
-  return-damaged q = changed (change-seat noArgs (listSimple k) w k (refuses-damaged w k v e q))
+pub return-refused : {w : List ℕ} {k : ℕ} (x : Refusal) → Refuses (decode w) k (number x) → Simplifies w k (number x, 0) w
+return-refused {w} {k} x h = changed (change-seat noArgs (listSimple k) w k h)
 
-  pub return-noset : v .sound ≡ true → getD w 2 0 ≤ k → Simplifies w k (3, 0) w
-  return-noset q le = changed (change-seat noArgs (listSimple k) w k (refuses-noset w k v e q le))
-
-module _ {w : List ℕ} {S : State} {k : ℕ} {v : Survey} (h : Seen w S k v) where
-  pub seen-source : {fuel : ℕ} → fuel ≡ suc (width (getD w 1 0)) → Source w (base (getD w 2 0)) (v .at) (v .at + v .held) (v .at) fuel (trieAt S k)
+module _ {w : List ℕ} {S : State} {k : ℕ} {v : Survey} (h : Seen w S k v) {b : ℕ} (o : b ≡ base (getD w 2 0)) where
+  pub seen-source : {fuel : ℕ} → fuel ≡ suc (width (getD w 1 0)) → Source w b (v .at) (v .at + v .held) (v .at) fuel (trieAt S k)
   seen-source q =
       record {
         u = v .used + 1;
         rest = behind S k;
-        here = seen-segment h;
+        here = rw o (seen-segment h);
         one = seen-figures h .first;
         behind = omega arith;
         deep = rw (q, seen-header h .family) (decode-set w S (h .decoded) k (h .known) .trie .deep);
       }
 
-  module _ {u : List ℕ} {n : ℕ} (s : Shrunk w u (base (getD w 2 0)) (v .at) (trieAt S k) n) where
+  module _ {u : List ℕ} {n : ℕ} (s : Shrunk w u b (v .at) (trieAt S k) n) where
     fits : n ≤ roomOf S k
-    fits = omega (arith, in-room w S k (h .decoded) (h .known))
+    fits = omega (arith, in-room w S k (h .decoded) (h .known), s .nodes)
 
-    pub gap-closes : Gap u (base (getD w 2 0)) v n
-    gap-closes = gap-asks h fits (ap length (s .wrote) ∙ length-put w (place (base (getD w 2 0)) (v .at)) (enc (simpleAt S k)))
+    pub gap-closes : Gap u b v n
+    gap-closes = rw o (gap-asks h fits (ap length (s .wrote) ∙ length-put w (place b (v .at)) (enc (simpleAt S k))))
 
-    module _ {x : List ℕ} (e : x ≡ put u (place (base (getD w 2 0)) (v .at + n)) (behindAt u (base (getD w 2 0)) v)) where
+    module _ {x : List ℕ} (e : x ≡ put u (place b (v .at + n)) (behindAt u b v)) where
       closed : x ≡ withTrie w S k v (simpleAt S k)
-      closed = behind-last h (simpleAt S k) (omega (arith, fewer w S k (h .decoded) (h .known))) (s .wrote) (rw (s .nodes) at e)
+      closed = behind-last h (simpleAt S k) (omega (arith, fewer w S k (h .decoded) (h .known))) (rw o at (s .wrote)) (rw (s .nodes, o) at e)
 
       pub roots-move : Relink x k (v .held) n
       roots-move = relink-asks h (enc (simpleAt S k) ++ behind S k) fits closed

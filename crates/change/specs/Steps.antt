@@ -1,21 +1,18 @@
--- The steps that the calls with a network share: what they find, and where the trie of the set stands; and adding to a set that is found.
+-- The steps that the calls with a network share: what they find first, and adding to a set that is found.
 --
---   Finds w k x          x is what a pass over the sound pool found out for its set k, or the refusal of every call on set k
 --   Ready w k n v s      the call goes on: v is what a pass over the pool found, and s hands out the bits of n
 --   Asks w k n x         it goes on, or x is the refusal of every call with n on set k
---   seatOf w v           the place of the trie
 --   Grows w k n x u      the network n is added to set k of the words w, which leaves u, and x is what a pass over u finds; or x is the refusal, and u is w
 use mathlib.Core.Path.{_≡_}
 use mathlib.Core.List.{List}
-use Prim.Native.Nat.{ℕ, _+_, _≤_}
-use lib.ListN.{getD}
+use Prim.Native.Nat.{ℕ, _≤_}
 use Rattle.nets.specs.Bits.{Bits}
 use Rattle.nets.specs.Networks.{netBits, bitsLeft}
-use Rattle.nets.specs.Refusals.{Rule, number, firstNo}
+use Rattle.nets.specs.Refusals.{number, firstNo}
 use Rattle.nets.specs.declared.Net.{Net}
 use Rattle.nets.specs.declared.PrefixBits.{PrefixBits}
 use Rattle.pool_state.specs.States.{State}
-use Rattle.pool_state.specs.Decode.{base, sound, decode}
+use Rattle.pool_state.specs.Decode.{sound, decode}
 use Rattle.pool_state.specs.Changes.{Relisted, netRules}
 use Rattle.pool_state.specs.Steps.{Surveyed}
 use Rattle.pool_state.specs.declared.Survey.{Survey}
@@ -23,14 +20,7 @@ use Rattle.change.specs.declared.calling.Asked.{Asked}
 use Rattle.change.specs.declared.calling.Asked.the-variants.{Go, Refused}
 use Rattle.change.specs.declared.adding.Grown.{Grown}
 use Rattle.change.specs.declared.adding.Grown.the-variants as grown
-use Rattle.change.specs.declared.calling.Found.{Found}
-use Rattle.change.specs.declared.calling.Found.the-variants as found
-use Rattle.change.specs.declared.calling.Seat.{Seat}
 use Rattle.change.specs.Calls.{Added}
-
-abbrev pub Finds : List ℕ → ℕ → Found → Type 0
-Finds w k (found.Set v) = Surveyed w k v
-Finds w k (found.Refused x) = (a : State → List Rule) (f : State → List Bits) → Relisted w k a f (number x, 0) w
 
 pub record Ready (w : List ℕ) (k : ℕ) (n : Net) (v : Survey) (s : PrefixBits) : Type 0 where
   pub surveyed : Surveyed w k v
@@ -41,9 +31,6 @@ pub record Ready (w : List ℕ) (k : ℕ) (n : Net) (v : Survey) (s : PrefixBits
 abbrev pub Asks : List ℕ → ℕ → Net → Asked → Type 0
 Asks w k n (Go v s) = Ready w k n v s
 Asks w k n (Refused x) = (f : State → List Bits) → Relisted w k (netRules n) f (number x, 0) w
-
-abbrev pub seatOf : List ℕ → Survey → Seat
-seatOf w v = record { base = base (getD w 2 0); first = v .at; end = v .at + v .held; used = v .used + 1 }
 
 abbrev pub Grows : List ℕ → ℕ → Net → Grown → List ℕ → Type 0
 Grows w k n (grown.Grew v) u = Added w k n (0, v .held) u × Surveyed u k v

@@ -1,12 +1,12 @@
 // Adding to a set that a pass over the pool has found. It answers what a pass would find then, so one pass serves any number of networks.
 use crate::calling::Asked;
 use crate::calling::ask_found;
-use crate::calling::seat_of;
 use nets::Net;
 use nets::Refusal;
 use pool_change::judging::judge;
 use pool_change::relinking::granted;
 use pool_check::claim_at;
+use pool_check::seats::seat_in;
 use pool_state::Survey;
 use pool_state::Verdict;
 ghost use mathlib.Core.Path.{_≡_};
@@ -47,14 +47,15 @@ pub fn add_found(pool: &mut [u32], set: u32, found: Survey, net: Net) -> Grown
     match asked {
         Asked::Refused(no) => Grown::Refused(no),
         Asked::Go(v, s) => {
-            let at = seat_of(pool, v);
+            let at = seat_in(pool, v);
             let n = trie_insert::insert_size(pool, at.base, at.first, at.end, s) as u32;
             let verdict = judge(pool, set, v, n);
             match verdict {
                 Verdict::No(no) => Grown::Refused(no),
                 Verdict::Fits => {
                     let then = survey_with(pool, set, v, n);
-                    trie_insert::insert(pool, at.base, at.first, at.end, at.used, s);
+                    let used = v.used as usize + 1;
+                    trie_insert::insert(pool, at.base, at.first, at.end, used, s);
                     granted(pool, set, v, n);
                     Grown::Grew(then)
                 }

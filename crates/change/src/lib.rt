@@ -2,20 +2,16 @@
 use adding::Grown;
 use adding::add_found;
 use calling::Asked;
-use calling::Found;
 use calling::ask;
-use calling::find;
-use calling::seat_of;
 use nets::Net;
-use nets::Refusal;
 use pool_change::judging::judge;
 use pool_change::relinking::granted;
 use pool_change::relinking::shift_behind;
-use pool_check::HEAD;
-use pool_check::RECORD;
 use pool_check::most_levels;
-use pool_check::survey;
+use pool_check::seats::seat_in;
+use pool_check::seats::seat_of;
 use pool_state::Answer;
+use pool_state::Seated;
 use pool_state::Verdict;
 use shrinking::shrink;
 ghost use Rattle.pool_state.specs.Rules.{answerAs};
@@ -30,10 +26,10 @@ mod shrinking;
 pub fn add(pool: &mut [u32], set: u32, net: Net) -> Answer
     ensures { λ r. ⌜ Added (now (pool .entry)) set net (answerAs r) (now (pool .exit)) ⌝ }
 {
-    let f = find(pool, set);
-    match f {
-        Found::Refused(no) => Answer::Refused(no),
-        Found::Set(found) => {
+    let seated = seat_of(pool, set);
+    match seated {
+        Seated::Refused(no) => Answer::Refused(no),
+        Seated::At(found, _) => {
             let grown = add_found(pool, set, found, net);
             match grown {
                 Grown::Grew(then) => Answer::Granted(then.held),
@@ -51,13 +47,14 @@ pub fn remove(pool: &mut [u32], set: u32, net: Net) -> Answer
     match asked {
         Asked::Refused(no) => Answer::Refused(no),
         Asked::Go(found, s) => {
-            let at = seat_of(pool, found);
+            let at = seat_in(pool, found);
             let n = trie_remove::remove_size(pool, at.base, at.first, at.end, s) as u32;
             let verdict = judge(pool, set, found, n);
             match verdict {
                 Verdict::No(no) => Answer::Refused(no),
                 Verdict::Fits => {
-                    trie_remove::remove(pool, at.base, at.first, at.first, at.end, at.used, s);
+                    let used = found.used as usize + 1;
+                    trie_remove::remove(pool, at.base, at.first, at.first, at.end, used, s);
                     granted(pool, set, found, n)
                 }
             }
@@ -70,17 +67,14 @@ pub fn remove(pool: &mut [u32], set: u32, net: Net) -> Answer
 pub fn simplify(pool: &mut [u32], set: u32) -> Answer
     ensures { λ r. ⌜ Simplifies (now (pool .entry)) set (answerAs r) (now (pool .exit)) ⌝ }
 {
-    let found = survey(pool, set);
-    if !found.sound {
-        return Answer::Refused(Refusal::Damaged);
+    let seated = seat_of(pool, set);
+    match seated {
+        Seated::Refused(no) => Answer::Refused(no),
+        Seated::At(found, seat) => {
+            let levels = most_levels(seat.family as u32);
+            let nodes = shrink(pool, seat.base, found, levels);
+            shift_behind(pool, seat.base, found, nodes);
+            granted(pool, set, found, nodes)
+        }
     }
-    let sets = pool[2];
-    if sets <= set {
-        return Answer::Refused(Refusal::NoSet);
-    }
-    let b = HEAD + RECORD * (sets as usize);
-    let levels = most_levels(pool[1]);
-    let nodes = shrink(pool, b, found, levels);
-    shift_behind(pool, b, found, nodes);
-    granted(pool, set, found, nodes)
 }

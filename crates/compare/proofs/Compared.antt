@@ -18,13 +18,12 @@ use Rattle.nodes.proofs.Tries.{some}
 use Rattle.nodes.proofs.Unique.{unique}
 use Rattle.pool_state.specs.States.{State}
 use Rattle.pool_state.specs.Decode.{recordAt, base, rootAt, decode}
-use Rattle.pool_state.specs.Rules.{answerOn, unknown, startOf}
+use Rattle.pool_state.specs.Rules.{answerOn, unknown, startOf, seatOf}
 use Rattle.pool_state.specs.Changes.{listAt}
 use Rattle.pool_state.specs.Steps.{Refuses, Surveyed}
 use Rattle.pool_state.specs.declared.Survey.{Survey}
 use Rattle.pool_state.proofs.Answered.{owes-seat}
 use Rattle.pool_state.proofs.Decoded.{decode-header, decode-root}
-use Rattle.pool_state.proofs.Seats.{seatOf}
 use Rattle.pool_state.proofs.Seen.{Seen, trieAt, seen, seen-figures, own-has, own-length, seen-list, seen-size, seen-empty, seen-some}
 use Rattle.compare.specs.Rules.{sameList, equalRule, Agree}
 use Rattle.pool_state.proofs.Beside.{its, beside-seen, beside-root}

@@ -22,7 +22,7 @@ use Rattle.change.specs.Steps.{Grows}
 use Rattle.change.specs.declared.adding.Grown.{Grown}
 use Rattle.change.specs.declared.adding.Grown.the-variants as grown
 use Rattle.text.specs.Ipv4.{readLine}
-use Rattle.lines.specs.Lines.{lineNo, wordsWith}
+use Rattle.lines.specs.Lines.{addNo, addWords, lineNo, wordsWith}
 use Rattle.lines.specs.Steps.{Takes}
 
 -- A line that is no network.

@@ -1,8 +1,8 @@
 -- A law for each return of list and next, by the tests on the way to it. Assumes nothing.
 use mathlib.Core.Path.{_≡_, refl, sym, ap, _∙_}
-use mathlib.Core.Bool.{Bool, true, false}
+use mathlib.Core.Bool.{Bool, true}
 use mathlib.Core.List.{List}
-use Prim.Native.Nat.{ℕ, _+_, _*_, _≤_, _<_}
+use Prim.Native.Nat.{ℕ, _*_, _≤_, _<_}
 use native.Mathlib.Omega.{arith}
 use lib.ListN.{length}
 use borrow.Author.Tests.{lt-leb}
@@ -20,7 +20,7 @@ use Rattle.nets.proofs.Numbers.{bitsLeft-start, startOf-few}
 use Rattle.nets.proofs.Answers.{number-some, prefix-bits, prefix-refused}
 use Rattle.nodes.specs.Words.{put}
 use Rattle.pool_state.specs.States.{State}
-use Rattle.pool_state.specs.Decode.{Decoded, sound, decode}
+use Rattle.pool_state.specs.Decode.{Decoded, decode}
 use Rattle.pool_state.specs.Rules.{answerAs}
 use Rattle.pool_state.specs.Changes.{listAt}
 use Rattle.pool_state.specs.Steps.{Refuses}

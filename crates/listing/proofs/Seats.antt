@@ -7,13 +7,13 @@ use Rattle.nets.specs.Tries.{trieOf, listOf}
 use Rattle.nodes.specs.declared.seats.Seat.{Seat}
 use Rattle.pool_state.specs.States.{State}
 use Rattle.pool_state.specs.Decode.{sound, decode}
-use Rattle.pool_state.specs.Rules.{surveyOf, seatAt, seatedAs, seatedRule}
+use Rattle.pool_state.specs.Rules.{surveyOf, seatAt, seatOf, seatedAs, seatedRule}
 use Rattle.pool_state.specs.Changes.{listAt}
 use Rattle.pool_state.specs.declared.Seated.{Seated}
 use Rattle.pool_state.specs.declared.Seated.the-variants.{At}
 use Rattle.pool_state.specs.declared.Survey.{Survey}
 use Rattle.pool_state.proofs.Decoded.{decode-header, decode-set}
-use Rattle.pool_state.proofs.Seats.{seatOf, seat-is, seated-at}
+use Rattle.pool_state.proofs.Seats.{seat-is, seated-at}
 use Rattle.pool_state.proofs.Seen.{Seen, behind, survey-seen, seen, seen-header, seen-segment, seen-list}
 use Rattle.trie_paths.specs.Spans.{Holds}
 

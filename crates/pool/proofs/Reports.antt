@@ -10,7 +10,7 @@ use Rattle.nets.specs.Networks.{width}
 use Rattle.nodes.specs.Words.{zeros, place}
 use Rattle.pool_state.specs.States.{State}
 use Rattle.pool_state.specs.Decode.{decode}
-use Rattle.pool_state.specs.Rules.{answerOn, shareIn, limitIn, freeRule, heldRule, planRule, surveyOf}
+use Rattle.pool_state.specs.Rules.{answerOn, seatOf, shareIn, limitIn, freeRule, heldRule, planRule, surveyOf}
 use Rattle.pool_state.specs.Changes.{setAt}
 use Rattle.pool_state.specs.Steps.{Refuses}
 use Rattle.pool_state.specs.declared.Survey.{Survey}
@@ -20,7 +20,6 @@ use Rattle.nodes.proofs.Zeros.{zeros-enc}
 use Rattle.pool_state.proofs.Answered.{owes-seat}
 use Rattle.pool_state.proofs.Holds.{set-listOf}
 use Rattle.pool_state.proofs.Decoded.{decode-set, decode-share, decode-limit}
-use Rattle.pool_state.proofs.Seats.{seatOf}
 use Rattle.pool_state.proofs.Seen.{Seen, placeOf, trieAt, survey-damaged, seen-header, own-length, own-has}
 
 -- A damaged pool, or no such set.

@@ -2,7 +2,7 @@
 use mathlib.Core.Path.{_≡_, refl, sym, ap, _∙_}
 use mathlib.Core.Bool.{Bool, true, false}
 use mathlib.Core.List.{List, [], _∷_}
-use Prim.Native.Nat.{ℕ, _+_, _≤_, _<_}
+use Prim.Native.Nat.{ℕ, _≤_}
 use native.Mathlib.Omega.{arith}
 use lib.Dec.{leb}
 use lib.ListN.{length, getD}
@@ -15,7 +15,7 @@ use Rattle.nets.proofs.Refused.{firstNo-zero}
 use Rattle.nodes.specs.declared.seats.Seat.{Seat}
 use Rattle.pool_state.specs.States.{State, SetState}
 use Rattle.pool_state.specs.Decode.{Decoded, damaged, sound, base, decode}
-use Rattle.pool_state.specs.Rules.{answerOn, unknown, onSet, noSurvey, surveyOf, seatAt, noSeat, seatedAs, seatedRule}
+use Rattle.pool_state.specs.Rules.{answerOn, unknown, onSet, noSurvey, surveyOf, seatAt, seatOf, noSeat, seatedAs, seatedRule}
 use Rattle.pool_state.specs.Steps.{Refuses, Surveyed}
 use Rattle.pool_state.specs.declared.Seated.{Seated}
 use Rattle.pool_state.specs.declared.Seated.the-variants as seated
@@ -24,10 +24,6 @@ use Rattle.pool_state.proofs.Answered.{owes-granted, owes-seat, answerO
 use Rattle.pool_state.proofs.Decoded.{decode-header}
 use Rattle.pool_state.proofs.Header.{isHeader-header}
 use Rattle.pool_state.proofs.Seen.{Seen, seen, seen-header}
-
--- the seat of a surveyed set, by the words
-abbrev pub seatOf : List ℕ → Survey → Seat
-seatOf w v = record { family = getD w 1 0; base = base (getD w 2 0); first = v .at; end = v .at + v .held }
 
 -- no set, and so neither survey nor seat
 abbrev none : Survey × Seat
@@ -41,20 +37,23 @@ pub seat-refused : (w : List ℕ) (k : ℕ) {x : ℕ} → Refuses (decode w) k x
 unfolding seatedRule
 seat-refused w k h = owes-seat {A = Survey × Seat} (λ S. []) none _ w (λ S. w) (decode w) k h .0
 
-module _ {w : List ℕ} {S : State} {k : ℕ} {v : Survey} (h : Seen w S k v) where
+pub seat-is : {w : List ℕ} {S : State} {k : ℕ} {v : Survey} → Seen w S k v → seatOf w v ≡ seatAt S k
+seat-is h = rw (seen-header h .family, seen-header h .sets, h .at, h .held)
+
+seen-at : {w : List ℕ} {S : State} {k : ℕ} {v : Survey} → Seen w S k v → v ≡ surveyOf (decode w) k → (0, (v, seatOf w v)) ≡ seatedRule (decode w) k
+unfolding seatedRule
+seen-at {w} {S} {k} {v} h e =
+    let a = seat-is h in
+    let b : v ≡ surveyOf (sound S) k = rw (h .decoded) at e in
+    let p : _≡_ {A = Survey × Seat} (v, seatOf w v) (surveyOf (sound S) k, seatAt S k) = cc in
+    rw p (owes-granted {A = Survey × Seat} (known k) none _ w (λ T. w) (h .decoded) (rw (lt-leb (length (S .sets)) k (h .known))) .0)
+
+module _ {w : List ℕ} {k : ℕ} {v : Survey} (h : Surveyed w k v) where
   pub seat-family : getD w 1 0 ≤ 6
-  seat-family = family-few (getD w 1 0) (isHeader-header w (seen-header h .known) .family)
+  seat-family = family-few (getD w 1 0) (isHeader-header w (seen-header (seen h .1) .known) .family)
 
-  pub seat-is : seatOf w v ≡ seatAt S k
-  seat-is = rw (seen-header h .family, seen-header h .sets, h .at, h .held)
-
-  pub seat-at : v ≡ surveyOf (decode w) k → (0, (v, seatOf w v)) ≡ seatedRule (decode w) k
-  unfolding seatedRule
-  seat-at e =
-      let a = seat-is in
-      let b : v ≡ surveyOf (sound S) k = rw (h .decoded) at e in
-      let p : _≡_ {A = Survey × Seat} (v, seatOf w v) (surveyOf (sound S) k, seatAt S k) = cc in
-      rw p (owes-granted {A = Survey × Seat} (known k) none _ w (λ T. w) (h .decoded) (rw (lt-leb (length (S .sets)) k (h .known))) .0)
+  pub seat-at : (0, (v, seatOf w v)) ≡ seatedRule (decode w) k
+  seat-at = seen-at (seen h .1) (h .found)
 
 -- What an answer says: the refusal of every call on the set, or what a pass over the pool found for it, and its seat.
 pub record Seats (w : List ℕ) (k : ℕ) (v : Survey) (s : Seat) : Type 0 where
@@ -98,7 +97,7 @@ module _ (w : List ℕ) (k : ℕ) {r : Seated} (e : seatedAs r ≡ seatedRule (d
         }
 
     pub seated-at : Seats w k v s
-    seated-at = record { surveyed = surveyed; seat = ap (λ p. p .1 .1) (sym (ap seatedAs q) ∙ e ∙ sym (seat-at (seen surveyed .1) (surveyed .found))) }
+    seated-at = record { surveyed = surveyed; seat = ap (λ p. p .1 .1) (sym (ap seatedAs q) ∙ e ∙ sym (seat-at surveyed)) }
 
 -- One answer.
 pub seatedAs-one : (r s : Seated) → seatedAs r ≡ seatedAs s → r ≡ s

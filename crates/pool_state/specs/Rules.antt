@@ -7,7 +7,8 @@
 --   layoutNo, laid      the answer of layout, and the words that a granted one leaves; Laid: both, as its contract
 --   freeRule, heldRule, planRule      the free nodes; nodes and networks of a set; share and limit of a set
 --   surveyOf            what one pass over a pool finds out for the calls on set k
---   seatAt S k, seatedRule      the seat of its trie, behind the sets before it; that and the survey, or the refusal of every call on it
+--   seatAt S k, seatOf w v      the seat of its trie, behind the sets before it; by the words and what a pass found
+--   seatedRule          the survey and the seat of set k, or the refusal of every call on it
 use mathlib.Core.Bool.{Bool, true, false, cond, _&&_}
 use mathlib.Core.List.{List, [], _∷_}
 use mathlib.Core.Path.{_≡_}
@@ -162,6 +163,9 @@ seatAt S k =
       first = startOf k 1 (S .sets);
       end = startOf k 1 (S .sets) + held (getD (S .sets) k noSet);
     }
+
+abbrev pub seatOf : List ℕ → Survey → Seat
+seatOf w v = record { family = getD w 1 0; base = base (getD w 2 0); first = v .at; end = v .at + v .held }
 
 abbrev pub noSeat : Seat
 noSeat = record { family = 0; base = 0; first = 0; end = 0 }

@@ -1,5 +1,7 @@
 -- `add` meets its contract: the set is found, and then the network is added or refused. Assumes nothing.
 use borrow.Author.Needs.{needs}
+use Rattle.pool_state.proofs.Seats.{seated-refused, seated-at}
+use Rattle.pool_state.proofs.Returns.{change-seat, changed}
 use Rattle.change.proofs.add.Statement.{statement}
 use Rattle.change.proofs.add.Tie as tie
 
@@ -10,11 +12,11 @@ add-spec =
     (λ c κs. search needs)
     (λ c. search needs)
     (λ c. search needs)
-    (λ c κs. rw (c .before .before .f2 .given .1) at (c .before .before .before .before .find .ensures))
+    (λ c κs. seated-at _ _ (c .before .before .before .before .seat-of .ensures) _ _ (c .before .before .seated2 .given .1) .surveyed)
     (λ c. search needs)
     (λ c. search needs)
     (λ c. search needs)
-    (λ c. (rw (c .before .f .given .1) at (c .before .before .before .find .ensures)) _ _)
+    (λ c. changed (change-seat _ _ _ _ (seated-refused _ _ (c .before .before .before .seat-of .ensures) _ (c .before .seated .given .1))))
     (λ c. search needs)
     (λ c. (rw (c .before .grown .given .1) at (c .before .before .before .before .before .add-found .ensures)) .0)
     (λ c. search needs)

@@ -6,7 +6,7 @@ use Rattle.nets.specs.TrieOps.{removeT}
 use Rattle.pool_state.proofs.Returns.{result-refused, result-fits, result-relinks, result-granted}
 use Rattle.change.specs.Steps.{Ready}
 use Rattle.trie_remove.proofs.Splices.{left-root}
-use Rattle.change.proofs.Calls.{Counted, works-remove, seat-long, seat-stands, result, result-stands, result-few, result-room, result-wrote}
+use Rattle.change.proofs.Calls.{Counted, works-remove, seat-stands, result, result-stands, result-few, result-room, result-wrote}
 use Rattle.change.proofs.remove.Statement.{statement}
 use Rattle.change.proofs.remove.Tie as tie
 
@@ -14,8 +14,8 @@ ready : (c : tie.After-known-told2) → let a = c .before .before .before .befor
 ready c = rw (c .before .asked2 .given .1) at (c .before .before .before .ask .ensures)
 
 counted : (c : tie.After-remove-size) → let d = c .before .before in let g = d .before .before in let a = g .before .before .before .before .before .before .args in let x = g .before .asked2 .given .0 in
-    Counted removeT removeL (a .pool .now) (a .set) (a .net) (x .0) (x .1 .0) (d .seat-of .result) (c .remove-size .result)
-counted c = let d = c .before .before in record { works = works-remove; ready = ready (d .before .before); seat = d .seat-of .ensures; counts = c .remove-size .ensures }
+    Counted removeT removeL (a .pool .now) (a .set) (a .net) (x .0) (x .1 .0) (d .seat-in .result) (c .remove-size .result)
+counted c = let d = c .before .before in record { works = works-remove; ready = ready (d .before .before); seat = d .seat-in .ensures; counts = c .remove-size .ensures }
 
 pub remove-spec : {M : Type 1} → statement M
 remove-spec =
@@ -24,16 +24,18 @@ remove-spec =
     (λ c κs. search needs)
     (λ c. search needs)
     (λ c. search needs)
-    (λ c κs. seat-long (ready (c .before)))
-    (λ c κs. let h = ready (c .before .before .before) in (h .few, (_, _, _, seat-stands h (c .before .seat-of .ensures))))
+    (λ c κs. (_, ready (c .before) .surveyed))
+    (λ c κs. let h = ready (c .before .before .before) in (h .few, (_, _, _, seat-stands h (c .before .seat-in .ensures))))
     (λ c. omega (arith, result-few (counted c)))
     (λ c κs. ready (c .before .before .before .before .before) .surveyed)
     (λ c. search needs)
     (λ c. search needs)
-    (λ c κs. let j = c .before .before .before in let h = counted (j .before .before) in (h .ready .few, record { t = _; rest = _; here = result-stands h; one = result-stands h .one; above = omega arith; room = result-room h (result-fits (result h) (j .judge .ensures) (c .before .enum-told .given .1)) }))
+    (λ c. search needs)
+    (λ c. search needs)
+    (λ c κs. let e = c .before .before in let j = e .before .before in let h = counted (j .before .before) in (h .ready .few, record { t = _; rest = _; here = result-stands h; one = result-stands h .one; above = omega arith; room = result-room h (result-fits (result h) (j .judge .ensures) (e .enum-told .given .1)) }))
     (λ c κs.
     let i = c .before .before .before in
-    let e = i .before .before in
+    let e = i .before .before .before in
     let j = e .before .before in
     let h = counted (j .before .before) in
     result-relinks (result h) (j .judge .ensures) (e .enum-told .given .1) (result-wrote h (left-root _ (i .remove .ensures _ _ (result-stands h)))))
@@ -45,7 +47,7 @@ remove-spec =
     (λ c.
     let l = c .before .before in
     let i = l .before .before .before .before in
-    let e = i .before .before in
+    let e = i .before .before .before in
     let j = e .before .before in
     let h = counted (j .before .before) in
     result-granted (result h) (j .judge .ensures) (e .enum-told .given .1) (result-wrote h (left-root _ (i .remove .ensures _ _ (result-stands h)))) (l .granted .ensures .0) (l .granted .ensures .1)))

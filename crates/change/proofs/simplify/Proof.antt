@@ -1,21 +1,27 @@
 -- `simplify` meets its contract, each return by the tests and the steps on the way to it. Assumes nothing.
-use mathlib.Core.Bool.{true}
-use mathlib.Core.Path.{_≡_}
-use native.Mathlib.Omega.{arith}
-use borrow.Author.Needs.{needs}
-use borrow.Author.Tests.{not-true, not-false}
 use denote.Ref.{now}
-use Rattle.pool_state.specs.States.{State}
-use Rattle.pool_state.proofs.Seen.{Seen, survey-long, seen, seen-figures}
-use Rattle.change.proofs.Simplified.{return-damaged, return-noset, seen-source, gap-closes, roots-move, return-granted}
+use mathlib.Core.Path.{_≡_, ap, _∙_}
+use Prim.Native.Nat.{suc}
+use lib.ListN.{getD}
+use borrow.Author.Needs.{needs}
+use Rattle.nets.specs.Networks.{width}
+use Rattle.pool_state.proofs.Seats.{Seats, seats-family, seats-base, seated-refused, seated-at}
+use Rattle.pool_state.proofs.Seen.{seen}
+use Rattle.change.proofs.Simplified.{return-refused, seen-source, gap-closes, roots-move, return-granted}
 use Rattle.change.proofs.simplify.Statement.{statement}
 use Rattle.change.proofs.simplify.Tie as tie
 
-sound : (c : tie.Else1) → c .before .before .survey .result .sound ≡ true
-sound c = not-false _ (c .if1 .left)
+abbrev start : tie.After-seated2 → tie.Start
+start c = c .before .before .before .before .before
 
-here : (c : tie.Else2) → let s = c .before .before .before .before in let a = s .before .before .before .args in (S : State) × Seen (now (a .pool)) S (a .set) (s .survey .result)
-here c = let e = c .before .before in seen (record { found = e .before .before .survey .ensures; sound = sound e; known = c .if2 .left })
+seats : (c : tie.After-seated2) → let a = start c .args in Seats (now (a .pool)) (a .set) (c .seated2 .given .0 .0) (c .seated2 .given .0 .1 .0)
+seats c = seated-at _ _ (c .before .before .seat-of .ensures) _ _ (c .seated2 .given .1)
+
+abbrev seated : tie.After-most-levels → tie.After-seated2
+seated c = c .before .before .before
+
+levels : (c : tie.After-most-levels) → c .most-levels .result ≡ suc (width (getD (now (start (seated c) .args .pool)) 1 0))
+levels c = c .most-levels .ensures ∙ ap (λ f. suc (width f)) (seats-family (seats (seated c)))
 
 pub simplify-spec : {M : Type 1} → statement M
 simplify-spec =
@@ -23,32 +29,31 @@ simplify-spec =
     (tie.spec
     (λ c κs. search needs)
     (λ c. search needs)
-    (λ c. return-damaged (c .before .before .survey .ensures) (not-true _ (c .if1 .taken)))
-    (λ c. let e = c .before in omega (arith, survey-long _ _ _ (e .before .before .survey .ensures) (sound e)))
     (λ c. search needs)
-    (λ c. let e = c .before .before in return-noset (e .before .before .survey .ensures) (sound e) (c .if2 .taken))
-    (λ c. omega (arith, seen-figures (here c .1) .sets))
-    (λ c. omega (arith, seen-figures (here c .1) .sets))
-    (λ c. omega (arith, seen-figures (here c .1) .sets))
-    (λ c. omega (arith, seen-figures (here (c .before) .1) .long))
+    (λ c. search needs)
     (λ c κs. search needs)
-    (λ c κs. let m = c .before in (_, seen-source (here (m .before .before) .1) (m .most-levels .ensures)))
+    (λ c κs. let m = c .before in let h = seats (seated m) in (_, seen-source (seen (h .surveyed) .1) (seats-base h) (levels m)))
     (λ c κs.
     let s = c .before .before .before in
     let m = s .before .before in
-    let h = here (m .before .before) .1 in
-    gap-closes h (s .shrink .ensures _ (seen-source h (m .most-levels .ensures))))
+    let h = seats (seated m) in
+    let g = seen (h .surveyed) .1 in
+    gap-closes g (seats-base h) (s .shrink .ensures _ (seen-source g (seats-base h) (levels m))))
     (λ c κs.
     let f = c .before .before .before in
     let s = f .before .before .before .before in
     let m = s .before .before in
-    let h = here (m .before .before) .1 in
-    roots-move h (s .shrink .ensures _ (seen-source h (m .most-levels .ensures))) (f .shift-behind .ensures))
+    let h = seats (seated m) in
+    let g = seen (h .surveyed) .1 in
+    roots-move g (seats-base h) (s .shrink .ensures _ (seen-source g (seats-base h) (levels m))) (f .shift-behind .ensures))
+    (λ c. search needs)
+    (λ c. return-refused (c .before .seated .given .0 .0) (seated-refused _ _ (c .before .before .before .seat-of .ensures) _ (c .before .seated .given .1)))
     (λ c. search needs)
     (λ c.
     let r = c .before .before in
     let f = r .before .before .before .before in
     let s = f .before .before .before .before in
     let m = s .before .before in
-    let h = here (m .before .before) .1 in
-    return-granted h (s .shrink .ensures _ (seen-source h (m .most-levels .ensures))) (f .shift-behind .ensures) (r .granted .ensures)))
+    let h = seats (seated m) in
+    let g = seen (h .surveyed) .1 in
+    return-granted g (seats-base h) (s .shrink .ensures _ (seen-source g (seats-base h) (levels m))) (f .shift-behind .ensures) (r .granted .ensures)))

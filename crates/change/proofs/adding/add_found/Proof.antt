@@ -6,7 +6,7 @@ use Rattle.nets.specs.Lists.{addL}
 use Rattle.nets.specs.Tries.{insertT}
 use Rattle.pool_state.proofs.Returns.{result-fits, result-relinks}
 use Rattle.change.specs.Steps.{Ready}
-use Rattle.change.proofs.Calls.{Counted, works-insert, seat-long, seat-stands, result, result-stands, result-few, result-room, result-wrote}
+use Rattle.change.proofs.Calls.{Counted, works-insert, seat-stands, result, result-stands, result-few, result-room, result-wrote}
 use Rattle.change.proofs.Growing.{grow-refused, grow-few, grow-granted}
 use Rattle.change.proofs.adding.add_found.Statement.{statement}
 use Rattle.change.proofs.adding.add_found.Tie as tie
@@ -15,8 +15,8 @@ ready : (c : tie.After-known-told2) → let a = c .before .before .before .befor
 ready c = rw (c .before .asked2 .given .1) at (c .before .before .before .ask-found .ensures)
 
 counted : (c : tie.After-insert-size) → let d = c .before .before in let g = d .before .before in let a = g .before .before .before .before .before .before .args in let x = g .before .asked2 .given .0 in
-    Counted insertT addL (a .pool .now) (a .set) (a .net) (x .0) (x .1 .0) (d .seat-of .result) (c .insert-size .result)
-counted c = let d = c .before .before in record { works = works-insert; ready = ready (d .before .before); seat = d .seat-of .ensures; counts = c .insert-size .ensures }
+    Counted insertT addL (a .pool .now) (a .set) (a .net) (x .0) (x .1 .0) (d .seat-in .result) (c .insert-size .result)
+counted c = let d = c .before .before in record { works = works-insert; ready = ready (d .before .before); seat = d .seat-in .ensures; counts = c .insert-size .ensures }
 
 pub add-found-spec : {M : Type 1} → statement M
 add-found-spec =
@@ -25,21 +25,23 @@ add-found-spec =
     (λ c κs. c .before .before .pre)
     (λ c. search needs)
     (λ c. search needs)
-    (λ c κs. seat-long (ready (c .before)))
-    (λ c κs. let h = ready (c .before .before .before) in (h .few, record { t = _; rest = _; u = _; stands = seat-stands h (c .before .seat-of .ensures) }))
+    (λ c κs. (_, ready (c .before) .surveyed))
+    (λ c κs. let h = ready (c .before .before .before) in (h .few, record { t = _; rest = _; u = _; stands = seat-stands h (c .before .seat-in .ensures) }))
     (λ c. omega (arith, result-few (counted c)))
     (λ c κs. ready (c .before .before .before .before .before) .surveyed)
     (λ c. search needs)
     (λ c. search needs)
     (λ c κs. let j = c .before .before .before in let h = counted (j .before .before) in (h .ready .surveyed, grow-few h (j .judge .ensures) (c .before .enum-told .given .1)))
+    (λ c. search needs)
+    (λ c. search needs)
     (λ c κs.
-    let e = c .before .before .before in
+    let e = c .before .before .before .before in
     let j = e .before .before in
     let h = counted (j .before .before) in
     (h .ready .few, record { t = _; rest = _; stands = result-stands h; room = result-room h (result-fits (result h) (j .judge .ensures) (e .enum-told .given .1)) }))
     (λ c κs.
     let i = c .before .before .before in
-    let e = i .before .before .before .before in
+    let e = i .before .before .before .before .before in
     let j = e .before .before in
     let h = counted (j .before .before) in
     result-relinks (result h) (j .judge .ensures) (e .enum-told .given .1) (result-wrote h (i .insert .ensures _ _ (result-stands h))))
@@ -51,7 +53,7 @@ add-found-spec =
     (λ c.
     let l = c .before .before in
     let i = l .before .before .before .before in
-    let f = i .before .before in
+    let f = i .before .before .before in
     let e = f .before .before in
     let j = e .before .before in
     let h = counted (j .before .before) in

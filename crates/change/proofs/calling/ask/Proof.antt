@@ -1,6 +1,7 @@
--- `calling::ask` meets its contract: the set is found, or what is refused is every call on it. Assumes nothing.
+-- `calling::ask` meets its contract: the set has a seat, or what is refused is every call on it. Assumes nothing.
 use borrow.Author.Needs.{needs}
-use Rattle.pool_state.specs.Changes.{netRules}
+use Rattle.pool_state.proofs.Seats.{seated-refused, seated-at}
+use Rattle.change.proofs.Calls.{ask-refused}
 use Rattle.change.proofs.calling.ask.Statement.{statement}
 use Rattle.change.proofs.calling.ask.Tie as tie
 
@@ -10,7 +11,7 @@ ask-spec =
     (tie.spec
     (λ c κs. search needs)
     (λ c. search needs)
-    (λ c κs. rw (c .before .f .given .1) at (c .before .before .before .find .ensures))
     (λ c. search needs)
-    (λ c. search needs)
-    (λ c f. (rw (c .before .f2 .given .1) at (c .before .before .before .find .ensures)) _ f))
+    (λ c κs. seated-at _ _ (c .before .before .before .seat-of .ensures) _ _ (c .before .seated2 .given .1) .surveyed)
+    (λ c. ask-refused _ (c .before .seated .given .0 .0) (seated-refused _ _ (c .before .before .before .seat-of .ensures) _ (c .before .seated .given .1)))
+    (λ c. search needs))

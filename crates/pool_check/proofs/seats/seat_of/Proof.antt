@@ -3,14 +3,14 @@ use denote.Ref.{now}
 use native.Mathlib.Omega.{arith}
 use borrow.Author.Needs.{needs}
 use borrow.Author.Tests.{not-true, not-false}
-use Rattle.pool_state.specs.States.{State}
-use Rattle.pool_state.proofs.Seats.{seat-refused, seat-family, seat-at}
-use Rattle.pool_state.proofs.Seen.{Seen, survey-long, refuses-damaged, refuses-noset, seen, seen-figures}
+use Rattle.pool_state.specs.Steps.{Surveyed}
+use Rattle.pool_state.proofs.Seats.{seat-refused, seat-at}
+use Rattle.pool_state.proofs.Seen.{survey-long, refuses-damaged, refuses-noset}
 use Rattle.pool_check.proofs.seats.seat_of.Statement.{statement}
 use Rattle.pool_check.proofs.seats.seat_of.Tie as tie
 
-here : (c : tie.Else2) → let s = c .before .before .before .before in let a = s .before .before .args in (S : State) × Seen (now (a .pool)) S (a .set) (s .survey .result)
-here c = let e = c .before .before in seen (record { found = e .before .before .survey .ensures; sound = not-false _ (e .if1 .left); known = c .if2 .left })
+here : (c : tie.Else2) → let s = c .before .before .before .before in let a = s .before .before .args in Surveyed (now (a .pool)) (a .set) (s .survey .result)
+here c = let e = c .before .before in record { found = e .before .before .survey .ensures; sound = not-false _ (e .if1 .left); known = c .if2 .left }
 
 pub seat-of-spec : {M : Type 1} → statement M
 seat-of-spec =
@@ -20,12 +20,5 @@ seat-of-spec =
     (λ c. seat-refused _ _ (refuses-damaged _ _ _ (c .before .before .survey .ensures) (not-true _ (c .if1 .taken))))
     (λ c. let e = c .before in omega (arith, survey-long _ _ _ (e .before .before .survey .ensures) (not-false _ (e .if1 .left))))
     (λ c. let e = c .before .before in seat-refused _ _ (refuses-noset _ _ _ (e .before .before .survey .ensures) (not-false _ (e .if1 .left)) (c .if2 .taken)))
-    (λ c. search needs)
-    (λ c. omega (arith, seen-figures (here (c .before .before) .1) .long))
-    (λ c. omega (arith, seat-family (here (c .before .before) .1)))
-    (λ c. omega (arith, seen-figures (here (c .before .before) .1) .sets))
-    (λ c. omega (arith, seen-figures (here (c .before .before) .1) .sets))
-    (λ c. omega (arith, seen-figures (here (c .before .before) .1) .sets))
-    (λ c. search needs)
-    (λ c. search needs)
-    (λ c. let h = here (c .before .before .before) in seat-at (h .1) (c .before .before .before .before .before .before .before .survey .ensures)))
+    (λ c κs. (_, here c))
+    (λ c. rw (c .seat-in .ensures) (seat-at (here (c .before)))))
