@@ -1,8 +1,8 @@
 // Lines of IPv4 networks, added to set 0 of a pool. The input comes in pieces of any length: start, then feed with each piece, then finish.
 use change::adding::Grown;
 use change::adding::add_found;
+use nets::Entered;
 use nets::Refusal;
-use nets::Taken;
 use pool_check::survey;
 use pool_state::Survey;
 ghost use mathlib.Core.Path.{_≡_};
@@ -73,11 +73,11 @@ fn take(pool: &mut [u32], found: Survey, line: &[u8]) -> Took
 {
     let taken = text::read_line(line);
     match taken {
-        Taken::Refused(no) => Took {
+        Entered::Refused(no) => Took {
             no: no.number(),
             found,
         },
-        Taken::Network(net) => {
+        Entered::Network(net, _) => {
             let grown = add_found(pool, 0, found, net);
             match grown {
                 Grown::Refused(no) => Took {
