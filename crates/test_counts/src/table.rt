@@ -4,8 +4,9 @@
 //     add 0 10.0.0.0/8 = 9
 //     load 0 "00000006 00000000 00000010 00000011" = refused 5 kept
 //
-// A row is a call, what it takes, and behind the sign = what it must answer; without that sign it is no case. Its words are names, decimal numbers, and addresses of networks
-// with four numbers or with eight groups in hexadecimal; a text in quotes is left to the program. All other bytes only stand between words.
+// A row is a call, what it takes, and behind the sign = what it must answer; without that sign it is no case. Its words are names, of which the first
+// letter counts, decimal numbers, and addresses, as four numbers or as eight groups in hexadecimal; a text in quotes is left to the program. All other
+// bytes only stand between words.
 use std::num::wrapping_add_u64;
 
 // What a word is: a number, a name, of which the first letter counts, or with the number of its family an address.
@@ -19,8 +20,8 @@ pub struct Word {
     pub lo: u64,
 }
 
-// The word that is being read: how many words come before the one that is wanted, and whether that one has ended; what is known of it, and its last group of digits read
-// both ways.
+// The word that is being read: how many words come before the one that is wanted, and whether that one has ended; what is known of it, and its last
+// group of digits read both ways.
 struct Part {
     before: usize,
     ended: bool,
@@ -170,7 +171,8 @@ pub fn word_at(row: &[u8], place: usize) -> Word {
     finished(p)
 }
 
-// Where a row stands: its first byte, its sign = or else its end, and its end; the byte that ends the text or the comment that is being read, and whether the row is whole.
+// Where a row stands: its first byte, its sign = or else its end, and its end; the byte that ends the text or the comment that is being read, and
+// whether the row is whole.
 pub struct Place {
     pub start: usize,
     pub sign: usize,

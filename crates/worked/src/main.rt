@@ -1,5 +1,5 @@
-// Runs the scope document's worked networks that are not proved as a table through the public calls, with cases at full pools, at the ends of the address words and at
-// refusals: the rows of its input, each against what it must answer.
+// Runs the scope document's worked networks that are not proved as a table through the public calls, with cases at full pools, at the ends of the
+// address words and at refusals: the rows of its input, each against what it must answer.
 use pool_state::Told;
 use test_counts::Tally;
 use test_counts::calls;
