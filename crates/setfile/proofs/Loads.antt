@@ -29,7 +29,7 @@ use Rattle.setfile_order.specs.declared.Checked.{Checked}
 use Rattle.setfile_order.specs.declared.Checked.the-variants as checked
 use Rattle.setfile.specs.Loading.{loadRules, fileList}
 use Rattle.setfile.specs.LoadSteps.{Ready, Asks, Writable, written}
-use Rattle.setfile.specs.declared.loading.Asked.the-variants.{Go, Refused}
+use Rattle.setfile.specs.declared.loading.Loadable.the-variants as loadable
 use Rattle.setfile_build.proofs.Filling.{file-listOf, file-size}
 
 never : {A : Type 0} → _≡_ {A = ℕ} 0 1 → A
@@ -65,28 +65,28 @@ module _ (x : File) (k : ℕ) (S : State) where
       loadRules-right n = rw (e, eq-eqb f (S .family) own, n)
 
 -- What `ask` finds.
-pub ask-refused : {w : List ℕ} {k : ℕ} (d : List ℕ) (x : Refusal) → Refuses (decode w) k (number x) → Asks w k d (Refused x)
+pub ask-refused : {w : List ℕ} {k : ℕ} (d : List ℕ) (x : Refusal) → Refuses (decode w) k (number x) → Asks w k d (loadable.Refused x)
 ask-refused {w} {k} d x h = changed (change-seat (loadRules (readFile d) k) (λ S. fileList (readFile d)) w k h)
 
 module _ {w : List ℕ} {k : ℕ} {v : Survey} {s : Seat} (d : List ℕ) (h : Seats w k v s) {r : Checked} (c : r ≡ checkedOf (readFile d)) where
-  ask-args : (x : Refusal) → ((S : State) → Seen w S k v → s .family ≡ S .family → firstNo (loadRules (readFile d) k S) ≡ number x) → Asks w k d (Refused x)
+  ask-args : (x : Refusal) → ((S : State) → Seen w S k v → s .family ≡ S .family → firstNo (loadRules (readFile d) k S) ≡ number x) → Asks w k d (loadable.Refused x)
   ask-args x q =
       let (S, g) = seen (h .surveyed) in
       changed (change-args (loadRules (readFile d) k) (λ S. fileList (readFile d)) g (q S g (seats-family h ∙ decode-header w S (g .decoded) .family)) (number-some x))
 
-  pub ask-broken : r ≡ checked.Broken → Asks w k d (Refused BadFile)
+  pub ask-broken : r ≡ checked.Broken → Asks w k d (loadable.Refused BadFile)
   ask-broken i = ask-args BadFile (λ S g o. loadRules-broken (readFile d) k S (checked-broken (readFile d) (sym c ∙ i)))
 
   module _ {f n : ℕ} (i : r ≡ checked.File f n) where
-    pub ask-family : (f ≡ s .family → ⊥) → Asks w k d (Refused WrongFamily)
+    pub ask-family : (f ≡ s .family → ⊥) → Asks w k d (loadable.Refused WrongFamily)
     ask-family ne = let its = checked-file (readFile d) f n (sym c ∙ i) in ask-args WrongFamily (λ S g o. loadRules-other (readFile d) k S f (its .0) (its .1) (λ z. ne (z ∙ sym o)))
 
     module _ (own : f ≡ s .family) where
-      pub ask-occupied : (v .held ≡ 0 → ⊥) → Asks w k d (Refused Occupied)
+      pub ask-occupied : (v .held ≡ 0 → ⊥) → Asks w k d (loadable.Refused Occupied)
       ask-occupied ne = let its = checked-file (readFile d) f n (sym c ∙ i) in ask-args Occupied (λ S g o. loadRules-occupied (readFile d) k S f (its .0) (its .1) (own ∙ o) (seen-some g ne))
 
-      pub ask-go : v .held ≡ 0 → Asks w k d (Go v f n)
-      ask-go z =
+      pub ask-file : v .held ≡ 0 → Asks w k d (loadable.File v f n)
+      ask-file z =
           let (l, reads, nodes) = checked-file (readFile d) f n (sym c ∙ i) in
           record { surveyed = h .surveyed; empty = z; list = l; reads = reads; family = own ∙ seats-family h; nodes = nodes }
 

@@ -17,8 +17,8 @@ use Rattle.pool_state.specs.Steps.{Surveyed, behindAt, Gap}
 use Rattle.pool_state.specs.declared.Survey.{Survey}
 use Rattle.setfile_format.specs.Files.{file, readFile}
 use Rattle.setfile.specs.Loading.{Loaded}
-use Rattle.setfile.specs.declared.loading.Asked.{Asked}
-use Rattle.setfile.specs.declared.loading.Asked.the-variants.{Go, Refused}
+use Rattle.setfile.specs.declared.loading.Loadable.{Loadable}
+use Rattle.setfile.specs.declared.loading.Loadable.the-variants as loadable
 
 pub record Ready (w : List ℕ) (k : ℕ) (d : List ℕ) (v : Survey) (f n : ℕ) : Type 0 where
   pub surveyed : Surveyed w k v
@@ -28,9 +28,9 @@ pub record Ready (w : List ℕ) (k : ℕ) (d : List ℕ) (v : Survey) (f n : ℕ
   pub family : f ≡ getD w 1 0
   pub nodes : n ≡ nodesL list
 
-abbrev pub Asks : List ℕ → ℕ → List ℕ → Asked → Type 0
-Asks w k d (Go v f n) = Ready w k d v f n
-Asks w k d (Refused x) = Loaded w k d (number x, 0) w
+abbrev pub Asks : List ℕ → ℕ → List ℕ → Loadable → Type 0
+Asks w k d (loadable.File v f n) = Ready w k d v f n
+Asks w k d (loadable.Refused x) = Loaded w k d (number x, 0) w
 
 -- the bytes are the file of the list l, whose trie has n nodes, and there is a gap to open for it
 pub record Writable (w : List ℕ) (v : Survey) (d : List ℕ) (f n : ℕ) (l : List Bits) : Type 0 where

@@ -1,5 +1,5 @@
 // Set files: a set into bytes, and bytes into a set. Each call checks the pool in one pass.
-use loading::Asked;
+use loading::Loadable;
 use loading::ask;
 use loading::write;
 use nets::Refusal;
@@ -45,8 +45,8 @@ pub fn load(pool: &mut [u32], set: u32, bytes: &[u8]) -> Answer
 {
     let asked = ask(pool, set, bytes);
     match asked {
-        Asked::Refused(no) => Answer::Refused(no),
-        Asked::Go(v, family, n) => {
+        Loadable::Refused(no) => Answer::Refused(no),
+        Loadable::File(v, family, n) => {
             let verdict = judge(pool, set, v, n);
             match verdict {
                 Verdict::No(no) => Answer::Refused(no),

@@ -14,31 +14,31 @@ ghost use mathlib.Core.List.{List};
 ghost use Rattle.nets.specs.Bits.{Bits};
 ghost use Rattle.setfile.specs.LoadSteps.{Asks, Writable, written};
 
-// What a load goes on with: what a pass over the pool found for its set, the family of the file and the nodes of its list. Or its refusal.
-pub enum Asked {
-    Go(Survey, u8, u32),
+// A file that can be loaded: what a pass over the pool found for its set, the family of the file and the nodes of its list. Or the refusal.
+pub enum Loadable {
+    File(Survey, u8, u32),
     Refused(Refusal),
 }
 
 // The pool is sound, the set is there, the file keeps its rules and is of the pool's family, and the set is empty.
-pub fn ask(pool: &[u32], set: u32, bytes: &[u8]) -> Asked
+pub fn ask(pool: &[u32], set: u32, bytes: &[u8]) -> Loadable
     ensures { λ r. ⌜ Asks (now (pool .entry)) set (now (bytes .entry)) r ⌝ }
 {
     let seated = seat_of(pool, set);
     match seated {
-        Seated::Refused(no) => Asked::Refused(no),
+        Seated::Refused(no) => Loadable::Refused(no),
         Seated::At(found, seat) => {
             let checked = check(bytes);
             match checked {
-                Checked::Broken => Asked::Refused(Refusal::BadFile),
+                Checked::Broken => Loadable::Refused(Refusal::BadFile),
                 Checked::File(family, nodes) => {
                     if family != seat.family {
-                        return Asked::Refused(Refusal::WrongFamily);
+                        return Loadable::Refused(Refusal::WrongFamily);
                     }
                     if found.held != 0 {
-                        return Asked::Refused(Refusal::Occupied);
+                        return Loadable::Refused(Refusal::Occupied);
                     }
-                    Asked::Go(found, family, nodes)
+                    Loadable::File(found, family, nodes)
                 }
             }
         }

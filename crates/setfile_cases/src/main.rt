@@ -1,47 +1,57 @@
-// Runs set files made by hand from the scope document through save and load, and counts those that come out otherwise.
+// Runs set files made by hand from the scope document through save and load: the rows of its input, each against what it must answer.
 use test_counts::Tally;
+use test_counts::table;
+use test_counts::table::Place;
 
-mod broken;
-mod expect;
-mod loaded;
-mod made;
-mod saved;
-mod unloaded;
-mod unsaved;
+mod files;
+mod rows;
 
-fn saving(t: Tally) -> Tally {
-    let mut t = saved::v4(t);
-    t = saved::v6(t);
-    t = unsaved::refused(t);
-    unsaved::damaged(t)
+// A row, as a whole and in its two parts.
+fn row(t: Tally, pool: &mut [u32; rows::WORDS], whole: &[u8], row: &[u8], must: &[u8]) -> Tally {
+    let mut bytes = [0u8; files::ROOM];
+    let n = files::quoted(whole, &mut bytes);
+    rows::run(t, pool, row, must, &bytes, n)
 }
 
-fn loading(t: Tally) -> Tally {
-    let mut t = loaded::whole_v4(t);
-    t = loaded::whole_v6(t);
-    t = loaded::cut(t);
-    t = unloaded::before(t);
-    t = unloaded::behind(t);
-    unloaded::fitting(t)
+// The row, where it is whole. The places are in order: the tests say so to the proof.
+fn at_end(t: Tally, pool: &mut [u32; rows::WORDS], text: &[u8], p: Place) -> Tally {
+    let start = p.start;
+    let sign = p.sign;
+    let end = p.end;
+    if !p.whole {
+        return t;
+    }
+    if sign < start {
+        return t;
+    }
+    if end < sign {
+        return t;
+    }
+    if text.len() < end {
+        return t;
+    }
+    row(
+        t,
+        pool,
+        &text[start..end],
+        &text[start..sign],
+        &text[sign..end],
+    )
 }
 
-// Each rule of a file broken.
-fn breaking(t: Tally) -> Tally {
-    let mut t = broken::family(t);
-    t = broken::counts(t);
-    t = broken::offset(t);
-    t = broken::sizes(t);
-    t = broken::little(t);
-    t = broken::lengths(t);
-    t = broken::bits_v4(t);
-    t = broken::bits_v6(t);
-    t = broken::order(t);
-    broken::inside(t)
+fn run(text: &[u8]) -> Tally {
+    let mut pool = [0u32; rows::WORDS];
+    let mut t = test_counts::none();
+    let mut p = table::begin();
+    for at in 0..text.len() {
+        p = table::next(p, text[at], at);
+        t = at_end(t, &mut pool, text, p);
+    }
+    t
 }
 
 fn main() {
-    let mut t = saving(test_counts::none());
-    t = loading(t);
-    t = breaking(t);
-    test_counts::say(t);
+    let mut text = io::large_buffer();
+    let n = io::read_full(0, &mut text);
+    test_counts::say(run(&text[..n]));
 }

@@ -3,6 +3,9 @@ ghost use mathlib.Core.Bool.{true, cond};
 ghost use mathlib.Core.Path.{_≡_};
 ghost use Prim.Native.Nat.{_+_, _%_, _^_};
 
+pub mod calls;
+pub mod table;
+
 pub struct Tally {
     pub cases: u32,
     pub wrong: u32,

@@ -1,20 +1,122 @@
-// Goes through whole sets, place by place, to the end and on a page, and counts the networks that are not those of the lists made by hand.
-mod cases;
-mod expect;
-mod pages;
+// Goes through whole sets, place by place, to the end and on a page, against lists made by hand: the rows of its input, each against what it must answer.
+use listing::Follower;
+use netrows::Page;
+use netrows::page_of;
+use nets::Net;
+use test_counts::Tally;
+use test_counts::calls;
+use test_counts::calls::Got;
+use test_counts::calls::taken;
+use test_counts::table;
+use test_counts::table::Place;
+use test_counts::table::Word;
+
+// The words of the largest pool here: two sets, 300 nodes.
+const WORDS: usize = 2480;
+
+fn network(n: Net) -> Got {
+    let first = Word {
+        form: n.family,
+        hi: n.hi,
+        lo: n.lo,
+    };
+    let second = table::number(n.len as u64);
+    Got { first, second }
+}
+
+fn end() -> Got {
+    let first = calls::named(b'e');
+    let second = table::number(0);
+    Got { first, second }
+}
+
+fn follower(f: Follower) -> Got {
+    match f {
+        Follower::Network(n) => network(n),
+        Follower::End => end(),
+        Follower::Refused(no) => calls::refusal(no),
+    }
+}
+
+fn answer_of(p: Page) -> Got {
+    let a = p.answer;
+    calls::answer(a)
+}
+
+fn entry(p: Page, i: usize) -> Got {
+    if i < 16 {
+        let m = p.nets[i];
+        return network(m);
+    }
+    calls::numbers(0, 0)
+}
+
+fn is_zero(n: Net) -> bool {
+    n.family == 0 && n.hi == 0 && n.lo == 0 && n.len == 0
+}
+
+// Whether from this entry on a page holds zeros.
+fn zeros(p: Page, from: usize) -> Got {
+    let mut right = true;
+    for i in from..16 {
+        let m = p.nets[i];
+        right = right && is_zero(m);
+    }
+    calls::numbers(right as u64, 0)
+}
+
+// The call that the row begins with, by its first letter.
+fn call(pool: &mut [u32], row: &[u8]) -> Got {
+    let set = taken(row, 1);
+    let i = taken(row, 2);
+    match calls::letter(row) {
+        b'n' => follower(walk::nth(pool, set, i)),
+        b'f' => follower(walk::last(pool, set)),
+        b'p' => answer_of(page_of(pool, set)),
+        b'e' => entry(page_of(pool, set), i as usize),
+        b'z' => zeros(page_of(pool, set), i as usize),
+        _ => calls::call(pool, row),
+    }
+}
+
+fn case(t: Tally, pool: &mut [u32; WORDS], row: &[u8], must: &[u8]) -> Tally {
+    let got = call(pool, row);
+    calls::judge(t, row, must, got)
+}
+
+// The row, where it is whole. The places are in order: the tests say so to the proof.
+fn at_end(t: Tally, pool: &mut [u32; WORDS], text: &[u8], p: Place) -> Tally {
+    let start = p.start;
+    let sign = p.sign;
+    let end = p.end;
+    if !p.whole {
+        return t;
+    }
+    if sign < start {
+        return t;
+    }
+    if end < sign {
+        return t;
+    }
+    if text.len() < end {
+        return t;
+    }
+    case(t, pool, &text[start..sign], &text[sign..end])
+}
+
+fn run(text: &[u8]) -> Tally {
+    let mut pool = [0u32; WORDS];
+    let mut t = test_counts::none();
+    let mut p = table::begin();
+    for at in 0..text.len() {
+        p = table::next(p, text[at], at);
+        t = at_end(t, &mut pool, text, p);
+    }
+    t
+}
 
 fn main() {
-    let mut t = cases::empty(test_counts::none());
-    t = cases::order(t);
-    t = cases::split(t);
-    t = cases::wide(t);
-    t = cases::beside(t);
-    t = cases::refused(t);
-    t = pages::small(t);
-    t = pages::order(t);
-    t = pages::wide(t);
-    t = pages::full(t);
-    t = pages::over(t);
-    t = pages::refused(t);
-    test_counts::say(t);
+    let mut text = io::large_buffer();
+    let n = io::read_full(0, &mut text);
+    test_counts::say(run(&text[..n]));
 }

@@ -1,50 +1,77 @@
-// Runs the scope document's worked networks that are not proved as a table through the public calls, with cases at full pools, at the ends of the address words and at
-// refusals, and counts the answers that come out otherwise.
+// Runs the scope document's worked networks that are not proved as a table through the public calls, with cases at full pools, at the ends of the
+// address words and at refusals: the rows of its input, each against what it must answer.
+use pool_state::Told;
 use test_counts::Tally;
+use test_counts::calls;
+use test_counts::calls::Got;
+use test_counts::calls::taken;
+use test_counts::table;
+use test_counts::table::Place;
 
-mod expect;
-mod full;
-mod lengths;
-mod made;
-mod refusals;
-mod sets;
-mod tables;
+// The words of the largest pool here: one set, 256 nodes.
+const WORDS: usize = 2120;
 
-fn at_full_pools(t: Tally) -> Tally {
-    let mut t = full::halved(t);
-    t = full::simplified(t);
-    t = full::swallowed(t);
-    t = full::reopened(t);
-    t = full::path(t);
-    t = full::split(t);
-    t = full::unsplit(t);
-    full::traded(t)
+fn told(a: Told) -> Got {
+    match a {
+        Told::Is(b) => calls::numbers(b as u64, 0),
+        Told::Refused(no) => calls::refusal(no),
+    }
 }
 
-fn of_sets(t: Tally) -> Tally {
-    let mut t = sets::merged(t);
-    t = sets::intersected(t);
-    t = sets::excluded(t);
-    t = sets::unexcluded(t);
-    t = sets::copied(t);
-    t = sets::selves(t);
-    sets::refused(t)
+// The call that the row begins with, by its first letter.
+fn call(pool: &mut [u32], row: &[u8]) -> Got {
+    let a = taken(row, 1);
+    let b = taken(row, 2);
+    let c = taken(row, 3);
+    match calls::letter(row) {
+        b'm' => calls::answer(combine::merge(pool, a, b, c)),
+        b'i' => calls::answer(combine::intersect(pool, a, b, c)),
+        b'e' => calls::answer(combine::exclude(pool, a, b, c)),
+        b'c' => told(compare::equal(pool, a, b)),
+        _ => calls::call(pool, row),
+    }
 }
 
-fn at_refusals(t: Tally) -> Tally {
-    let mut t = refusals::damaged(t);
-    t = refusals::absent(t);
-    t = refusals::networks(t);
-    refusals::results(t)
+fn case(t: Tally, pool: &mut [u32; WORDS], row: &[u8], must: &[u8]) -> Tally {
+    let was = *pool;
+    let got = call(pool, row);
+    let t = calls::judge(t, row, must, got);
+    calls::keeps(t, row, must, &was, pool)
+}
+
+// The row, where it is whole. The places are in order: the tests say so to the proof.
+fn at_end(t: Tally, pool: &mut [u32; WORDS], text: &[u8], p: Place) -> Tally {
+    let sign = p.sign;
+    let end = p.end;
+    let start = p.start;
+    if !p.whole {
+        return t;
+    }
+    if sign < start {
+        return t;
+    }
+    if end < sign {
+        return t;
+    }
+    if text.len() < end {
+        return t;
+    }
+    case(t, pool, &text[start..sign], &text[sign..end])
+}
+
+fn run(text: &[u8]) -> Tally {
+    let mut pool = [0u32; WORDS];
+    let mut t = test_counts::none();
+    let mut p = table::begin();
+    for at in 0..text.len() {
+        p = table::next(p, text[at], at);
+        t = at_end(t, &mut pool, text, p);
+    }
+    t
 }
 
 fn main() {
-    let mut t = tables::removed(test_counts::none());
-    t = tables::refused(t);
-    t = tables::beside(t);
-    t = at_full_pools(t);
-    t = lengths::ends(t);
-    t = at_refusals(t);
-    t = of_sets(t);
-    test_counts::say(t);
+    let mut text = io::large_buffer();
+    let n = io::read_full(0, &mut text);
+    test_counts::say(run(&text[..n]));
 }

@@ -2,7 +2,7 @@
 use denote.Ref.{now}
 use borrow.Author.Needs.{needs}
 use Rattle.pool_state.proofs.Seats.{Seats, seated-refused, seated-at}
-use Rattle.setfile.proofs.Loads.{ask-refused, ask-broken, ask-family, ask-occupied, ask-go}
+use Rattle.setfile.proofs.Loads.{ask-refused, ask-broken, ask-family, ask-occupied, ask-file}
 use Rattle.setfile.proofs.loading.ask.Statement.{statement}
 use Rattle.setfile.proofs.loading.ask.Tie as tie
 
@@ -34,4 +34,4 @@ ask-spec =
     let e = c .before .before in
     let f = e .before .before .before in
     let k = f .before .before in
-    ask-go _ (seats k) (k .check .ensures) (f .checked .given .1) (e .if1 .left) (c .if2 .left)))
+    ask-file _ (seats k) (k .check .ensures) (f .checked .given .1) (e .if1 .left) (c .if2 .left)))
