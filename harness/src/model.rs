@@ -272,16 +272,19 @@ fn lines(w: &mut [u32], c: &Call) -> Answer {
         return Answer { no: 2, ..number(1) };
     }
     let all = read_lines(&c.tail);
+    let mut cut = 0;
+    let at = |k: usize, cut: u64| Answer { net: Net { lo: cut, ..Net::default() }, ..number(k as u32 + 1) };
     for (k, line) in all.iter().enumerate() {
-        let no = match read_line(line) {
-            None => 4,
-            Some(net) => apply(w, &Call { net, ..Call::new(ADD) }).no,
+        let (no, bits) = match read_line(line) {
+            None => (4, 0),
+            Some(net) => (apply(w, &Call { net: net.clone(), ..Call::new(ADD) }).no, trimmed(&net)),
         };
         if no != 0 {
-            return Answer { no, y: line.len().min(19) as u32, ..number(k as u32 + 1) };
+            return Answer { no, y: line.len().min(19) as u32, ..at(k, cut) };
         }
+        cut += bits as u64;
     }
-    number(all.len() as u32 + 1)
+    at(all.len(), cut)
 }
 
 fn write_line(c: &Call) -> Answer {

@@ -41,7 +41,7 @@ small-pushed : (r : Reader) (b : ℕ) → r .len ≤ places → pushed r b .len 
 unfolding pushed
 small-pushed r b h = go (ltb (r .len) places) refl
   where
-    go : (t : Bool) → ltb (r .len) places ≡ t → cond t (record { line = set (r .line) (r .len) b; len = r .len + 1; number = r .number; no = r .no }) r .len ≤ places
+    go : (t : Bool) → ltb (r .len) places ≡ t → cond t (record { line = set (r .line) (r .len) b; len = r .len + 1; number = r .number; trimmed = r .trimmed; no = r .no }) r .len ≤ places
     go true e = omega (arith, ltb-true (r .len) places e)
     go false e = h
 

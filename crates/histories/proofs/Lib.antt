@@ -1,4 +1,4 @@
--- One call, the histories, two histories side by side, what the calls that read answer after them, and merging in every order.
+-- One call, the histories, two histories side by side, what the calls that read answer after them, merging in every order, and lines of text as calls of a history.
 pub mod Step
 pub mod Histories
 pub mod TwoHistories
@@ -6,3 +6,4 @@ pub mod Readings
 pub mod TwoReadings
 pub mod MergeOrder
 pub mod Contracts
+pub mod Lines

@@ -32,12 +32,12 @@ use Rattle.lines.specs.Steps.{Takes}
 
 -- A line that is no network.
 pub took-refused : {t : Entered} {x : Refusal} {no : ℕ} {w : List ℕ} {f : Survey} (l : List ℕ) → Surveyed w 0 f → t ≡ entering.Refused x → enteredAs t ≡ enteredLine l → no ≡ number x
-    → Takes w l (record { no = no; found = f }) w
+    → Takes w l (record { no = no; cut = false; found = f }) w
 unfolding lineNo wordsWith
 took-refused {t} {x} l g e h n =
     let q : readLine l .0 ≡ number x = sym (enteredLine-no l) ∙ ap (λ p. p .0) (sym h ∙ ap enteredAs e) in
     let z = ne-eqb (number x) 0 (number-some x) in
-    record { no = rw (q, z) n; words = rw (q, z) refl; found = g }
+    record { no = rw (q, z) n; cut = ap (λ p. p .1 .1) (sym (ap enteredAs e) ∙ h); words = rw (q, z) refl; found = g }
 
 -- The cleared network is added as the numbers that were read are.
 module _ (n : Net) (z : refusalOf n ≡ 0) where
@@ -56,21 +56,21 @@ module _ (n : Net) (z : refusalOf n ≡ 0) where
 
 -- A network, refused or added.
 module _ {t : Entered} {n : Net} {b : Bool} {w v : List ℕ} (l : List ℕ) (e : t ≡ entering.Network n b) (h : enteredAs t ≡ enteredLine l) where
-  took : {a : ℕ × ℕ} {no : ℕ} {f : Survey} → Added w 0 n a v → no ≡ a .0 → Surveyed v 0 f → Takes w l (record { no = no; found = f }) v
+  took : {a : ℕ × ℕ} {no : ℕ} {f : Survey} → Added w 0 n a v → no ≡ a .0 → Surveyed v 0 f → Takes w l (record { no = no; cut = b; found = f }) v
   unfolding lineNo wordsWith
   took {a} {no} d k g =
       let x = lines.took l n b (sym h ∙ ap enteredAs e) in
       let r = rules-cleared (x .read) (x .granted) in
       let s = lists-cleared (x .read) (x .granted) in
       let added = rw (x .network) at d in
-      record { no = rw (x .reads) (k ∙ (rw (r, s) at (ap (λ p. p .0) (added .answer)))); words = rw (x .reads) (rw (r, s) at (added .words)); found = g }
+      record { cut = ap (λ p. p .1 .1) (sym (ap enteredAs e) ∙ h); no = rw (x .reads) (k ∙ (rw (r, s) at (ap (λ p. p .0) (added .answer)))); words = rw (x .reads) (rw (r, s) at (added .words)); found = g }
 
-  pub took-kept : {x : Refusal} {no : ℕ} {f : Survey} {y : Grown} → y ≡ grown.Refused x → Grows w 0 n y v → no ≡ number x → Surveyed w 0 f → Takes w l (record { no = no; found = f }) v
+  pub took-kept : {x : Refusal} {no : ℕ} {f : Survey} {y : Grown} → y ≡ grown.Refused x → Grows w 0 n y v → no ≡ number x → Surveyed w 0 f → Takes w l (record { no = no; cut = b; found = f }) v
   took-kept {x} {f} o d k g = let z : Grows w 0 n (grown.Refused x) v = rw o at d in
       let d' : Added w 0 n (number x, 0) v = rw (z .1) (z .0) in
       took d' k (rw (z .1) g)
 
-  pub took-grown : {f : Survey} {y : Grown} → y ≡ grown.Grew f → Grows w 0 n y v → Takes w l (record { no = 0; found = f }) v
+  pub took-grown : {f : Survey} {y : Grown} → y ≡ grown.Grew f → Grows w 0 n y v → Takes w l (record { no = 0; cut = b; found = f }) v
   took-grown {f} o d = let z : Grows w 0 n (grown.Grew f) v = rw o at d in took (z .0) refl (z .1)
 
 -- A refused line leaves the words.
