@@ -117,6 +117,13 @@ fn change(w: &mut [u32], mut s: State, k: u32, no: u8, list: impl FnOnce(&State)
     number(n as u32)
 }
 
+/// One that takes a network in: with the report, where it is granted.
+fn change_by(w: &mut [u32], s: State, c: &Call, f: fn(u8, &List, Member) -> List) -> Answer {
+    let no = in_pool(s.family, &c.net);
+    let a = change(w, s, c.a, no, |s| f(width(s.family), &s.sets[c.a as usize].list, member(&c.net)));
+    if a.no != 0 { a } else { Answer { y: trimmed(&c.net), ..a } }
+}
+
 fn combine(w: &mut [u32], s: State, c: &Call, f: fn(u8, &List, &List) -> List) -> Answer {
     let sets = s.sets.len() as u32;
     let no = if c.b >= sets || c.c >= sets {
@@ -388,8 +395,8 @@ pub fn apply(w: &mut [u32], c: &Call) -> Answer {
         FREE => number(s.nodes - (0..s.sets.len()).map(|j| held(&s, j)).sum::<u64>() as u32),
         HELD => answered(if known { 0 } else { 3 }, || Answer { y: s.sets[k].list.len() as u32, ..number(held(&s, k) as u32) }),
         PLAN => answered(if known { 0 } else { 3 }, || Answer { y: s.sets[k].limit, ..number(s.sets[k].share) }),
-        ADD => change(w, s, c.a, in_pool(f, &c.net), |s| lists::add(width(f), &s.sets[k].list, member(&c.net))),
-        REMOVE => change(w, s, c.a, in_pool(f, &c.net), |s| lists::remove(width(f), &s.sets[k].list, member(&c.net))),
+        ADD => change_by(w, s, c, lists::add),
+        REMOVE => change_by(w, s, c, lists::remove),
         SIMPLIFY => change(w, s, c.a, 0, |s| lists::simplify(width(f), &s.sets[k].list)),
         MERGE => combine(w, s, c, lists::merge),
         INTERSECT => combine(w, s, c, lists::intersect),

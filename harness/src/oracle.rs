@@ -88,7 +88,7 @@ impl<N: Numbers + Clone> Ranges<N> {
         let said = |b: bool| (b as u8 != a.flag).then(|| format!("iprange says {b}"));
         // by ipnet's trunc
         let cut = || (n().to_network().member() != n().member()) as u32;
-        if matches!(c.code, CONTAINS | SUPERNET) && cut() != a.y {
+        if matches!(c.code, CONTAINS | SUPERNET | ADD | REMOVE) && cut() != a.y {
             return Some(format!("ipnet cuts a bit: {}", cut()));
         }
         match c.code {

@@ -4,6 +4,7 @@ ghost use mathlib.Core.Path.{_≡_};
 ghost use Rattle.nets.specs.Networks.{takenAs, enteredAs, prefixAs, nextAs};
 ghost use Rattle.nets.specs.Refusals.{number};
 ghost use Rattle.pool_state.specs.Rules.{answerAs, reportAs};
+ghost use Rattle.change.specs.Calls.{notedAs};
 ghost use Rattle.lookup.specs.Rules.{supernetAs, containsAs};
 ghost use Rattle.listing.specs.Calls.{followerAs};
 ghost use Rattle.text.specs.Answers.{writtenAs};
@@ -11,6 +12,7 @@ ghost use Rattle.calls_replies.specs.Replies.{reply, noReply, oneReply, 
 ghost use Rattle.calls_replies.specs.Replies.{leftNet, bitsReply, bitReply, toldReply, entryReply};
 use calls_bytes::Reply;
 use calls_bytes::records::flag_byte;
+use change::Noted;
 use listing::Follower;
 use lookup::Contained;
 use lookup::Covering;
@@ -165,6 +167,15 @@ fn of_trimmed(flag: bool, x: u32, trimmed: bool, net: Net) -> Reply
         x,
         y: flag_byte(trimmed) as u32,
         net,
+    }
+}
+
+pub fn of_noted(a: Noted) -> Reply
+    ensures { λ r. ⌜ r ≡ writeReply (notedAs a) ⌝ }
+{
+    match a {
+        Noted::Granted(x, trimmed) => of_trimmed(false, x, trimmed, NO_NET),
+        Noted::Refused(no) => refused(no),
     }
 }
 
