@@ -26,5 +26,5 @@ ask-spec =
     (λ c. ask-first _ _ (surveyed (c .before .before .before)) (c .if1 .taken))
     (λ c. let e = c .before in ask-second _ _ (surveyed (seated e)) (e .if1 .left) (c .if2 .taken))
     (λ c. let i = c .before .before in let e = i .before in ask-occupied _ _ (surveyed (seated e)) (e .if1 .left) (i .if2 .left) (c .if3 .taken))
-    (λ c. ask-refused _ _ _ (seated-refused _ _ (c .before .before .before .seat-of .ensures) _ (c .before .seated .given .1)))
+    (λ c. ask-refused _ _ (c .before .seated .given .0 .0) (seated-refused _ _ (c .before .before .before .seat-of .ensures) _ (c .before .seated .given .1)))
     (λ c. let i = c .before .before in let e = i .before in ask-empty _ _ (surveyed (seated e)) (e .if1 .left) (i .if2 .left) (c .if3 .left)))

@@ -28,7 +28,7 @@ ask-spec =
     let f = e .before .before .before in
     let k = f .before .before in
     ask-occupied _ (seats k) (k .check .ensures) (f .checked .given .1) (e .if1 .left) (c .if2 .taken))
-    (λ c. ask-refused _ _ (seated-refused _ _ (c .before .before .before .seat-of .ensures) _ (c .before .seated .given .1)))
+    (λ c. ask-refused _ (c .before .seated .given .0 .0) (seated-refused _ _ (c .before .before .before .seat-of .ensures) _ (c .before .seated .given .1)))
     (λ c. let k = c .before .before in ask-broken _ (seats k) (k .check .ensures) (c .enum-told .given .1))
     (λ c.
     let e = c .before .before in
