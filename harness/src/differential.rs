@@ -117,7 +117,7 @@ fn exported(words: &[u32], c: &Call) -> Option<String> {
     };
     bytes.extend(rows.iter().flat_map(|x| x.to_le_bytes()));
     let a = apply(&mut model, c);
-    let value = if c.code == CONTAINS { 2 * a.x + a.flag as u32 } else { a.x };
+    let value = if c.code == CONTAINS { 512 * a.y + 2 * a.x + a.flag as u32 } else { a.x };
     let expected = (a.no as u64) << 32 | value as u64;
     ((r, &bytes, &pool) != (expected, &a.tail, &model)).then(|| format!("exported {c:?}: answered {r:x} {bytes:?}, expected {a:?}"))
 }

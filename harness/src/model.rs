@@ -1,4 +1,4 @@
-//! What each call has to answer and to leave, by document 01, request M-101 and docs/CALLS.md: refusals, room, limits, shares, reports, files, text, damaged memory.
+//! What each call has to answer and to leave, by document 01, requests M-101, M-102 and M-107, and docs/CALLS.md: refusals, room, limits, shares, reports, files, text, damaged memory.
 use crate::files::{file, read_file, read_lines};
 use crate::layout::{decode, encode, header, held, room, State};
 use crate::lists::{self, cleared, width, List, Member};
@@ -34,12 +34,22 @@ fn member(n: &Net) -> Member {
     (n.len, cleared(width(n.family), n.len, address(n)))
 }
 
+/// Whether a bit past the length is set, as y has it.
+fn trimmed(n: &Net) -> u32 {
+    (address(n) & lists::past(width(n.family), n.len) != 0) as u32
+}
+
 fn answered(no: u8, a: impl FnOnce() -> Answer) -> Answer {
     if no != 0 { Answer::refused(no) } else { a() }
 }
 
 fn given(n: Net) -> Answer {
     Answer { net: n, ..Answer::default() }
+}
+
+/// A network taken in: its bits past the length are cleared, and the answer says whether one was set.
+fn entered(n: &Net) -> Answer {
+    Answer { y: trimmed(n), ..given(net(n.family, member(n))) }
 }
 
 fn number(x: u32) -> Answer {
@@ -105,6 +115,13 @@ fn change(w: &mut [u32], mut s: State, k: u32, no: u8, list: impl FnOnce(&State)
     s.sets[k].list = l;
     encode(w, &s);
     number(n as u32)
+}
+
+/// One that takes a network in: with the report, where it is granted.
+fn change_by(w: &mut [u32], s: State, c: &Call, f: fn(u8, &List, Member) -> List) -> Answer {
+    let no = in_pool(s.family, &c.net);
+    let a = change(w, s, c.a, no, |s| f(width(s.family), &s.sets[c.a as usize].list, member(&c.net)));
+    if a.no != 0 { a } else { Answer { y: trimmed(&c.net), ..a } }
 }
 
 fn combine(w: &mut [u32], s: State, c: &Call, f: fn(u8, &List, &List) -> List) -> Answer {
@@ -217,6 +234,7 @@ fn number_of(s: &str, rule: fn(&[u8]) -> bool) -> Option<u64> {
     if rule(s.as_bytes()) { s.parse().ok() } else { None }
 }
 
+/// The numbers as the line has them.
 pub fn read_line(line: &[u8]) -> Option<Net> {
     let (a, n) = std::str::from_utf8(line).ok()?.split_once('/')?;
     let parts: Vec<u64> = a.split('.').map(|p| number_of(p, dec_octet)).collect::<Option<_>>()?;
@@ -261,34 +279,31 @@ fn lines(w: &mut [u32], c: &Call) -> Answer {
         return Answer { no: 2, ..number(1) };
     }
     let all = read_lines(&c.tail);
+    let mut cut = 0;
+    let at = |k: usize, cut: u64| Answer { net: Net { lo: cut, ..Net::default() }, ..number(k as u32 + 1) };
     for (k, line) in all.iter().enumerate() {
-        let no = match read_line(line) {
-            None => 4,
-            Some(net) => apply(w, &Call { net, ..Call::new(ADD) }).no,
+        let (no, bits) = match read_line(line) {
+            None => (4, 0),
+            Some(net) => (apply(w, &Call { net: net.clone(), ..Call::new(ADD) }).no, trimmed(&net)),
         };
         if no != 0 {
-            return Answer { no, y: line.len().min(19) as u32, ..number(k as u32 + 1) };
+            return Answer { no, y: line.len().min(19) as u32, ..at(k, cut) };
         }
+        cut += bits as u64;
     }
-    number(all.len() as u32 + 1)
+    at(all.len(), cut)
 }
 
 fn write_line(c: &Call) -> Answer {
     let mut out = vec![c.c as u8; c.b as usize];
     let n = &c.net;
-    let text = format!("{}.{}.{}.{}/{}", n.lo >> 24 & 255, n.lo >> 16 & 255, n.lo >> 8 & 255, n.lo & 255, n.len);
-    let no = if n.family != 4 {
-        6
-    } else if net_no(n) != 0 {
-        7
-    } else if text.len() > out.len() {
-        11
-    } else {
-        0
-    };
-    let a = answered(no, || {
-        out[..text.len()].copy_from_slice(text.as_bytes());
-        number(text.len() as u32)
+    let a = answered(if n.family != 4 { 6 } else { net_no(n) }, || {
+        let lo = member(n).1;
+        let text = format!("{}.{}.{}.{}/{}", lo >> 24 & 255, lo >> 16 & 255, lo >> 8 & 255, lo & 255, n.len);
+        answered(if text.len() > out.len() { 11 } else { 0 }, || {
+            out[..text.len()].copy_from_slice(text.as_bytes());
+            Answer { y: trimmed(n), ..number(text.len() as u32) }
+        })
     });
     Answer { tail: out, ..a }
 }
@@ -299,7 +314,7 @@ fn alone(c: &Call) -> Answer {
     let no = net_no(n);
     match c.code {
         NEW => answered(no, || given(n.clone())),
-        TO_NETWORK => answered(no, || given(net(n.family, member(n)))),
+        TO_NETWORK => answered(no, || entered(n)),
         WITH_NEW_PREFIX => {
             let m = Net { len: c.a as u8, ..n.clone() };
             answered(if no != 0 { no } else { net_no(&m) }, || given(net(m.family, member(&m))))
@@ -343,12 +358,12 @@ pub fn apply(w: &mut [u32], c: &Call) -> Answer {
                     let x = decode(w).map_or(read, |s| lists::steps(wide, &s.sets[c.a as usize].list, member(&c.net)));
                     let m = len.map(|k| (k, cleared(wide, k, address(&c.net))));
                     let a = if c.code == CONTAINS { told(m.is_some()) } else { found(c.net.family, m) };
-                    Answer { x, ..a }
+                    Answer { x, y: trimmed(&c.net), ..a }
                 }
             }
         }
         IS_EMPTY => return is_empty(w, c.a),
-        READ_LINE => return read_line(&c.tail).map_or(Answer::refused(4), given),
+        READ_LINE => return read_line(&c.tail).map_or(Answer::refused(4), |n| entered(&n)),
         WRITE_LINE => return write_line(c),
         LINES => return lines(w, c),
         NEW..=WORDS => return alone(c),
@@ -380,8 +395,8 @@ pub fn apply(w: &mut [u32], c: &Call) -> Answer {
         FREE => number(s.nodes - (0..s.sets.len()).map(|j| held(&s, j)).sum::<u64>() as u32),
         HELD => answered(if known { 0 } else { 3 }, || Answer { y: s.sets[k].list.len() as u32, ..number(held(&s, k) as u32) }),
         PLAN => answered(if known { 0 } else { 3 }, || Answer { y: s.sets[k].limit, ..number(s.sets[k].share) }),
-        ADD => change(w, s, c.a, in_pool(f, &c.net), |s| lists::add(width(f), &s.sets[k].list, member(&c.net))),
-        REMOVE => change(w, s, c.a, in_pool(f, &c.net), |s| lists::remove(width(f), &s.sets[k].list, member(&c.net))),
+        ADD => change_by(w, s, c, lists::add),
+        REMOVE => change_by(w, s, c, lists::remove),
         SIMPLIFY => change(w, s, c.a, 0, |s| lists::simplify(width(f), &s.sets[k].list)),
         MERGE => combine(w, s, c, lists::merge),
         INTERSECT => combine(w, s, c, lists::intersect),

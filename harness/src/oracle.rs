@@ -86,6 +86,11 @@ impl<N: Numbers + Clone> Ranges<N> {
         let (i, j, k) = (c.a as usize, c.b as usize, c.c as usize);
         let n = || N::of((c.net.len, address(&c.net)));
         let said = |b: bool| (b as u8 != a.flag).then(|| format!("iprange says {b}"));
+        // by ipnet's trunc
+        let cut = || (n().to_network().member() != n().member()) as u32;
+        if matches!(c.code, CONTAINS | SUPERNET | ADD | REMOVE) && cut() != a.y {
+            return Some(format!("ipnet cuts a bit: {}", cut()));
+        }
         match c.code {
             ADD => {
                 self.0[i].add(n());

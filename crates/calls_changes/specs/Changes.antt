@@ -10,14 +10,14 @@ use Rattle.nets.specs.Bits.{Bits}
 use Rattle.nets.specs.Lists.{mergeL, intersectL, excludeL}
 use Rattle.nodes.specs.Words.{put}
 use Rattle.pool_state.specs.Rules.{setup, layoutNo, laid}
-use Rattle.pool_state.specs.Changes.{listAt, netRules}
+use Rattle.pool_state.specs.Changes.{listAt}
 use Rattle.change.specs.Calls.{listWith, listWithout}
 use Rattle.change.specs.Simplified.{listSimple, noArgs}
 use Rattle.combine.specs.Rules.{combineRules}
 use Rattle.calls_bytes.specs.Tails.{numbersFrom}
 use Rattle.calls_bytes.specs.declared.Call.{Call}
 use Rattle.calls_bytes.specs.declared.Reply.{Reply}
-use Rattle.calls_replies.specs.Replies.{noReply, relisted}
+use Rattle.calls_replies.specs.Replies.{noReply, relisted, relistedBy}
 
 -- the list that a call makes of sets b and c goes to set a
 abbrev pub combined : (List Bits → List Bits → List Bits) → List ℕ → Call → Reply × List ℕ
@@ -25,8 +25,8 @@ combined L w c = relisted w (c .a) (combineRules (c .a) (c .b) (c .c)) (λ S. L 
 
 unfoldable pub changeOf : List ℕ → Call → Reply × List ℕ
 changeOf w c =
-    cond (eqb (c .code) 8) (relisted w (c .a) (netRules (c .net)) (listWith (c .a) (c .net)))
-    (cond (eqb (c .code) 9) (relisted w (c .a) (netRules (c .net)) (listWithout (c .a) (c .net)))
+    cond (eqb (c .code) 8) (relistedBy (c .net) w (c .a) (listWith (c .a) (c .net)))
+    (cond (eqb (c .code) 9) (relistedBy (c .net) w (c .a) (listWithout (c .a) (c .net)))
     (cond (eqb (c .code) 10) (relisted w (c .a) noArgs (listSimple (c .a)))
     (cond (eqb (c .code) 11) (combined mergeL w c)
     (cond (eqb (c .code) 12) (combined intersectL w c)

@@ -7,6 +7,7 @@ use calls_bytes::records::CALL;
 use calls_bytes::table;
 use calls_bytes::tails::store_words;
 use calls_replies::of_answer;
+use calls_replies::of_noted;
 use calls_replies::only;
 
 // A layout has at most 255 shares and 255 limits here.
@@ -18,8 +19,8 @@ pub fn change(pool: &mut [u32], c: Call) -> Reply
 {
     let code = c.code;
     match code {
-        table::ADD => of_answer(change::add(pool, c.a, c.net)),
-        table::REMOVE => of_answer(change::remove(pool, c.a, c.net)),
+        table::ADD => of_noted(change::add(pool, c.a, c.net)),
+        table::REMOVE => of_noted(change::remove(pool, c.a, c.net)),
         table::SIMPLIFY => of_answer(change::simplify(pool, c.a)),
         table::MERGE => of_answer(combine::merge(pool, c.a, c.b, c.c)),
         table::INTERSECT => of_answer(combine::intersect(pool, c.a, c.b, c.c)),

@@ -7,14 +7,14 @@ use Prim.Native.Nat.{ℕ, _%_}
 use lib.Dec.{eqb}
 use lib.ListN.{drop}
 use Rattle.nets.specs.Refusals.{answered}
-use Rattle.nets.specs.Networks.{width, netWords, netOf, noNet, judged, refusalOf, withLen, withLenNo, cleared, bigEndian, startOf, noBits, bitsWords, nextOf}
+use Rattle.nets.specs.Networks.{width, netWords, netOf, noNet, judged, refusalOf, withLen, withLenNo, cleared, entered, bigEndian, startOf, noBits, bitsWords, nextOf}
 use Rattle.nets.specs.declared.Net.{Net}
-use Rattle.text.specs.Ipv4.{readLine}
+use Rattle.text.specs.Answers.{enteredLine}
 use Rattle.calls_bytes.specs.Bytes.{u16At}
 use Rattle.calls_bytes.specs.Tails.{wordsFrom}
 use Rattle.calls_bytes.specs.declared.Call.{Call}
 use Rattle.calls_bytes.specs.declared.Reply.{Reply}
-use Rattle.calls_replies.specs.Replies.{netReply, bitsReply, bitReply}
+use Rattle.calls_replies.specs.Replies.{netReply, enterReply, bitsReply, bitReply}
 
 -- addresses as bytes: those of a, those of hi and lo, and these by two
 unfoldable pub octetsOf : List ℕ → Net
@@ -38,9 +38,9 @@ madeOf s c =
 
 unfoldable pub networkOf : List ℕ → Call → Reply
 networkOf s c =
-    cond (eqb (c .code) 17) (netReply (readLine (drop 35 s)))
+    cond (eqb (c .code) 17) (enterReply (enteredLine (drop 35 s)))
     (cond (eqb (c .code) 32) (netReply (judged (c .net)))
-    (cond (eqb (c .code) 33) (netReply (answered (refusalOf (c .net)) noNet (cleared (c .net))))
+    (cond (eqb (c .code) 33) (enterReply (entered (c .net)))
     (cond (eqb (c .code) 34) (netReply (answered (withLenNo (c .net) (c .a % 256)) noNet (cleared (withLen (c .net) (c .a % 256)))))
     (cond (eqb (c .code) 35) (bitsReply (answered (refusalOf (c .net)) noBits (startOf (c .net))))
     (cond (eqb (c .code) 36) (bitReply (nextOf (bitsWords (c .net .hi) (c .net .lo) (c .net .len))))

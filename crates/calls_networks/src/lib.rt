@@ -11,6 +11,7 @@ use calls_bytes::bytes::u16_at;
 use calls_bytes::records::CALL;
 use calls_bytes::table;
 use calls_replies::of_bit;
+use calls_replies::of_entered;
 use calls_replies::of_net;
 use calls_replies::of_prefix;
 use calls_replies::of_taken;
@@ -96,9 +97,9 @@ pub fn network(s: &[u8], c: Call) -> Reply
     let code = c.code;
     let net = c.net;
     match code {
-        table::READ_LINE => of_taken(text::read_line(&s[CALL..])),
+        table::READ_LINE => of_entered(text::read_line(&s[CALL..])),
         table::NEW => of_taken(Net::new(net.family, net.hi, net.lo, net.len)),
-        table::TO_NETWORK => of_taken(net.to_network()),
+        table::TO_NETWORK => of_entered(net.to_network()),
         table::WITH_NEW_PREFIX => of_taken(net.with_new_prefix((c.a % 256) as u8)),
         table::PREFIX_BITS => of_prefix(net.prefix_bits()),
         table::NEXT_BIT => of_bit(bits_of(net).next()),

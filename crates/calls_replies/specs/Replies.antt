@@ -3,22 +3,27 @@
 --   noReply k, oneReply, twoReply, flagReply, netReply, foundReply, bitsReply     a number of the table with no value, one number, two, a flag, a network, one that
 --                                                                                 may be missing, what a bit iterator has left
 --   bitReply            the step of the bit iterator
---   coverReply, containReply     a lookup: whether there is a member, the member, and the nodes that were read
+--   reported b          the report of a call that takes a network in, in y: 1 where a set bit past the length was cut, else 0
+--   enterReply, writeReply     a network with the report; one number with it, also of add and remove
+--   coverReply, containReply     a lookup: whether there is a member, the member, the nodes that were read, and the report
 --   toldReply           the answers by a flag;  entryReply: one number, and an entry of a page
 --   changed w k rs f    a changing call on set k: its answer, and the words that it leaves;  relisted w k a f: one that gives it a list
-use mathlib.Core.Bool.{Bool, false, cond}
+--   reporting n w k rs f     a changing call that takes the network n in: with the report, where it is granted;  relistedBy n w k f: one that gives set k a list
+use mathlib.Core.Bool.{Bool, false, cond, _&&_}
 use mathlib.Core.List.{List}
 use Prim.Native.Nat.{ℕ}
+use lib.Dec.{eqb}
 use Rattle.nets.specs.Bits.{Bits}
-use Rattle.nets.specs.Networks.{netWords, noNet}
+use Rattle.nets.specs.Networks.{netWords, noNet, hasBitPast}
 use Rattle.nets.specs.Refusals.{Rule}
 use Rattle.nets.specs.declared.Net.{Net}
 use Rattle.nets.specs.declared.PrefixBits.{PrefixBits}
 use Rattle.pool_state.specs.States.{SetState, State}
 use Rattle.pool_state.specs.Decode.{decode}
 use Rattle.pool_state.specs.Rules.{toldAs}
-use Rattle.pool_state.specs.Changes.{changeRule, wordsAfter, relistRules, relistSet}
+use Rattle.pool_state.specs.Changes.{changeRule, wordsAfter, relistRules, relistSet, netRules}
 use Rattle.pool_state.specs.declared.Told.{Told}
+use Rattle.lookup.specs.Rules.{Sought, Held}
 use Rattle.calls_bytes.specs.declared.Reply.{Reply}
 
 abbrev pub reply : ℕ → Bool → ℕ → ℕ → Net → Reply
@@ -42,11 +47,20 @@ netReply a = reply (a .0) false 0 0 (a .1)
 abbrev pub foundReply : ℕ × (Bool × Net) → Reply
 foundReply a = reply (a .0) (a .1 .0) 0 0 (a .1 .1)
 
-abbrev pub coverReply : ℕ × (Bool × (Net × ℕ)) → Reply
-coverReply a = reply (a .0) (a .1 .0) (a .1 .1 .1) 0 (a .1 .1 .0)
+abbrev pub reported : Bool → ℕ
+reported b = cond b 1 0
 
-abbrev pub containReply : ℕ × (Bool × ℕ) → Reply
-containReply a = reply (a .0) (a .1 .0) (a .1 .1) 0 noNet
+abbrev pub enterReply : ℕ × (Net × Bool) → Reply
+enterReply a = reply (a .0) false 0 (reported (a .1 .1)) (a .1 .0)
+
+abbrev pub writeReply : ℕ × (ℕ × Bool) → Reply
+writeReply a = reply (a .0) false (a .1 .0) (reported (a .1 .1)) noNet
+
+abbrev pub coverReply : ℕ × Sought → Reply
+coverReply a = reply (a .0) (a .1 .0) (a .1 .1 .1 .0) (reported (a .1 .1 .1 .1)) (a .1 .1 .0)
+
+abbrev pub containReply : ℕ × Held → Reply
+containReply a = reply (a .0) (a .1 .0) (a .1 .1 .0) (reported (a .1 .1 .1)) noNet
 
 abbrev pub entryReply : ℕ × ℕ → Net → Reply
 entryReply a n = reply (a .0) false (a .1) 0 n
@@ -69,3 +83,10 @@ changed w k rs f = (oneReply (changeRule (decode w) k rs f), wordsAfter w (decod
 -- one that gives it a list
 abbrev pub relisted : List ℕ → ℕ → (State → List Rule) → (State → List Bits) → Reply × List ℕ
 relisted w k a f = changed w k (relistRules k a f) (relistSet k f)
+
+-- with the report for the network n
+unfoldable pub reporting : Net → List ℕ → ℕ → (State → List Rule) → (State → SetState) → Reply × List ℕ
+reporting n w k rs f = let r = changeRule (decode w) k rs f in (writeReply (r .0, (r .1, eqb (r .0) 0 && hasBitPast n)), wordsAfter w (decode w) k rs f)
+
+abbrev pub relistedBy : Net → List ℕ → ℕ → (State → List Bits) → Reply × List ℕ
+relistedBy n w k f = reporting n w k (relistRules k (netRules n) f) (relistSet k f)

@@ -1,18 +1,22 @@
 // The answers of the calls as the records of docs/CALLS.md: a refusal has its number, and zeros elsewhere.
 ghost use mathlib.Core.Bool.{true};
 ghost use mathlib.Core.Path.{_≡_};
-ghost use Rattle.nets.specs.Networks.{takenAs, prefixAs, nextAs};
+ghost use Rattle.nets.specs.Networks.{takenAs, enteredAs, prefixAs, nextAs};
 ghost use Rattle.nets.specs.Refusals.{number};
 ghost use Rattle.pool_state.specs.Rules.{answerAs, reportAs};
+ghost use Rattle.change.specs.Calls.{notedAs};
 ghost use Rattle.lookup.specs.Rules.{supernetAs, containsAs};
 ghost use Rattle.listing.specs.Calls.{followerAs};
 ghost use Rattle.text.specs.Answers.{writtenAs};
-ghost use Rattle.calls_replies.specs.Replies.{noReply, oneReply, twoReply, flagReply, netReply, foundReply, coverReply, containReply, leftNet, bitsReply, bitReply, toldReply, entryReply};
+ghost use Rattle.calls_replies.specs.Replies.{reply, noReply, oneReply, twoReply, flagReply, netReply, foundReply, reported, enterReply, writeReply, coverReply, containReply};
+ghost use Rattle.calls_replies.specs.Replies.{leftNet, bitsReply, bitReply, toldReply, entryReply};
 use calls_bytes::Reply;
 use calls_bytes::records::flag_byte;
+use change::Noted;
 use listing::Follower;
 use lookup::Contained;
 use lookup::Covering;
+use nets::Entered;
 use nets::Net;
 use nets::NextBit;
 use nets::Prefix;
@@ -153,16 +157,25 @@ pub fn of_told(a: Told) -> Reply
     }
 }
 
-// What a lookup shows that is not refused.
-fn of_lookup(flag: bool, net: Net, steps: u8) -> Reply
-    ensures { λ r. ⌜ r ≡ coverReply (0, (flag, (net, steps))) ⌝ }
+// What is granted, with the report in y.
+fn of_trimmed(flag: bool, x: u32, trimmed: bool, net: Net) -> Reply
+    ensures { λ r. ⌜ r ≡ reply 0 flag x (reported trimmed) net ⌝ }
 {
     Reply {
         no: 0,
         flag,
-        x: steps as u32,
-        y: 0,
+        x,
+        y: flag_byte(trimmed) as u32,
         net,
+    }
+}
+
+pub fn of_noted(a: Noted) -> Reply
+    ensures { λ r. ⌜ r ≡ writeReply (notedAs a) ⌝ }
+{
+    match a {
+        Noted::Granted(x, trimmed) => of_trimmed(false, x, trimmed, NO_NET),
+        Noted::Refused(no) => refused(no),
     }
 }
 
@@ -170,8 +183,8 @@ pub fn of_covering(a: Covering) -> Reply
     ensures { λ r. ⌜ r ≡ coverReply (supernetAs a) ⌝ }
 {
     match a {
-        Covering::Member(net, steps) => of_lookup(true, net, steps),
-        Covering::Nothing(steps) => of_lookup(false, NO_NET, steps),
+        Covering::Member(net, steps, trimmed) => of_trimmed(true, steps as u32, trimmed, net),
+        Covering::Nothing(steps, trimmed) => of_trimmed(false, steps as u32, trimmed, NO_NET),
         Covering::Refused(no) => refused(no),
     }
 }
@@ -180,7 +193,7 @@ pub fn of_contained(a: Contained) -> Reply
     ensures { λ r. ⌜ r ≡ containReply (containsAs a) ⌝ }
 {
     match a {
-        Contained::Is(flag, steps) => of_lookup(flag, NO_NET, steps),
+        Contained::Is(flag, steps, trimmed) => of_trimmed(flag, steps as u32, trimmed, NO_NET),
         Contained::Refused(no) => refused(no),
     }
 }
@@ -196,10 +209,10 @@ pub fn of_follower(a: Follower) -> Reply
 }
 
 pub fn of_written(a: Written) -> Reply
-    ensures { λ r. ⌜ r ≡ oneReply (writtenAs a) ⌝ }
+    ensures { λ r. ⌜ r ≡ writeReply (writtenAs a) ⌝ }
 {
     match a {
-        Written::Bytes(x) => of_numbers(0, x, 0),
+        Written::Bytes(x, trimmed) => of_trimmed(false, x, trimmed, NO_NET),
         Written::Refused(no) => refused(no),
     }
 }
@@ -210,6 +223,15 @@ pub fn of_taken(a: Taken) -> Reply
     match a {
         Taken::Network(net) => of_net(net),
         Taken::Refused(no) => refused(no),
+    }
+}
+
+pub fn of_entered(a: Entered) -> Reply
+    ensures { λ r. ⌜ r ≡ enterReply (enteredAs a) ⌝ }
+{
+    match a {
+        Entered::Network(net, trimmed) => of_trimmed(false, 0, trimmed, net),
+        Entered::Refused(no) => refused(no),
     }
 }
 

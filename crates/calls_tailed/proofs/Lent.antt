@@ -10,7 +10,8 @@ use lib.Dec.{eqb, leb}
 use lib.ListN.{length, getD, take, drop, replicate, length-replicate, length-append, length-drop}
 use lib.Seq.{drop-cons}
 use borrow.Author.Tests.{eqb-true, leb-true}
-use Rattle.nets.specs.Networks.{inRange}
+use Rattle.nets.specs.Networks.{inRange, hasBitPast}
+use Rattle.nets.specs.Refusals.{answered}
 use Rattle.nets.specs.declared.Net.{Net}
 use Rattle.nodes.specs.Words.{put}
 use Rattle.nodes.proofs.Put.{length-put}
@@ -23,14 +24,14 @@ use Rattle.pool_state.proofs.Answered.{leftOn-either}
 use Rattle.listing.specs.Calls.{listRules, rowsAfter, Listed}
 use Rattle.setfile.specs.Calls.{fileAt, saveRules, bytesAfter, Saved}
 use Rattle.text.specs.Ipv4.{lineOf}
-use Rattle.text.specs.Answers.{writtenAs, lineRefusal, over, Wrote}
+use Rattle.text.specs.Answers.{noneWritten, writtenAs, lineRefusal, over, Wrote}
 use Rattle.text.specs.declared.Written.{Written}
 use Rattle.calls_bytes.specs.Bytes.{u64Bytes}
 use Rattle.calls_bytes.specs.Tails.{wordsFrom, rowBytes}
 use Rattle.calls_bytes.specs.declared.Call.{Call}
 use Rattle.calls_bytes.specs.declared.Reply.{Reply}
 use Rattle.calls_bytes.proofs.Rows.{take-put}
-use Rattle.calls_replies.specs.Replies.{oneReply}
+use Rattle.calls_replies.specs.Replies.{oneReply, writeReply}
 use Rattle.calls_tailed.specs.Tailed.{rowsOf, listReply, lentBytes, lineBytes, lineReply, saveBytes, saveReply, Listing, Lining, Saving}
 
 pub put-over : (w : List ℕ) (p : ℕ) (xs ys : List ℕ) → length xs ≡ length ys → put (put w p xs) p ys ≡ put w p ys
@@ -103,11 +104,12 @@ module _ (c : Call) (o o₁ : List ℕ) (at k : ℕ) (fits : at + c .b ≤ lengt
       let j : length o₁ ≡ length o = rw filled (length-put o at (lentBytes c)) in
       splice o₁ at k new l (omega arith) ∙ rw filled (put-over o at (lentBytes c) new (length-lent ∙ (sym all ∙ sym l)))
 
-  pub lining-is : {new : List ℕ} {a : Written} {r : Reply} → length new ≡ length (take k (drop at o₁)) → Wrote (c .net) (take k (drop at o₁)) new a → r ≡ oneReply (writtenAs a)
+  pub lining-is : {new : List ℕ} {a : Written} {r : Reply} → length new ≡ length (take k (drop at o₁)) → Wrote (c .net) (take k (drop at o₁)) new a → r ≡ writeReply (writtenAs a)
       → Lining c o at r (take at o₁ ++ (new ++ drop k (drop at o₁)))
   unfolding lineBytes lineReply
-  lining-is {new} m w g =
-      record { reply = g ∙ ap oneReply (w .answer ∙ rw (lent-is, length-lent)); tail = back-is new m ∙ ap (put o at) (w .bytes ∙ rw (lent-is, length-lent)) }
+  lining-is {new} {a} m w g =
+      let e : writtenAs a ≡ answered (lineRefusal (c .net) (c .b)) noneWritten (length (lineOf (c .net)), hasBitPast (c .net)) = w .answer ∙ rw (lent-is, length-lent) in
+      record { reply = g ∙ ap writeReply e; tail = back-is new m ∙ ap (put o at) (w .bytes ∙ rw (lent-is, length-lent)) }
 
   pub saving-is : {w new : List ℕ} {a : Answer} {r : Reply} → length new ≡ length (take k (drop at o₁)) → Saved w (c .a) (take k (drop at o₁)) a new → r ≡ oneReply (answerAs a)
       → Saving w c o at r (take at o₁ ++ (new ++ drop k (drop at o₁)))

@@ -10,7 +10,7 @@ use lib.Seq.{take-all, drop-drop, drop-length}
 use borrow.Author.Tests.{ltb-true}
 use Rattle.pool_state.specs.Decode.{decode}
 use Rattle.setfile.specs.Loading.{Loaded}
-use Rattle.lines.specs.Lines.{lineFeed, lineNo, poolNo}
+use Rattle.lines.specs.Lines.{lineFeed, lineNo, trimmedIn, poolNo}
 use Rattle.lines.specs.Reading.{places, begun, kept, pushed, stopped, endedAs, ended, stepped, passed, closed, checked, fed, finished, fedAll, allRead}
 use Rattle.lines.specs.declared.Reader.{Reader}
 use Rattle.calls_bytes.proofs.Rows.{rest-is}
@@ -41,17 +41,17 @@ small-pushed : (r : Reader) (b : ℕ) → r .len ≤ places → pushed r b .len 
 unfolding pushed
 small-pushed r b h = go (ltb (r .len) places) refl
   where
-    go : (t : Bool) → ltb (r .len) places ≡ t → cond t (record { line = set (r .line) (r .len) b; len = r .len + 1; number = r .number; no = r .no }) r .len ≤ places
+    go : (t : Bool) → ltb (r .len) places ≡ t → cond t (record { line = set (r .line) (r .len) b; len = r .len + 1; number = r .number; trimmed = r .trimmed; no = r .no }) r .len ≤ places
     go true e = omega (arith, ltb-true (r .len) places e)
     go false e = h
 
 small-ended : (w : List ℕ) (r : Reader) → r .len ≤ places → ended w r .0 .len ≤ places
 unfolding ended
-small-ended w r h = go (lineNo w (kept r)) (eqb (lineNo w (kept r)) 0) refl
+small-ended w r h = go (lineNo w (kept r)) (trimmedIn (kept r)) (eqb (lineNo w (kept r)) 0) refl
   where
-    go : (x : ℕ) (t : Bool) → eqb x 0 ≡ t → endedAs x r .len ≤ places
-    go x true e = rw e (omega arith)
-    go x false e = rw e h
+    go : (x c : ℕ) (t : Bool) → eqb x 0 ≡ t → endedAs x c r .len ≤ places
+    go x c true e = rw e (omega arith)
+    go x c false e = rw e h
 
 small-stepped : (w : List ℕ) (r : Reader) (b : ℕ) → r .len ≤ places → stepped w r b .0 .len ≤ places
 small-stepped w r b h = go (eqb b lineFeed)

@@ -2,20 +2,22 @@
 --
 --   loadOf w c s       the file is the tail
 --   piecesOf c s       the lines come in two pieces: the first b bytes of the tail, and the rest
---   readerReply r      where the reading is when it has ended: the refusal, the number of the line, how many bytes of it are kept
+--   readerReply r      where the reading is when it has ended: the refusal, the number of the line, how many bytes of it are kept, how many lines were trimmed
 --   linesOf w c s      start, feed with each piece, finish
 --   Cut s b p          p cuts the tail of s into these pieces
+use mathlib.Core.Bool.{false}
 use mathlib.Core.List.{List, [], _∷_}
 use mathlib.Core.Path.{_≡_}
 use Prim.Native.Nat.{ℕ, _-_, _%_, _≤_}
 use lib.ListN.{length, take, drop}
+use Rattle.nets.specs.Networks.{netWords}
 use Rattle.setfile_format.specs.Files.{readFile}
 use Rattle.setfile.specs.Loading.{loadRules, fileList}
 use Rattle.lines.specs.Reading.{allRead}
 use Rattle.lines.specs.declared.Reader.{Reader}
 use Rattle.calls_bytes.specs.declared.Call.{Call}
 use Rattle.calls_bytes.specs.declared.Reply.{Reply}
-use Rattle.calls_replies.specs.Replies.{twoReply, relisted}
+use Rattle.calls_replies.specs.Replies.{reply, relisted}
 
 abbrev pub tailOf : List ℕ → List ℕ
 tailOf s = drop 35 s
@@ -27,7 +29,7 @@ abbrev pub piecesOf : Call → List ℕ → List (List ℕ)
 piecesOf c s = take (c .b) (tailOf s) ∷ drop (c .b) (tailOf s) ∷ []
 
 abbrev pub readerReply : Reader → Reply
-readerReply r = twoReply (r .no, (r .number % 4294967296, r .len))
+readerReply r = reply (r .no) false (r .number % 4294967296) (r .len) (netWords 0 0 (r .trimmed) 0)
 
 unfoldable pub linesOf : List ℕ → Call → List ℕ → Reply × List ℕ
 linesOf w c s = let x = allRead w (piecesOf c s) in (readerReply (x .0), x .1)

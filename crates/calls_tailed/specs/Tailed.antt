@@ -8,18 +8,19 @@ use mathlib.Core.Path.{_≡_}
 use Prim.Native.Nat.{ℕ, _%_}
 use lib.Dec.{eqb}
 use lib.ListN.{length, replicate}
+use Rattle.nets.specs.Networks.{hasBitPast}
 use Rattle.nets.specs.Refusals.{answered}
 use Rattle.nodes.specs.Words.{put}
 use Rattle.pool_state.specs.Decode.{decode}
 use Rattle.listing.specs.Calls.{listRule, rowsAfter}
 use Rattle.setfile.specs.Calls.{saveRule, bytesAfter}
 use Rattle.text.specs.Ipv4.{lineOf}
-use Rattle.text.specs.Answers.{lineRefusal, over}
+use Rattle.text.specs.Answers.{noneWritten, lineRefusal, over}
 use Rattle.calls_bytes.specs.Bytes.{u64Bytes}
 use Rattle.calls_bytes.specs.Tails.{rowBytes}
 use Rattle.calls_bytes.specs.declared.Call.{Call}
 use Rattle.calls_bytes.specs.declared.Reply.{Reply}
-use Rattle.calls_replies.specs.Replies.{oneReply}
+use Rattle.calls_replies.specs.Replies.{oneReply, writeReply}
 
 unfoldable pub rowsOf : List ℕ → Call → List ℕ
 rowsOf w c = rowsAfter (replicate (c .b) (c .c)) (decode w) (c .a)
@@ -35,7 +36,7 @@ unfoldable pub lineBytes : Call → List ℕ
 lineBytes c = cond (eqb (lineRefusal (c .net) (c .b)) 0) (over (lineOf (c .net)) (lentBytes c)) (lentBytes c)
 
 unfoldable pub lineReply : Call → Reply
-lineReply c = oneReply (answered (lineRefusal (c .net) (c .b)) 0 (length (lineOf (c .net))))
+lineReply c = writeReply (answered (lineRefusal (c .net) (c .b)) noneWritten (length (lineOf (c .net)), hasBitPast (c .net)))
 
 unfoldable pub saveBytes : List ℕ → Call → List ℕ
 saveBytes w c = bytesAfter (lentBytes c) (decode w) (c .a)

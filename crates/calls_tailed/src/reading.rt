@@ -7,8 +7,8 @@ use calls_bytes::Call;
 use calls_bytes::Reply;
 use calls_bytes::records::CALL;
 use calls_replies::of_answer;
-use calls_replies::of_numbers;
 use lines::Reader;
+use nets::Net;
 
 // Loads the file of the tail.
 pub fn load(pool: &mut [u32], c: Call, s: &[u8]) -> Reply
@@ -35,7 +35,18 @@ fn of_reader(r: Reader) -> Reply
     requires { ⌜ r .len ≤ 19 ⌝ }
     ensures { λ a. ⌜ a ≡ readerReply r ⌝ }
 {
-    of_numbers(r.no, (r.number % 4294967296) as u32, r.len as u32)
+    Reply {
+        no: r.no,
+        flag: false,
+        x: (r.number % 4294967296) as u32,
+        y: r.len as u32,
+        net: Net {
+            family: 0,
+            hi: 0,
+            lo: r.trimmed,
+            len: 0,
+        },
+    }
 }
 
 // Adds the networks of the tail's lines, which come in two pieces.

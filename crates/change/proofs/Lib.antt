@@ -1,5 +1,6 @@
--- Why: the calls with a network, what their contracts say, adding to a set that is found, and simplifying.
+-- Why: the calls with a network, the report, what their contracts say, adding to a set that is found, and simplifying.
 pub mod Calls
+pub mod Reported
 pub mod Outcomes
 pub mod Growing
 pub mod Simplified

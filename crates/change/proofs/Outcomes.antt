@@ -11,21 +11,20 @@ use Rattle.nets.proofs.TrieOf.{isList-add}
 use Rattle.nets.proofs.Laws.{isList-remove}
 use Rattle.pool_state.specs.States.{State, isState}
 use Rattle.pool_state.specs.Decode.{sound, decode}
-use Rattle.pool_state.specs.Rules.{answerAs}
 use Rattle.pool_state.specs.Changes.{listAt, netRules}
-use Rattle.pool_state.specs.declared.Answer.{Answer}
 use Rattle.pool_state.proofs.Claims.{isList-listAt}
 use Rattle.pool_state.proofs.Decoded.{decode-state}
-use Rattle.pool_state.proofs.Determined.{changed-one}
 use Rattle.pool_state.proofs.Leaves.{RelistLeaves, relist-leaves, netRules-within}
-use Rattle.change.specs.Calls.{listWith, listWithout, Added, Removed}
+use Rattle.change.specs.Calls.{listWith, listWithout, Added, Removed, notedAs, Reports}
+use Rattle.change.specs.declared.Noted.{Noted}
+use Rattle.change.proofs.Reported.{reports-one}
 
 -- One outcome.
-pub add-one : {w v u : List ℕ} {k : ℕ} {r x : Answer} (n : Net) → Added w k n (answerAs r) v → Added w k n (answerAs x) u → (r ≡ x) × (v ≡ u)
-add-one n h g = changed-one h g
+pub add-one : {w v u : List ℕ} {k : ℕ} {r x : Noted} (n : Net) → Reports n (Added w k n) (notedAs r) v → Reports n (Added w k n) (notedAs x) u → (r ≡ x) × (v ≡ u)
+add-one n h g = reports-one h g
 
-pub remove-one : {w v u : List ℕ} {k : ℕ} {r x : Answer} (n : Net) → Removed w k n (answerAs r) v → Removed w k n (answerAs x) u → (r ≡ x) × (v ≡ u)
-remove-one n h g = changed-one h g
+pub remove-one : {w v u : List ℕ} {k : ℕ} {r x : Noted} (n : Net) → Reports n (Removed w k n) (notedAs r) v → Reports n (Removed w k n) (notedAs x) u → (r ≡ x) × (v ≡ u)
+remove-one n h g = reports-one h g
 
 -- The list with the network is one.
 pub add-list : (n : Net) (S : State) (k : ℕ) → isState S ≡ true → firstNo (netRules n S) ≡ 0 → isList (width (S .family)) (listWith k n S) ≡ true

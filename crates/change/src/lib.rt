@@ -4,6 +4,8 @@ use adding::add_found;
 use calling::Asked;
 use calling::ask;
 use nets::Net;
+use nets::Refusal;
+use nets::has_bit_past;
 use pool_change::judging::judge;
 use pool_change::relinking::granted;
 use pool_change::relinking::shift_behind;
@@ -15,47 +17,54 @@ use pool_state::Seated;
 use pool_state::Verdict;
 use shrinking::shrink;
 ghost use Rattle.pool_state.specs.Rules.{answerAs};
-ghost use Rattle.change.specs.Calls.{Added, Removed};
+ghost use Rattle.change.specs.Calls.{Added, Removed, notedAs, Reports};
 ghost use Rattle.change.specs.Simplified.{Simplifies};
 
 pub mod adding;
 mod calling;
 mod shrinking;
 
+// What add and remove answer: the nodes of the set, and whether a set bit past the network's length was cut.
+pub enum Noted {
+    Granted(u32, bool),
+    Refused(Refusal),
+}
+
 // Adds a network to a set: where no member contains it, the members inside it go and it joins. Answers the nodes of the set.
-pub fn add(pool: &mut [u32], set: u32, net: Net) -> Answer
-    ensures { λ r. ⌜ Added (now (pool .entry)) set net (answerAs r) (now (pool .exit)) ⌝ }
+pub fn add(pool: &mut [u32], set: u32, net: Net) -> Noted
+    ensures { λ r. ⌜ Reports net (Added (now (pool .entry)) set net) (notedAs r) (now (pool .exit)) ⌝ }
 {
     let seated = seat_of(pool, set);
     match seated {
-        Seated::Refused(no) => Answer::Refused(no),
+        Seated::Refused(no) => Noted::Refused(no),
         Seated::At(found, _) => {
             let grown = add_found(pool, set, found, net);
             match grown {
-                Grown::Grew(then) => Answer::Granted(then.held),
-                Grown::Refused(no) => Answer::Refused(no),
+                Grown::Grew(then) => Noted::Granted(then.held, has_bit_past(net)),
+                Grown::Refused(no) => Noted::Refused(no),
             }
         }
     }
 }
 
 // Removes a network from a set: the members inside it go, and one that contains it gives way to the blocks beside the path. Answers the nodes of the set.
-pub fn remove(pool: &mut [u32], set: u32, net: Net) -> Answer
-    ensures { λ r. ⌜ Removed (now (pool .entry)) set net (answerAs r) (now (pool .exit)) ⌝ }
+pub fn remove(pool: &mut [u32], set: u32, net: Net) -> Noted
+    ensures { λ r. ⌜ Reports net (Removed (now (pool .entry)) set net) (notedAs r) (now (pool .exit)) ⌝ }
 {
     let asked = ask(pool, set, net);
     match asked {
-        Asked::Refused(no) => Answer::Refused(no),
+        Asked::Refused(no) => Noted::Refused(no),
         Asked::Go(found, s) => {
             let at = seat_in(pool, found);
             let n = trie_remove::remove_size(pool, at.base, at.first, at.end, s) as u32;
             let verdict = judge(pool, set, found, n);
             match verdict {
-                Verdict::No(no) => Answer::Refused(no),
+                Verdict::No(no) => Noted::Refused(no),
                 Verdict::Fits => {
                     let used = found.used as usize + 1;
                     trie_remove::remove(pool, at.base, at.first, at.first, at.end, used, s);
-                    granted(pool, set, found, n)
+                    granted(pool, set, found, n);
+                    Noted::Granted(n, has_bit_past(net))
                 }
             }
         }

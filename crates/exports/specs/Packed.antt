@@ -1,10 +1,12 @@
 -- Answers in one number: 2^32 times the number of the refusal, plus the value.
 --
---   packed, packedSteps       of a number and a value; or of whether there is a member, the lowest bit of the value, and the nodes that were read, the bits above it
+--   packed, packedHeld        of a number and a value; or of an answer of contains: whether there is a member, the lowest bit of the value, the nodes that were read,
+--                             the next eight, and whether a set bit past the length was cut, the one above them
 --   loadRule w k d            the answer of loading the bytes d into set k of a pool with the words w;  loadWords: the words that it leaves
 use mathlib.Core.Bool.{Bool, cond}
 use mathlib.Core.List.{List}
 use Prim.Native.Nat.{ℕ, _+_, _*_}
+use Rattle.lookup.specs.Rules.{Held}
 use Rattle.pool_state.specs.Decode.{decode}
 use Rattle.pool_state.specs.Changes.{changeRule, wordsAfter, relistRules, relistSet}
 use Rattle.setfile_format.specs.Files.{readFile}
@@ -13,8 +15,8 @@ use Rattle.setfile.specs.Loading.{loadRules, fileList}
 abbrev pub packed : ℕ × ℕ → ℕ
 packed a = 4294967296 * a .0 + a .1
 
-abbrev pub packedSteps : ℕ × (Bool × ℕ) → ℕ
-packedSteps a = packed (a .0, cond (a .1 .0) 1 0 + 2 * a .1 .1)
+abbrev pub packedHeld : ℕ × Held → ℕ
+packedHeld a = packed (a .0, cond (a .1 .0) 1 0 + 2 * a .1 .1 .0 + 512 * cond (a .1 .1 .1) 1 0)
 
 abbrev pub loadRule : List ℕ → ℕ → List ℕ → ℕ × ℕ
 loadRule w k d = changeRule (decode w) k (relistRules k (loadRules (readFile d) k) (λ S. fileList (readFile d))) (relistSet k (λ S. fileList (readFile d)))

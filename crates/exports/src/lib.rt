@@ -10,7 +10,7 @@ ghost use Rattle.pool_state.specs.Rules.{answerAs};
 ghost use Rattle.lookup.specs.Rules.{containsAs, containsRule};
 ghost use Rattle.listing.specs.Calls.{listRule, rowsAfter};
 ghost use Rattle.setfile.specs.Calls.{saveRule, bytesAfter};
-ghost use Rattle.exports.specs.Packed.{packed, packedSteps, loadRule, loadWords};
+ghost use Rattle.exports.specs.Packed.{packed, packedHeld, loadRule, loadWords};
 use lookup::Contained;
 use nets::Net;
 use nets::Refusal;
@@ -44,15 +44,17 @@ fn of_answer(a: Answer) -> u64
 }
 
 fn of_contained(a: Contained) -> u64
-    ensures { λ r. ⌜ r ≡ packedSteps (containsAs a) ⌝ }
+    ensures { λ r. ⌜ r ≡ packedHeld (containsAs a) ⌝ }
 {
     match a {
-        Contained::Is(flag, steps) => granted(one_if(flag) + 2 * steps as u32),
+        Contained::Is(flag, steps, trimmed) => {
+            granted(one_if(flag) + 2 * steps as u32 + 512 * one_if(trimmed))
+        },
         Contained::Refused(no) => refused(no),
     }
 }
 
-// Whether a member of a set contains the whole network, 1 or 0, plus twice the nodes that were read.
+// Whether a member of a set contains the whole network, 1 or 0, plus twice the nodes that were read, plus 512 where a set bit past the length was cut.
 #[no_mangle]
 pub extern "C" fn marlbrace_contains(
     pool: &[u32],
@@ -62,7 +64,7 @@ pub extern "C" fn marlbrace_contains(
     lo: u64,
     len: u8,
 ) -> u64
-    ensures { λ r. ⌜ r ≡ packedSteps (containsRule (now (pool .entry)) set (netWords family hi lo len)) ⌝ }
+    ensures { λ r. ⌜ r ≡ packedHeld (containsRule (now (pool .entry)) set (netWords family hi lo len)) ⌝ }
 {
     let net = Net {
         family,

@@ -1,20 +1,23 @@
 -- The contract of each changing call is the outcome that a history is made of. Assumes nothing.
+use mathlib.Core.Bool.{Bool}
 use mathlib.Core.List.{List}
 use Prim.Native.Nat.{ℕ}
 use Rattle.nets.specs.declared.Net.{Net}
-use Rattle.change.specs.Calls.{Added, Removed}
+use Rattle.change.specs.Calls.{Added, Removed, Reports}
 use Rattle.change.specs.Simplified.{Simplifies}
 use Rattle.combine.specs.Rules.{Merged, Intersected, Excluded}
 use Rattle.setfile.specs.Loading.{Loaded}
 use Rattle.histories.specs.Calls.{add, remove, simplify, merge, intersect, exclude, load, Outcome}
 
+-- of add and remove, their number and nodes; the report is no part of a history
+module _ {w v : List ℕ} {r : ℕ × (ℕ × Bool)} (k : ℕ) (n : Net) where
+  pub added : Reports n (Added w k n) r v → Outcome w (add k n) (r .0, r .1 .0) v
+  added h = h .changed
+
+  pub removed : Reports n (Removed w k n) r v → Outcome w (remove k n) (r .0, r .1 .0) v
+  removed h = h .changed
+
 module _ {w v : List ℕ} {r : ℕ × ℕ} (k : ℕ) where
-  pub added : (n : Net) → Added w k n r v → Outcome w (add k n) r v
-  added n h = h
-
-  pub removed : (n : Net) → Removed w k n r v → Outcome w (remove k n) r v
-  removed n h = h
-
   pub simplified : Simplifies w k r v → Outcome w (simplify k) r v
   simplified h = h
 

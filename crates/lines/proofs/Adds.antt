@@ -20,7 +20,7 @@ use Rattle.pool_state.specs.Changes.{setAt, listAt, setsWith, withSet, setWith}
 use Rattle.pool_state.proofs.Claims.{isState-size, isSize-is}
 use Rattle.pool_state.proofs.Decoded.{decode-state}
 use Rattle.pool_state.proofs.WithSet.{withSet-length, withSet-list, withSet-other}
-use Rattle.lines.specs.Lines.{lineFeed, addNo, addWords, lineNo, wordsWith, Result, taken, withNets, netsOf, withLines}
+use Rattle.lines.specs.Lines.{lineFeed, addNo, addWords, lineNo, trimmedIn, wordsWith, Result, taken, withNets, netsOf, withLines}
 use Rattle.lines.specs.Reading.{kept, pushed, ended, stepped, passed, closed, checked, fed, finished}
 use Rattle.lines.specs.declared.Reader.{Reader}
 use Rattle.lines.proofs.Taking.{wordsWith-refused}
@@ -90,28 +90,28 @@ unfolding finished
 finished-adds w r = closed-adds w (checked w r)
 
 -- The lines of an input: those before the first that is refused, as many as its number says, are taken.
-pub taken-from : (ls : List (List ℕ)) (k : ℕ) (w : List ℕ) → k ≤ taken k w ls .number
+pub taken-from : (ls : List (List ℕ)) (k c : ℕ) (w : List ℕ) → k ≤ taken k c w ls .number
 unfolding taken
-taken-from [] k w = omega arith
-taken-from (l ∷ ls) k w = go (eqb (lineNo w l) 0) (taken (k + 1) (wordsWith w l) ls) (taken-from ls (k + 1) (wordsWith w l))
+taken-from [] k c w = omega arith
+taken-from (l ∷ ls) k c w = go (eqb (lineNo w l) 0) (taken (k + 1) (c + trimmedIn l) (wordsWith w l) ls) (taken-from ls (k + 1) (c + trimmedIn l) (wordsWith w l))
   where
-    go : (b : Bool) (x : Result) → k + 1 ≤ x .number → k ≤ cond b x (record { number = k; no = lineNo w l; words = w }) .number
+    go : (b : Bool) (x : Result) → k + 1 ≤ x .number → k ≤ cond b x (record { number = k; trimmed = c; no = lineNo w l; words = w }) .number
     go true x h = omega arith
     go false x h = omega arith
 
-pub taken-adds : (ls : List (List ℕ)) (k : ℕ) (w : List ℕ) → Adds w (netsOf (take (taken k w ls .number - k) ls)) (taken k w ls .words)
+pub taken-adds : (ls : List (List ℕ)) (k c : ℕ) (w : List ℕ) → Adds w (netsOf (take (taken k c w ls .number - k) ls)) (taken k c w ls .words)
 unfolding taken
-taken-adds [] k w = go (k - k)
+taken-adds [] k c w = go (k - k)
   where
     go : (m : ℕ) → Adds w (netsOf (take m [])) w
     go zero = refl
     go (suc m) = refl
-taken-adds (l ∷ ls) k w =
-    let x = taken (k + 1) (wordsWith w l) ls in
-    go (eqb (lineNo w l) 0) refl x (taken-from ls (k + 1) (wordsWith w l)) (taken-adds ls (k + 1) (wordsWith w l))
+taken-adds (l ∷ ls) k c w =
+    let x = taken (k + 1) (c + trimmedIn l) (wordsWith w l) ls in
+    go (eqb (lineNo w l) 0) refl x (taken-from ls (k + 1) (c + trimmedIn l) (wordsWith w l)) (taken-adds ls (k + 1) (c + trimmedIn l) (wordsWith w l))
   where
     go : (b : Bool) → eqb (lineNo w l) 0 ≡ b → (x : Result) → k + 1 ≤ x .number → Adds (wordsWith w l) (netsOf (take (x .number - (k + 1)) ls)) (x .words)
-        → let y = cond b x (record { number = k; no = lineNo w l; words = w }) in Adds w (netsOf (take (y .number - k) (l ∷ ls))) (y .words)
+        → let y = cond b x (record { number = k; trimmed = c; no = lineNo w l; words = w }) in Adds w (netsOf (take (y .number - k) (l ∷ ls))) (y .words)
     go true q x le h =
         let e = line-added w l (eqb-true (lineNo w l) 0 q) in
         let m : x .number - k ≡ suc (x .number - (k + 1)) = omega arith in
@@ -119,15 +119,36 @@ taken-adds (l ∷ ls) k w =
     go false q x le h = let m : k - k ≡ 0 = omega arith in rw m refl
 
 -- all of them where none is refused
-pub taken-all : (ls : List (List ℕ)) (k : ℕ) (w : List ℕ) → taken k w ls .no ≡ 0 → taken k w ls .number ≡ k + length ls
+pub taken-all : (ls : List (List ℕ)) (k c : ℕ) (w : List ℕ) → taken k c w ls .no ≡ 0 → taken k c w ls .number ≡ k + length ls
 unfolding taken
-taken-all [] k w e = omega arith
-taken-all (l ∷ ls) k w e = go (eqb (lineNo w l) 0) refl (taken (k + 1) (wordsWith w l) ls) (taken-all ls (k + 1) (wordsWith w l)) e
+taken-all [] k c w e = omega arith
+taken-all (l ∷ ls) k c w e = go (eqb (lineNo w l) 0) refl (taken (k + 1) (c + trimmedIn l) (wordsWith w l) ls) (taken-all ls (k + 1) (c + trimmedIn l) (wordsWith w l)) e
   where
     go : (b : Bool) → eqb (lineNo w l) 0 ≡ b → (x : Result) → (x .no ≡ 0 → x .number ≡ k + 1 + length ls)
-        → cond b x (record { number = k; no = lineNo w l; words = w }) .no ≡ 0 → cond b x (record { number = k; no = lineNo w l; words = w }) .number ≡ k + suc (length ls)
+        → cond b x (record { number = k; trimmed = c; no = lineNo w l; words = w }) .no ≡ 0 → cond b x (record { number = k; trimmed = c; no = lineNo w l; words = w }) .number ≡ k + suc (length ls)
     go true q x h z = omega (arith, h z)
     go false q x h z = absurd (eqb-false (lineNo w l) 0 q z)
+
+-- and as many of them were trimmed as report it
+unfoldable pub trimmedOf : List (List ℕ) → ℕ
+trimmedOf [] = 0
+trimmedOf (l ∷ ls) = trimmedIn l + trimmedOf ls
+
+pub taken-trimmed : (ls : List (List ℕ)) (k c : ℕ) (w : List ℕ) → taken k c w ls .trimmed ≡ c + trimmedOf (take (taken k c w ls .number - k) ls)
+unfolding taken trimmedOf
+taken-trimmed [] k c w = go (k - k)
+  where
+    go : (m : ℕ) → c ≡ c + trimmedOf (take m [])
+    go zero = omega arith
+    go (suc m) = omega arith
+taken-trimmed (l ∷ ls) k c w =
+    let x = taken (k + 1) (c + trimmedIn l) (wordsWith w l) ls in
+    go (eqb (lineNo w l) 0) x (taken-from ls (k + 1) (c + trimmedIn l) (wordsWith w l)) (taken-trimmed ls (k + 1) (c + trimmedIn l) (wordsWith w l))
+  where
+    go : (b : Bool) (x : Result) → k + 1 ≤ x .number → x .trimmed ≡ c + trimmedIn l + trimmedOf (take (x .number - (k + 1)) ls)
+        → let y = cond b x (record { number = k; trimmed = c; no = lineNo w l; words = w }) in y .trimmed ≡ c + trimmedOf (take (y .number - k) (l ∷ ls))
+    go true x le h = let m : x .number - k ≡ suc (x .number - (k + 1)) = omega arith in rw m (omega (arith, h))
+    go false x le h = let m : k - k ≡ 0 = omega arith in rw m (omega arith)
 
 -- The state with the list of a set written again, and with another list over another.
 abbrev relisted : State → ℕ → List Bits → State
@@ -177,5 +198,5 @@ module _ (w : List ℕ) (S : State) (d : decode w ≡ sound S) where
   pub finished-holds : (r : Reader) → (ns : List Net) × Holds S ns (finished w r .1)
   finished-holds r = let x = finished-adds w r in (x .0, adds-hold (x .0) (finished w r .1) (x .1))
 
-  pub taken-holds : (ls : List (List ℕ)) (k : ℕ) → Holds S (netsOf (take (taken k w ls .number - k) ls)) (taken k w ls .words)
-  taken-holds ls k = adds-hold (netsOf (take (taken k w ls .number - k) ls)) (taken k w ls .words) (taken-adds ls k w)
+  pub taken-holds : (ls : List (List ℕ)) (k c : ℕ) → Holds S (netsOf (take (taken k c w ls .number - k) ls)) (taken k c w ls .words)
+  taken-holds ls k c = adds-hold (netsOf (take (taken k c w ls .number - k) ls)) (taken k c w ls .words) (taken-adds ls k c w)

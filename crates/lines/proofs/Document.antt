@@ -7,10 +7,11 @@ use Prim.Native.String.{String}
 use Rattle.nets.specs.Bits.{Bits, bits, before}
 use Rattle.nets.specs.Tries.{size, levels, listOf, insertT, trieOf, simplifyT}
 use Rattle.nets.specs.Lists.{nodesL, addL, simplifyL}
-use Rattle.nets.specs.Networks.{netBits, width}
+use Rattle.nets.specs.Networks.{netBits, hasBitPast, width}
 use Rattle.text.specs.Decimal.{isDigit, allDigits, decimalFrom, plain, isNumber, leading, behind, readNumber}
+use Rattle.text.specs.Answers.{enteredLine}
 use Rattle.text.specs.Ipv4.{address, ipv4, readNext, readQuad, readLine}
-use Rattle.lines.specs.Lines.{linesOf, withNets, withLines}
+use Rattle.lines.specs.Lines.{linesOf, trimmedIn, withNets, withLines}
 
 abbrev bytes : String → List ℕ
 bytes String.[] = []
@@ -30,3 +31,8 @@ document-lines = refl
 pub document-list : (simplifyL (withLines [] (linesOf input)) ≡ printed) × (nodesL printed ≡ 32)
 unfolding linesOf withNets isDigit allDigits decimalFrom plain isNumber leading behind readNumber readNext readQuad readLine netBits width bits before size levels listOf insertT trieOf simplifyT addL simplifyL nodesL
 document-list = (refl, refl)
+
+-- one of the three lines has a set bit past its length
+pub document-trimmed : map trimmedIn (linesOf input) ≡ 0 ∷ 0 ∷ 1 ∷ []
+unfolding linesOf trimmedIn enteredLine isDigit allDigits decimalFrom plain isNumber leading behind readNumber readNext readQuad readLine hasBitPast width
+document-trimmed = refl

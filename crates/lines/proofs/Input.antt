@@ -9,13 +9,13 @@ use lib.Dec.{eqb, ltb}
 use lib.ListN.{length, take, set, length-set}
 use borrow.Author.Tests.{eqb-true, eqb-false, eq-eqb, ne-eqb}
 use Rattle.pool_state.specs.Decode.{Decoded, damaged, sound, decode}
-use Rattle.lines.specs.Lines.{lineFeed, linesOf, lineNo, wordsWith, Result, taken, poolNo, allTaken}
+use Rattle.lines.specs.Lines.{lineFeed, linesOf, lineNo, trimmedIn, wordsWith, Result, taken, poolNo, allTaken}
 use Rattle.lines.specs.Reading.{places, begun, kept, pushed, stopped, ended, stepped, passed, closed, checked, fed, finished, fedAll, allRead}
 use Rattle.lines.specs.declared.Reader.{Reader}
 use Rattle.lines.proofs.Steps.{passed-refused, closed-refused, closed-none, closed-line, checked-refused, checked-sound, checked-damaged, two}
 use Rattle.lines.proofs.Lists.{poolNo-line}
 use Rattle.lines.proofs.Taking.{wordsWith-refused}
-use Rattle.lines.proofs.Keeping.{kept-pushed, take-more, lineNo-kept, wordsWith-kept}
+use Rattle.lines.proofs.Keeping.{kept-pushed, take-more, lineNo-kept, trimmedIn-kept, wordsWith-kept}
 use Rattle.lines.proofs.Cutting.{Plain, plain-more, linesOf-feed, linesOf-rest}
 
 -- Pieces passed one after the other are passed as one.
@@ -77,41 +77,44 @@ pieces-one (p ∷ ps) w r =
     let c = checked-fit (x .1) (x .0) (fit-passed p w (checked w r) (fit-checked w r)) in
     pieces-one ps (x .1) (x .0) ∙ ap (λ q. closing (passed (x .1) q (flatten ps))) c ∙ ap closing (sym (passed-append p (flatten ps) w (checked w r)))
 
--- The reader is amid line k, of which t has been read.
-record Amid (r : Reader) (k : ℕ) (t : List ℕ) : Type 0 where
+-- The reader is amid line k, of which t has been read, and c lines before it were trimmed.
+record Amid (r : Reader) (k c : ℕ) (t : List ℕ) : Type 0 where
   going : r .no ≡ 0
   wide : length (r .line) ≡ places
   line : kept r ≡ take places t
   number : r .number ≡ k % 2 ^ 64
+  trimmed : r .trimmed ≡ c % 2 ^ 64
 
 -- What a reading comes to. The reader's numbers go on from 0 behind the largest of 64 bits, which no input reaches.
 pub record Comes (x : Reader × List ℕ) (o : Result) : Type 0 where
   pub number : x .0 .number ≡ o .number % 2 ^ 64
+  pub trimmed : x .0 .trimmed ≡ o .trimmed % 2 ^ 64
   pub no : x .0 .no ≡ o .no
   pub words : x .1 ≡ o .words
 
 -- A byte of the line.
-pushed-keeps : (r : Reader) (b : ℕ) → (pushed r b .no ≡ r .no) × (pushed r b .number ≡ r .number) × (length (pushed r b .line) ≡ length (r .line))
+pushed-keeps : (r : Reader) (b : ℕ) → (pushed r b .no ≡ r .no) × (pushed r b .number ≡ r .number) × (pushed r b .trimmed ≡ r .trimmed) × (length (pushed r b .line) ≡ length (r .line))
 unfolding pushed
 pushed-keeps r b = go (ltb (r .len) places)
   where
-    go : (c : Bool) → let p = cond c (record { line = set (r .line) (r .len) b; len = r .len + 1; number = r .number; no = r .no }) r in
-        (p .no ≡ r .no) × (p .number ≡ r .number) × (length (p .line) ≡ length (r .line))
-    go true = (refl, refl, length-set (r .line) (r .len) b)
-    go false = (refl, refl, refl)
+    go : (c : Bool) → let p = cond c (record { line = set (r .line) (r .len) b; len = r .len + 1; number = r .number; trimmed = r .trimmed; no = r .no }) r in
+        (p .no ≡ r .no) × (p .number ≡ r .number) × (p .trimmed ≡ r .trimmed) × (length (p .line) ≡ length (r .line))
+    go true = (refl, refl, refl, length-set (r .line) (r .len) b)
+    go false = (refl, refl, refl, refl)
 
-amid-pushed : (r : Reader) (k : ℕ) (t : List ℕ) (b : ℕ) → Amid r k t → Amid (pushed r b) k (t ++ (b ∷ []))
-amid-pushed r k t b a =
+amid-pushed : (r : Reader) (k c : ℕ) (t : List ℕ) (b : ℕ) → Amid r k c t → Amid (pushed r b) k c (t ++ (b ∷ []))
+amid-pushed r k c t b a =
     let p = pushed-keeps r b in
     record {
       going = p .0 ∙ a .going;
-      wide = p .2 ∙ a .wide;
+      wide = p .3 ∙ a .wide;
       line = kept-pushed r b (a .wide) ∙ ap (λ l. take places (l ++ (b ∷ []))) (a .line) ∙ take-more places t b;
       number = p .1 ∙ a .number;
+      trimmed = p .2 ∙ a .trimmed;
     }
 
 -- The end of the line.
-module _ (w : List ℕ) (r : Reader) (k : ℕ) (t : List ℕ) (a : Amid r k t) where
+module _ (w : List ℕ) (r : Reader) (k c : ℕ) (t : List ℕ) (a : Amid r k c t) where
   no-ended : lineNo w (kept r) ≡ lineNo w t
   no-ended = ap (lineNo w) (a .line) ∙ lineNo-kept w t
 
@@ -119,15 +122,25 @@ module _ (w : List ℕ) (r : Reader) (k : ℕ) (t : List ℕ) (a : Amid r k t) w
   unfolding ended
   words-ended = ap (wordsWith w) (a .line) ∙ wordsWith-kept w t
 
-  amid-added : lineNo w t ≡ 0 → Amid (ended w r .0) (k + 1) []
+  trimmed-ended : trimmedIn (kept r) ≡ trimmedIn t
+  trimmed-ended = ap trimmedIn (a .line) ∙ trimmedIn-kept t
+
+  amid-added : lineNo w t ≡ 0 → Amid (ended w r .0) (k + 1) (c + trimmedIn t) []
   unfolding ended
   amid-added e =
-      rw (no-ended ∙ e) (record { going = refl; wide = a .wide; line = refl; number = ap (λ n. (n + 1) % 2 ^ 64) (a .number) ∙ mod-add-mod k (2 ^ 64) 1 })
+      rw (no-ended ∙ e, trimmed-ended)
+      (record {
+        going = refl;
+        wide = a .wide;
+        line = refl;
+        number = ap (λ n. (n + 1) % 2 ^ 64) (a .number) ∙ mod-add-mod k (2 ^ 64) 1;
+        trimmed = ap (λ n. (n + trimmedIn t) % 2 ^ 64) (a .trimmed) ∙ mod-add-mod c (2 ^ 64) (trimmedIn t);
+      })
 
-  comes-refused : (lineNo w t ≡ 0 → ⊥) → Comes (ended w r) (record { number = k; no = lineNo w t; words = w })
+  comes-refused : (lineNo w t ≡ 0 → ⊥) → Comes (ended w r) (record { number = k; trimmed = c; no = lineNo w t; words = w })
   unfolding ended
   comes-refused ne =
-      rw (no-ended, ne-eqb (lineNo w t) 0 ne) (record { number = a .number; no = refl; words = words-ended ∙ wordsWith-refused w t ne })
+      rw (no-ended, ne-eqb (lineNo w t) 0 ne) (record { number = a .number; trimmed = a .trimmed; no = refl; words = words-ended ∙ wordsWith-refused w t ne })
 
 -- The end of the input.
 take-none : (n : ℕ) (l : List ℕ) → 0 < length l → take n l ≡ [] → n ≡ 0
@@ -135,66 +148,68 @@ take-none zero l lt e = refl
 take-none (suc n) [] lt e = absurd (omega arith)
 take-none (suc n) (x ∷ l) lt e = absurd (cons≢nil e)
 
-comes-line : (w : List ℕ) (r : Reader) (k : ℕ) (t : List ℕ) → Amid r k t → Comes (ended w r) (taken k w (t ∷ []))
+comes-line : (w : List ℕ) (r : Reader) (k c : ℕ) (t : List ℕ) → Amid r k c t → Comes (ended w r) (taken k c w (t ∷ []))
 unfolding taken
-comes-line w r k t a = go (eqb (lineNo w t) 0) refl
+comes-line w r k c t a = go (eqb (lineNo w t) 0) refl
   where
-    go : (c : Bool) → eqb (lineNo w t) 0 ≡ c
-        → Comes (ended w r) (cond c (record { number = k + 1; no = 0; words = wordsWith w t }) (record { number = k; no = lineNo w t; words = w }))
-    go true e = let b = amid-added w r k t a (eqb-true (lineNo w t) 0 e) in record { number = b .number; no = b .going; words = words-ended w r k t a }
-    go false e = comes-refused w r k t a (eqb-false (lineNo w t) 0 e)
+    go : (b : Bool) → eqb (lineNo w t) 0 ≡ b
+        → Comes (ended w r) (cond b (record { number = k + 1; trimmed = c + trimmedIn t; no = 0; words = wordsWith w t }) (record { number = k; trimmed = c; no = lineNo w t; words = w }))
+    go true e = let b = amid-added w r k c t a (eqb-true (lineNo w t) 0 e) in record { number = b .number; trimmed = b .trimmed; no = b .going; words = words-ended w r k c t a }
+    go false e = comes-refused w r k c t a (eqb-false (lineNo w t) 0 e)
 
-comes-end : (w : List ℕ) (r : Reader) (k : ℕ) (t : List ℕ) → Amid r k t → Plain t → Comes (closed w r) (taken k w (linesOf t))
+comes-end : (w : List ℕ) (r : Reader) (k c : ℕ) (t : List ℕ) → Amid r k c t → Plain t → Comes (closed w r) (taken k c w (linesOf t))
 unfolding taken linesOf
-comes-end w r k [] a p =
+comes-end w r k c [] a p =
     let z = take-none (r .len) (r .line) (omega (arith, a .wide)) (a .line) in
-    rw (← closed-none w r (a .going) z) (record { number = a .number; no = a .going; words = refl })
-comes-end w r k (c ∷ t) a p =
-    rw (← closed-line w r (a .going) (λ z. nil≢cons (rw z at (a .line))) refl) (rw (linesOf-rest c t p) (comes-line w r k (c ∷ t) a))
+    rw (← closed-none w r (a .going) z) (record { number = a .number; trimmed = a .trimmed; no = a .going; words = refl })
+comes-end w r k c (b ∷ t) a p =
+    rw (← closed-line w r (a .going) (λ z. nil≢cons (rw z at (a .line))) refl) (rw (linesOf-rest b t p) (comes-line w r k c (b ∷ t) a))
 
 -- One byte more of the input, if the rest of it is read so.
-module _ (b : ℕ) (s w : List ℕ) (r : Reader) (k : ℕ) (t : List ℕ) (a : Amid r k t) (p : Plain t)
-    (rest : (w : List ℕ) (r : Reader) (k : ℕ) (t : List ℕ) → Amid r k t → Plain t → Comes (closing (passed w r s)) (taken k w (linesOf (t ++ s)))) where
-  comes-feed : Comes (let x = ended w r in closing (passed (x .1) (x .0) s)) (taken k w (t ∷ linesOf s))
+module _ (b : ℕ) (s w : List ℕ) (r : Reader) (k c : ℕ) (t : List ℕ) (a : Amid r k c t) (p : Plain t)
+    (rest : (w : List ℕ) (r : Reader) (k c : ℕ) (t : List ℕ) → Amid r k c t → Plain t → Comes (closing (passed w r s)) (taken k c w (linesOf (t ++ s)))) where
+  comes-feed : Comes (let x = ended w r in closing (passed (x .1) (x .0) s)) (taken k c w (t ∷ linesOf s))
   unfolding taken
   comes-feed = go (eqb (lineNo w t) 0) refl
     where
-      go : (c : Bool) → eqb (lineNo w t) 0 ≡ c
-          → Comes (let x = ended w r in closing (passed (x .1) (x .0) s)) (cond c (taken (k + 1) (wordsWith w t) (linesOf s)) (record { number = k; no = lineNo w t; words = w }))
-      go true e = rw (words-ended w r k t a) (rest (wordsWith w t) (ended w r .0) (k + 1) [] (amid-added w r k t a (eqb-true (lineNo w t) 0 e)) tt)
+      go : (b : Bool) → eqb (lineNo w t) 0 ≡ b
+          → Comes (let x = ended w r in closing (passed (x .1) (x .0) s))
+          (cond b (taken (k + 1) (c + trimmedIn t) (wordsWith w t) (linesOf s)) (record { number = k; trimmed = c; no = lineNo w t; words = w }))
+      go true e =
+          rw (words-ended w r k c t a) (rest (wordsWith w t) (ended w r .0) (k + 1) (c + trimmedIn t) [] (amid-added w r k c t a (eqb-true (lineNo w t) 0 e)) tt)
       go false e =
-          let h = comes-refused w r k t a (eqb-false (lineNo w t) 0 e) in
+          let h = comes-refused w r k c t a (eqb-false (lineNo w t) 0 e) in
           let ne : ended w r .0 .no ≡ 0 → ⊥ = λ z. eqb-false (lineNo w t) 0 e (sym (h .no) ∙ z) in
           rw (← passed-refused (ended w r .1) (ended w r .0) s ne, ← closed-refused (ended w r .1) (ended w r .0) ne) h
 
-  comes-byte : Comes (closing (passed w r (b ∷ s))) (taken k w (linesOf (t ++ (b ∷ s))))
+  comes-byte : Comes (closing (passed w r (b ∷ s))) (taken k c w (linesOf (t ++ (b ∷ s))))
   unfolding passed
   comes-byte = rw (eq-eqb (r .no) 0 (a .going)) (go (eqb b lineFeed) refl)
     where
-      go : (c : Bool) → eqb b lineFeed ≡ c
-          → Comes (let x = cond c (ended w r) (pushed r b, w) in closing (passed (x .1) (x .0) s)) (taken k w (linesOf (t ++ (b ∷ s))))
+      go : (d : Bool) → eqb b lineFeed ≡ d
+          → Comes (let x = cond d (ended w r) (pushed r b, w) in closing (passed (x .1) (x .0) s)) (taken k c w (linesOf (t ++ (b ∷ s))))
       go true e = rw (eqb-true b lineFeed e, linesOf-feed t s p) comes-feed
-      go false e = rw (append-assoc t (b ∷ []) s) at (rest w (pushed r b) k (t ++ (b ∷ [])) (amid-pushed r k t b a) (plain-more t b p e))
+      go false e = rw (append-assoc t (b ∷ []) s) at (rest w (pushed r b) k c (t ++ (b ∷ [])) (amid-pushed r k c t b a) (plain-more t b p e))
 
-comes : (s w : List ℕ) (r : Reader) (k : ℕ) (t : List ℕ) → Amid r k t → Plain t → Comes (closing (passed w r s)) (taken k w (linesOf (t ++ s)))
+comes : (s w : List ℕ) (r : Reader) (k c : ℕ) (t : List ℕ) → Amid r k c t → Plain t → Comes (closing (passed w r s)) (taken k c w (linesOf (t ++ s)))
 unfolding passed
-comes [] w r k t a p = rw (append-nil t) (comes-end w r k t a p)
-comes (b ∷ s) w r k t a p = comes-byte b s w r k t a p (comes s)
+comes [] w r k c t a p = rw (append-nil t) (comes-end w r k c t a p)
+comes (b ∷ s) w r k c t a p = comes-byte b s w r k c t a p (comes s)
 
 -- Whatever the pieces, the reading comes to what the lines of the whole input come to; on damaged words to 2.
-begun-amid : Amid begun 1 []
-begun-amid = record { going = refl; wide = refl; line = refl; number = refl }
+begun-amid : Amid begun 1 0 []
+begun-amid = record { going = refl; wide = refl; line = refl; number = refl; trimmed = refl }
 
 pub input-read : (w : List ℕ) (ps : List (List ℕ)) → Comes (allRead w ps) (allTaken w (linesOf (flatten ps)))
 unfolding allTaken
 input-read w ps = rw (pieces-one ps w begun) (go (decode w) refl)
   where
     go : (d : Decoded) → decode w ≡ d
-        → Comes (closing (passed w (checked w begun) (flatten ps))) (let x = poolNo d in cond (eqb x 0) (taken 1 w (linesOf (flatten ps))) (record { number = 1; no = x; words = w }))
+        → Comes (closing (passed w (checked w begun) (flatten ps))) (let x = poolNo d in cond (eqb x 0) (taken 1 0 w (linesOf (flatten ps))) (record { number = 1; trimmed = 0; no = x; words = w }))
     go damaged e =
         let q = stopped begun 2 in
-        rw (checked-damaged w begun refl (ap poolNo e), ← passed-refused w q (flatten ps) two, ← closed-refused w q two) (record { number = refl; no = refl; words = refl })
-    go (sound S) e = rw (checked-sound w begun refl (ap poolNo e)) (comes (flatten ps) w begun 1 [] begun-amid tt)
+        rw (checked-damaged w begun refl (ap poolNo e), ← passed-refused w q (flatten ps) two, ← closed-refused w q two) (record { number = refl; trimmed = refl; no = refl; words = refl })
+    go (sound S) e = rw (checked-sound w begun refl (ap poolNo e)) (comes (flatten ps) w begun 1 0 [] begun-amid tt)
 
 -- Two outcomes that the contract of feed allows are equal, and so for finish.
 pub feed-determined : (w : List ℕ) (r : Reader) (p : List ℕ) {q s : Reader} {v u : List ℕ} → (q, v) ≡ fed w r p → (s, u) ≡ fed w r p → (q ≡ s) × (v ≡ u)

@@ -10,8 +10,9 @@ use lib.ListN.{length, take, set, length-append}
 use lib.Seq.{take-all, take-suc-set, take-append-le, length-take-le}
 use borrow.Author.Tests.{leb-true, leb-false, ltb-true, ltb-false}
 use Rattle.text.specs.Ipv4.{readLine}
+use Rattle.text.specs.Answers.{enteredLine}
 use Rattle.text.proofs.Grammar.{readLine-long}
-use Rattle.lines.specs.Lines.{lineNo, wordsWith}
+use Rattle.lines.specs.Lines.{lineNo, trimmedIn, wordsWith}
 use Rattle.lines.specs.Reading.{places, kept, pushed}
 use Rattle.lines.specs.declared.Reader.{Reader}
 
@@ -29,7 +30,7 @@ unfolding pushed
 kept-pushed r b e = go (ltb (r .len) places) refl
   where
     go : (t : Bool) → ltb (r .len) places ≡ t
-        → kept (cond t (record { line = set (r .line) (r .len) b; len = r .len + 1; number = r .number; no = r .no }) r) ≡ take places (kept r ++ (b ∷ []))
+        → kept (cond t (record { line = set (r .line) (r .len) b; len = r .len + 1; number = r .number; trimmed = r .trimmed; no = r .no }) r) ≡ take places (kept r ++ (b ∷ []))
     go true q = push-room (r .line) (r .len) b e (ltb-true (r .len) places q)
     go false q = push-full (r .line) (r .len) b e (ltb-false (r .len) places q)
 
@@ -57,6 +58,10 @@ readLine-kept t = go (leb (length t) places) refl
 pub lineNo-kept : (w t : List ℕ) → lineNo w (take places t) ≡ lineNo w t
 unfolding lineNo
 lineNo-kept w t = rw (readLine-kept t)
+
+pub trimmedIn-kept : (t : List ℕ) → trimmedIn (take places t) ≡ trimmedIn t
+unfolding trimmedIn enteredLine
+trimmedIn-kept t = rw (readLine-kept t)
 
 pub wordsWith-kept : (w t : List ℕ) → wordsWith w (take places t) ≡ wordsWith w t
 unfolding wordsWith

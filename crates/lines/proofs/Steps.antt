@@ -1,6 +1,6 @@
 -- The returns of the calls, by the tests on the way to each; and the loop over a piece: what is left of it completes what is passed. Assumes nothing.
 use mathlib.Core.List.{List, [], _∷_}
-use mathlib.Core.Bool.{true, false}
+use mathlib.Core.Bool.{true, false, cond}
 use mathlib.Core.Path.{_≡_, refl, ap, sym, _∙_}
 use Prim.Native.Nat.{ℕ, suc, _+_, _%_, _^_, _<_}
 use native.Mathlib.Numerals.{add-one}
@@ -13,7 +13,7 @@ use Rattle.pool_state.specs.Rules.{surveyOf}
 use Rattle.pool_state.specs.Steps.{Surveyed}
 use Rattle.pool_state.specs.declared.Survey.{Survey}
 use Rattle.pool_state.proofs.Seen.{survey-sound, survey-damaged}
-use Rattle.lines.specs.Lines.{lineFeed, poolNo}
+use Rattle.lines.specs.Lines.{lineFeed, trimmedIn, poolNo}
 use Rattle.lines.specs.Reading.{kept, pushed, stopped, ended, stepped, passed, closed, checked, fed, finished}
 use Rattle.lines.specs.Steps.{Takes, Leads}
 use Rattle.lines.specs.declared.Going.{Going}
@@ -26,9 +26,10 @@ module _ (w : List ℕ) (r : Reader) where
     unfolding ended
     ended-refused ne = record { comes = rw (← h .no, ← h .words, ne-eqb (t .no) 0 ne); found = h .found }
 
-    pub ended-added : {m : ℕ} → t .no ≡ 0 → m ≡ (r .number + 1) % 2 ^ 64 → Leads (ended w r) (record { reader = record { line = r .line; len = 0; number = m; no = t .no }; found = t .found }) v
-    unfolding ended
-    ended-added e k = record { comes = rw (← h .no, ← h .words, eq-eqb (t .no) 0 e, ← k); found = h .found }
+    pub ended-added : {m c x : ℕ} → t .no ≡ 0 → m ≡ (r .number + 1) % 2 ^ 64 → x ≡ cond (t .cut) 1 0 → c ≡ (r .trimmed + x) % 2 ^ 64
+        → Leads (ended w r) (record { reader = record { line = r .line; len = 0; number = m; trimmed = c; no = t .no }; found = t .found }) v
+    unfolding ended trimmedIn
+    ended-added e k o i = record { comes = rw (← h .no, ← h .words, eq-eqb (t .no) 0 e, ← k, ← h .cut, ← o, ← i); found = h .found }
 
   pub stepped-feed : {b : ℕ} {g : Going} {v : List ℕ} → b ≡ lineFeed → Leads (ended w r) g v → Leads (stepped w r b) g v
   stepped-feed {b} e h = rw (eq-eqb b lineFeed e) h

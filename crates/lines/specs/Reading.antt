@@ -17,30 +17,31 @@ use Prim.Native.Nat.{ℕ, _+_, _%_, _^_}
 use lib.Dec.{eqb, ltb}
 use lib.ListN.{take, set, replicate}
 use Rattle.pool_state.specs.Decode.{decode}
-use Rattle.lines.specs.Lines.{lineFeed, lineNo, wordsWith, poolNo}
+use Rattle.lines.specs.Lines.{lineFeed, lineNo, trimmedIn, wordsWith, poolNo}
 use Rattle.lines.specs.declared.Reader.{Reader}
 
 abbrev pub places : ℕ
 places = 19
 
 abbrev pub begun : Reader
-begun = record { line = replicate places 0; len = 0; number = 1; no = 0 }
+begun = record { line = replicate places 0; len = 0; number = 1; trimmed = 0; no = 0 }
 
 abbrev pub kept : Reader → List ℕ
 kept r = take (r .len) (r .line)
 
 unfoldable pub pushed : Reader → ℕ → Reader
-pushed r b = cond (ltb (r .len) places) (record { line = set (r .line) (r .len) b; len = r .len + 1; number = r .number; no = r .no }) r
+pushed r b = cond (ltb (r .len) places) (record { line = set (r .line) (r .len) b; len = r .len + 1; number = r .number; trimmed = r .trimmed; no = r .no }) r
 
 abbrev pub stopped : Reader → ℕ → Reader
-stopped r x = record { line = r .line; len = r .len; number = r .number; no = x }
+stopped r x = record { line = r .line; len = r .len; number = r .number; trimmed = r .trimmed; no = x }
 
--- by the refusal of the line, or 0; numbers go on from 0 behind the largest
-abbrev pub endedAs : ℕ → Reader → Reader
-endedAs x r = cond (eqb x 0) (record { line = r .line; len = 0; number = (r .number + 1) % 2 ^ 64; no = x }) (stopped r x)
+-- by the refusal x of the line, or 0, and t, which is 1 where it was trimmed; numbers go on from 0 behind the largest
+abbrev pub endedAs : ℕ → ℕ → Reader → Reader
+endedAs x t r =
+    cond (eqb x 0) (record { line = r .line; len = 0; number = (r .number + 1) % 2 ^ 64; trimmed = (r .trimmed + t) % 2 ^ 64; no = x }) (stopped r x)
 
 unfoldable pub ended : List ℕ → Reader → Reader × List ℕ
-ended w r = (endedAs (lineNo w (kept r)) r, wordsWith w (kept r))
+ended w r = (endedAs (lineNo w (kept r)) (trimmedIn (kept r)) r, wordsWith w (kept r))
 
 abbrev pub stepped : List ℕ → Reader → ℕ → Reader × List ℕ
 stepped w r b = cond (eqb b lineFeed) (ended w r) (pushed r b, w)

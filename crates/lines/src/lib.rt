@@ -1,10 +1,11 @@
 // Lines of IPv4 networks, added to set 0 of a pool. The input comes in pieces of any length: start, then feed with each piece, then finish.
 use change::adding::Grown;
 use change::adding::add_found;
+use nets::Entered;
 use nets::Refusal;
-use nets::Taken;
 use pool_check::survey;
 use pool_state::Survey;
+ghost use mathlib.Core.Bool.{cond};
 ghost use mathlib.Core.Path.{_≡_};
 ghost use Rattle.pool_state.specs.Steps.{Surveyed};
 ghost use Rattle.lines.specs.Reading.{begun, kept, pushed, stopped, ended, stepped, passed, fed, finished};
@@ -13,11 +14,13 @@ ghost use Rattle.lines.specs.Steps.{Takes, Leads};
 // The bytes kept of a line: one more than the longest line of a network has, so that a line too long for one is still too long here.
 const KEPT: usize = 19;
 
-// The line that is being read: its bytes so far, how many, its number from 1 on, and the refusal that ended the reading, or 0.
+// The line that is being read: its bytes so far, how many, its number from 1 on; how many lines before it were trimmed, a set bit past the length being cut; and the
+// refusal that ended the reading, or 0.
 pub struct Reader {
     pub line: [u8; KEPT],
     pub len: usize,
     pub number: u64,
+    pub trimmed: u64,
     pub no: u8,
 }
 
@@ -27,9 +30,10 @@ struct Going {
     found: Survey,
 }
 
-// What became of a line: its refusal, or 0, and what a pass over the pool finds then.
+// What became of a line: its refusal, or 0, whether a set bit was cut, and what a pass over the pool finds then.
 struct Took {
     no: u8,
+    cut: bool,
     found: Survey,
 }
 
@@ -41,6 +45,7 @@ pub fn start() -> Reader
         line: [0; KEPT],
         len: 0,
         number: 1,
+        trimmed: 0,
         no: 0,
     }
 }
@@ -73,18 +78,24 @@ fn take(pool: &mut [u32], found: Survey, line: &[u8]) -> Took
 {
     let taken = text::read_line(line);
     match taken {
-        Taken::Refused(no) => Took {
+        Entered::Refused(no) => Took {
             no: no.number(),
+            cut: false,
             found,
         },
-        Taken::Network(net) => {
+        Entered::Network(net, cut) => {
             let grown = add_found(pool, 0, found, net);
             match grown {
                 Grown::Refused(no) => Took {
                     no: no.number(),
+                    cut,
                     found,
                 },
-                Grown::Grew(then) => Took { no: 0, found: then },
+                Grown::Grew(then) => Took {
+                    no: 0,
+                    cut,
+                    found: then,
+                },
             }
         }
     }
@@ -103,6 +114,12 @@ fn take_kept(pool: &mut [u32], g: Going) -> Took
     take(pool, g.found, &line)
 }
 
+fn one_if(cut: bool) -> u64
+    ensures { λ r. ⌜ r ≡ cond cut 1 0 ⌝ }
+{
+    if cut { 1 } else { 0 }
+}
+
 // The line has ended: its network is added and the next line begins, or the reading ends here.
 fn end(pool: &mut [u32], g: Going) -> Going
     requires { ⌜ Surveyed (now pool) 0 (g .found) ⌝ }
@@ -117,6 +134,7 @@ fn end(pool: &mut [u32], g: Going) -> Going
     }
     reader.len = 0;
     reader.number = std::num::wrapping_add_u64(reader.number, 1);
+    reader.trimmed = std::num::wrapping_add_u64(reader.trimmed, one_if(took.cut));
     Going { reader, found }
 }
 

@@ -15,7 +15,7 @@ mod writing;
 fn take(fd: i32, path: &[u8], pool: &mut [u32]) -> bool {
     let input = tool_io::read_lines(fd, pool);
     match input {
-        Input::Added => true,
+        Input::Added(_) => true,
         Input::Refused(number, no) => {
             tool_io::say_refused_line(b"lines-to-set", number, no);
             false

@@ -130,16 +130,12 @@ module _ (w : List ℕ) (k : ℕ) (n : Net) (s t : Shown) (e : s ≡ lookup w k 
   unfolding supernetRule
   supernet-by = ap (memberOf n) (sym h ∙ e)
 
-  pub contains-by : isMember t ≡ containsRule w k n
+  pub contains-by : isMember n t ≡ containsRule w k n
   unfolding containsRule
-  contains-by = ap isMember (sym h ∙ e)
+  contains-by = ap (isMember n) (sym h ∙ e)
 
   pub shown-cut : Cut n t
   shown-cut = subst (Cut n) (sym e ∙ h) (lookup-cut n w k)
 
-module _ (t : Taken) (k : ℕ) (v : Net) (e : takenAs t ≡ answered k noNet v) (z : k ≡ 0) where
-  pub taken-network : (m : Net) → t ≡ taken.Network m → m ≡ v
-  taken-network m h = ap (λ p. p .1) (sym (ap takenAs h) ∙ rw z at e)
-
-  pub taken-granted : (x : Refusal) → t ≡ taken.Refused x → ⊥
-  taken-granted x h = number-some x (ap (λ p. p .0) (sym (ap takenAs h) ∙ e) ∙ z)
+pub taken-granted : (t : Taken) (k : ℕ) (v : Net) → takenAs t ≡ answered k noNet v → k ≡ 0 → (x : Refusal) → t ≡ taken.Refused x → ⊥
+taken-granted t k v e z x h = number-some x (ap (λ p. p .0) (sym (ap takenAs h) ∙ e) ∙ z)

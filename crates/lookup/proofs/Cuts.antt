@@ -82,11 +82,11 @@ module _ (n : Net) where
       tt
 
   -- so on any words
-  pub steps-le : (w : List ℕ) (k : ℕ) → supernetRule w k n .1 .1 .1 ≤ n .len + 1
+  pub steps-le : (w : List ℕ) (k : ℕ) → supernetRule w k n .1 .1 .1 .0 ≤ n .len + 1
   unfolding supernetRule
   steps-le w k = go (lookup w k n) (lookup-cut w k)
     where
-      go : (s : Shown) → Cut n s → memberOf n s .1 .1 .1 ≤ n .len + 1
+      go : (s : Shown) → Cut n s → memberOf n s .1 .1 .1 .0 ≤ n .len + 1
       go (Member d) h = omega (arith, h .2)
       go (Nothing s) h = h
       go (Refused r) h = omega arith

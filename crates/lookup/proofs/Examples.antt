@@ -6,13 +6,13 @@ use Prim.Native.Nat.{ℕ}
 use lib.ListN.{replicate}
 use Rattle.nets.specs.Bits.{bits}
 use Rattle.nets.specs.Tries.{size}
-use Rattle.nets.specs.Networks.{width, netWords, netBits, netFrom, inRange, refusalOf, noNet, cleared}
+use Rattle.nets.specs.Networks.{width, netWords, netBits, netFrom, inRange, refusalOf, noNet, cleared, hasBitPast}
 use Rattle.nets.specs.declared.Net.{Net}
 use Rattle.nodes.specs.Words.{put}
 use Rattle.nodes.specs.Parse.{parse}
 use Rattle.pool_state.specs.Decode.{mark, damaged, isHeader, readSet, readSets, decode}
 use Rattle.lookup.specs.Walks.{walk, walkFrom}
-use Rattle.lookup.specs.Rules.{onRoot, query, lookup, supernetRule, emptyRule}
+use Rattle.lookup.specs.Rules.{unsought, onRoot, query, lookup, supernetRule, emptyRule}
 
 -- an IPv4 pool of three nodes with one set, by the number of its root and the words of its nodes: 5, 0, 0 hold 0.0.0.0/1 and 128.0.0.0/1
 abbrev words : ℕ → List ℕ → List ℕ
@@ -22,23 +22,23 @@ words r xs = put (put (put (replicate 96 0) 0 (mark ∷ 4 ∷ 1 ∷ 3 ∷ [])) 6
 abbrev ten : ℕ → Net
 ten n = netWords 4 0 167772160 n
 
--- A member of length 1; no member, the query being the block of both; then 3 before 6, 6 before 7, 7 before the damage of the path.
-pub answers : (supernetRule (words 1 (5 ∷ 0 ∷ 0 ∷ [])) 0 (ten 8) ≡ (0, (true, (netWords 4 0 0 1, 2))))
-    × (supernetRule (words 1 (5 ∷ 0 ∷ 0 ∷ [])) 0 (ten 0) ≡ (0, (false, (noNet, 1))))
-    × (supernetRule (words 4 []) 1 (netWords 6 0 0 129) ≡ (3, (false, (noNet, 0))))
-    × (supernetRule (words 4 []) 0 (netWords 6 0 0 129) ≡ (6, (false, (noNet, 0))))
-    × (supernetRule (words 4 []) 0 (ten 33) ≡ (7, (false, (noNet, 0))))
-    × (supernetRule (words 4 []) 0 (ten 8) ≡ (2, (false, (noNet, 0))))
+-- A member of length 1; no member, the query being the block of both, with a bit cut; then 3 before 6, 6 before 7, 7 before the damage of the path.
+pub answers : (supernetRule (words 1 (5 ∷ 0 ∷ 0 ∷ [])) 0 (ten 8) ≡ (0, (true, (netWords 4 0 0 1, (2, false)))))
+    × (supernetRule (words 1 (5 ∷ 0 ∷ 0 ∷ [])) 0 (ten 0) ≡ (0, (false, (noNet, (1, true)))))
+    × (supernetRule (words 4 []) 1 (netWords 6 0 0 129) ≡ (3, unsought))
+    × (supernetRule (words 4 []) 0 (netWords 6 0 0 129) ≡ (6, unsought))
+    × (supernetRule (words 4 []) 0 (ten 33) ≡ (7, unsought))
+    × (supernetRule (words 4 []) 0 (ten 8) ≡ (2, unsought))
     × (emptyRule (words 4 []) 0 ≡ (2, false))
     × (emptyRule (words 0 []) 0 ≡ (0, true))
-unfolding put isHeader onRoot query lookup walkFrom walk supernetRule emptyRule width bits netBits netFrom inRange refusalOf cleared
+unfolding put isHeader onRoot query lookup walkFrom walk supernetRule emptyRule width bits netBits netFrom inRange refusalOf cleared hasBitPast
 answers = (refl, refl, refl, refl, refl, refl, refl, refl)
 
 -- The number of the other child is looked at too: 1 + 7 is no node's. What stands beside the path is not: the pool is damaged, and the lookup says what its path shows.
-pub beside : (supernetRule (words 1 (15 ∷ 0 ∷ 0 ∷ [])) 0 (ten 8) ≡ (2, (false, (noNet, 0))))
-    × (supernetRule (words 1 (15 ∷ 0 ∷ 0 ∷ [])) 0 (ten 0) ≡ (2, (false, (noNet, 0))))
+pub beside : (supernetRule (words 1 (15 ∷ 0 ∷ 0 ∷ [])) 0 (ten 8) ≡ (2, unsought))
+    × (supernetRule (words 1 (15 ∷ 0 ∷ 0 ∷ [])) 0 (ten 0) ≡ (2, unsought))
     × (decode (words 1 (5 ∷ 0 ∷ 7 ∷ [])) ≡ damaged)
-    × (supernetRule (words 1 (5 ∷ 0 ∷ 7 ∷ [])) 0 (ten 8) ≡ (0, (true, (netWords 4 0 0 1, 2))))
+    × (supernetRule (words 1 (5 ∷ 0 ∷ 7 ∷ [])) 0 (ten 8) ≡ (0, (true, (netWords 4 0 0 1, (2, false)))))
     × (emptyRule (words 1 (5 ∷ 0 ∷ 7 ∷ [])) 0 ≡ (0, false))
-unfolding put isHeader onRoot query lookup walkFrom walk supernetRule emptyRule width bits netBits netFrom inRange refusalOf cleared decode readSets readSet parse size
+unfolding put isHeader onRoot query lookup walkFrom walk supernetRule emptyRule width bits netBits netFrom inRange refusalOf cleared hasBitPast decode readSets readSet parse size
 beside = (refl, refl, refl, refl, refl)

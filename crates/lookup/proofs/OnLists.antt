@@ -1,4 +1,4 @@
--- On sound words each lookup is the list's: the number by the state alone, and the member, the truth, the steps or the emptiness by the set's list. Assumes nothing.
+-- On sound words each lookup is the list's: the number by the state alone, and the member, the truth, the steps or the emptiness by the set's list; the report is that of the query. Assumes nothing.
 use mathlib.Core.Bool.{Bool, true, false, not, cond, _&&_, false≢true}
 use mathlib.Core.List.{List, [], _∷_}
 use mathlib.Core.Path.{_≡_, refl, ap, sym, _∙_}
@@ -14,7 +14,7 @@ use Rattle.nets.specs.Bits.{Bits, leads, bits}
 use Rattle.nets.specs.Tries.{listOf, trieOf}
 use Rattle.nets.specs.Lists.{Found, found, missing, isFound, supernetL, containsL, stepsL}
 use Rattle.nets.specs.Refusals.{number, answered}
-use Rattle.nets.specs.Networks.{width, address, netBits, netFrom, refusalOf, noNet, withLen, cleared}
+use Rattle.nets.specs.Networks.{width, address, netBits, netFrom, refusalOf, withLen, cleared, hasBitPast}
 use Rattle.nets.specs.declared.Net.{Net}
 use Rattle.nets.specs.declared.Refusal.{Refusal}
 use Rattle.nets.specs.declared.Refusal.the-variants.{NoSet, WrongFamily, BadNetwork}
@@ -31,7 +31,7 @@ use Rattle.pool_state.proofs.Claims.{isList-listAt}
 use Rattle.pool_state.proofs.Encoded.{HeaderOf}
 use Rattle.pool_state.proofs.Decoded.{decode-header, decode-state, decode-root, decode-at, decode-parts}
 use Rattle.lookup.specs.Walks.{walkFrom}
-use Rattle.lookup.specs.Rules.{onRoot, query, lookup, memberOf, isMember, supernetRule, containsRule, emptyAt, emptyRule, setNo, lookupNo, foundAs}
+use Rattle.lookup.specs.Rules.{unsought, unheld, onRoot, query, lookup, memberOf, isMember, supernetRule, containsRule, emptyAt, emptyRule, setNo, lookupNo, foundAs}
 use Rattle.lookup.specs.declared.walking.Shown.{Shown}
 use Rattle.lookup.specs.declared.walking.Shown.the-variants.{Refused}
 use Rattle.lookup.proofs.Searched.{shown, rootAt-node, walkFrom-search}
@@ -115,27 +115,27 @@ module _ (w : List ℕ) (S : State) (e : decode w ≡ sound S) (k : ℕ) where
         go false true true h g = value (h refl) (g refl)
 
   pub supernetRule-sound : (n : Net) → supernetRule w k n
-      ≡ answered (lookupNo S k n) (false, (noNet, 0)) (foundAs (S .family) (supernetL (listAt S k) (netBits n)) (stepsL (listAt S k) (netBits n)))
+      ≡ answered (lookupNo S k n) unsought (foundAs (S .family) (supernetL (listAt S k) (netBits n)) (stepsL (listAt S k) (netBits n)) (hasBitPast n))
   unfolding supernetRule
   supernetRule-sound n =
-      by-table n (false, (noNet, 0)) (foundAs (S .family) (supernetL (listAt S k) (netBits n)) (stepsL (listAt S k) (netBits n))) (memberOf n) (λ r. refl)
+      by-table n unsought (foundAs (S .family) (supernetL (listAt S k) (netBits n)) (stepsL (listAt S k) (netBits n)) (hasBitPast n)) (memberOf n) (λ r. refl)
       (λ f r. go f r (supernetL (listAt S k) (netBits n)) refl)
     where
-      go : n .family ≡ S .family → refusalOf n ≡ 0 → (x : Found) → supernetL (listAt S k) (netBits n) ≡ x → memberOf n (shown 0 x (steps n)) ≡ (0, foundAs (S .family) x (steps n))
+      go : n .family ≡ S .family → refusalOf n ≡ 0 → (x : Found) → supernetL (listAt S k) (netBits n) ≡ x → memberOf n (shown 0 x (steps n)) ≡ (0, foundAs (S .family) x (steps n) (hasBitPast n))
       go f r missing h = rw (zero-add (steps n))
       go f r (found p) h =
           let e : length p + 1 ≡ steps n = add-one (length p) ∙ sym (steps-found (netBits n) p h) in
           rw (zero-add (length p), e, cleared-cut n p r (supernetL-found (listAt S k) (netBits n) p h .1), f)
 
   pub containsRule-sound : (n : Net) → containsRule w k n
-      ≡ answered (lookupNo S k n) (false, 0) (containsL (listAt S k) (netBits n), stepsL (listAt S k) (netBits n))
+      ≡ answered (lookupNo S k n) unheld (containsL (listAt S k) (netBits n), (stepsL (listAt S k) (netBits n), hasBitPast n))
   unfolding containsRule containsL
   containsRule-sound n =
-      by-table n (false, 0) (containsL (listAt S k) (netBits n), stepsL (listAt S k) (netBits n)) isMember (λ r. refl) (λ f r. go (supernetL (listAt S k) (netBits n)) refl)
+      by-table n unheld (containsL (listAt S k) (netBits n), (stepsL (listAt S k) (netBits n), hasBitPast n)) (isMember n) (λ r. refl) (λ f r. go (supernetL (listAt S k) (netBits n)) refl)
     where
-      go : (x : Found) → supernetL (listAt S k) (netBits n) ≡ x → isMember (shown 0 x (steps n)) ≡ (0, (isFound x, steps n))
+      go : (x : Found) → supernetL (listAt S k) (netBits n) ≡ x → isMember n (shown 0 x (steps n)) ≡ (0, (isFound x, (steps n, hasBitPast n)))
       go missing h = rw (zero-add (steps n))
-      go (found p) h = rw (zero-add (length p)) (ap (λ s. (0, (true, s))) (add-one (length p) ∙ sym (steps-found (netBits n) p h)))
+      go (found p) h = rw (zero-add (length p)) (ap (λ s. (0, (true, (s, hasBitPast n)))) (add-one (length p) ∙ sym (steps-found (netBits n) p h)))
 
   pub emptyRule-sound : emptyRule w k ≡ answered (setNo S k) false (eqb (length (listAt S k)) 0)
   unfolding emptyRule

@@ -17,20 +17,20 @@ use Rattle.lookup.specs.declared.Contained.{Contained}
 use Rattle.lookup.specs.declared.Contained.the-variants as contained
 
 pub supernetAs-one : (r s : Covering) → supernetAs r ≡ supernetAs s → r ≡ s
-supernetAs-one (covering.Member m x) (covering.Member n y) e = let a = ap (λ p. p .1 .1 .0) e in let b = ap (λ p. p .1 .1 .1) e in cc
-supernetAs-one (covering.Member m x) (covering.Nothing y) e = absurd (true≢false (ap (λ p. p .1 .0) e))
-supernetAs-one (covering.Member m x) (covering.Refused y) e = absurd (true≢false (ap (λ p. p .1 .0) e))
-supernetAs-one (covering.Nothing x) (covering.Member n y) e = absurd (false≢true (ap (λ p. p .1 .0) e))
-supernetAs-one (covering.Nothing x) (covering.Nothing y) e = ap covering.Nothing (ap (λ p. p .1 .1 .1) e)
-supernetAs-one (covering.Nothing x) (covering.Refused y) e = absurd (number-some y (sym (ap (λ p. p .0) e)))
-supernetAs-one (covering.Refused x) (covering.Member n y) e = absurd (false≢true (ap (λ p. p .1 .0) e))
-supernetAs-one (covering.Refused x) (covering.Nothing y) e = absurd (number-some x (ap (λ p. p .0) e))
+supernetAs-one (covering.Member m x t) (covering.Member n y u) e = let a = ap (λ p. p .1 .1 .0) e in let b = ap (λ p. p .1 .1 .1 .0) e in let c = ap (λ p. p .1 .1 .1 .1) e in cc
+supernetAs-one (covering.Member m x t) (covering.Nothing y u) e = absurd (true≢false (ap (λ p. p .1 .0) e))
+supernetAs-one (covering.Member m x t) (covering.Refused y) e = absurd (true≢false (ap (λ p. p .1 .0) e))
+supernetAs-one (covering.Nothing x t) (covering.Member n y u) e = absurd (false≢true (ap (λ p. p .1 .0) e))
+supernetAs-one (covering.Nothing x t) (covering.Nothing y u) e = let b = ap (λ p. p .1 .1 .1 .0) e in let c = ap (λ p. p .1 .1 .1 .1) e in cc
+supernetAs-one (covering.Nothing x t) (covering.Refused y) e = absurd (number-some y (sym (ap (λ p. p .0) e)))
+supernetAs-one (covering.Refused x) (covering.Member n y u) e = absurd (false≢true (ap (λ p. p .1 .0) e))
+supernetAs-one (covering.Refused x) (covering.Nothing y u) e = absurd (number-some x (ap (λ p. p .0) e))
 supernetAs-one (covering.Refused x) (covering.Refused y) e = ap covering.Refused (number-one x y (ap (λ p. p .0) e))
 
 pub containsAs-one : (r s : Contained) → containsAs r ≡ containsAs s → r ≡ s
-containsAs-one (contained.Is a x) (contained.Is b y) e = let p = ap (λ p. p .1 .0) e in let q = ap (λ p. p .1 .1) e in cc
-containsAs-one (contained.Is a x) (contained.Refused y) e = absurd (number-some y (sym (ap (λ p. p .0) e)))
-containsAs-one (contained.Refused x) (contained.Is b y) e = absurd (number-some x (ap (λ p. p .0) e))
+containsAs-one (contained.Is a x t) (contained.Is b y u) e = let p = ap (λ p. p .1 .0) e in let q = ap (λ p. p .1 .1 .0) e in let c = ap (λ p. p .1 .1 .1) e in cc
+containsAs-one (contained.Is a x t) (contained.Refused y) e = absurd (number-some y (sym (ap (λ p. p .0) e)))
+containsAs-one (contained.Refused x) (contained.Is b y u) e = absurd (number-some x (ap (λ p. p .0) e))
 containsAs-one (contained.Refused x) (contained.Refused y) e = ap contained.Refused (number-one x y (ap (λ p. p .0) e))
 
 -- Two answers that a contract allows are one.
@@ -44,12 +44,12 @@ module _ (w : List ℕ) (k : ℕ) (n : Net) where
 pub empty-one : (w : List ℕ) (k : ℕ) (r s : Told) → toldAs r ≡ emptyRule w k → toldAs s ≡ emptyRule w k → r ≡ s
 empty-one w k r s e f = toldAs-one r s (e ∙ sym f)
 
--- `contains` tells whether `supernet` finds a member, and its steps, on any words.
+-- `contains` tells whether `supernet` finds a member, its steps and its report, on any words.
 pub contains-supernet : (w : List ℕ) (k : ℕ) (n : Net) → containsRule w k n ≡ (supernetRule w k n .0, (supernetRule w k n .1 .0, supernetRule w k n .1 .1 .1))
 unfolding containsRule supernetRule
 contains-supernet w k n = go (lookup w k n)
   where
-    go : (s : Shown) → isMember s ≡ (memberOf n s .0, (memberOf n s .1 .0, memberOf n s .1 .1 .1))
+    go : (s : Shown) → isMember n s ≡ (memberOf n s .0, (memberOf n s .1 .0, memberOf n s .1 .1 .1))
     go (Member d) = refl
     go (Nothing s) = refl
     go (Refused r) = refl

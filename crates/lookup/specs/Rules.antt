@@ -2,7 +2,7 @@
 --
 --   onRoot w k refuse f     2 no header of a pool, 3 no such set; else what f says of the number of the set's root
 --   query, lookup           6 another family than the pool's, 7 no network; else what the path shows
---   supernetRule, containsRule, emptyRule      the number and the values of each answer
+--   supernetRule, containsRule, emptyRule      the number and the values of each answer;  Sought, Held: those values, of supernet and of contains
 --   setNo, lookupNo, foundAs                   the same of a sound pool, by its lists: proofs/OnLists.antt
 use mathlib.Core.Bool.{Bool, true, false, cond}
 use mathlib.Core.List.{List, [], _∷_}
@@ -11,7 +11,7 @@ use lib.Dec.{eqb, leb, ltb}
 use lib.ListN.{getD}
 use Rattle.nets.specs.Lists.{Found, found, missing}
 use Rattle.nets.specs.Refusals.{number, firstNo}
-use Rattle.nets.specs.Networks.{netBits, netFrom, refusalOf, noNet, withLen, cleared}
+use Rattle.nets.specs.Networks.{netBits, netFrom, refusalOf, noNet, withLen, cleared, hasBitPast}
 use Rattle.nets.specs.declared.Net.{Net}
 use Rattle.nets.specs.declared.Refusal.{Refusal}
 use Rattle.nets.specs.declared.Refusal.the-variants.{Damaged, NoSet, WrongFamily, BadNetwork}
@@ -40,32 +40,44 @@ unfoldable pub lookup : List ℕ → ℕ → Net → Shown
 lookup w k n = onRoot w k Refused (query w n)
 
 -- the number and the values of an answer: a refusal has its number and zeros. The values of a lookup stand in pairs to the right, so that one more goes behind the last:
--- found or not, the member, and the nodes that were read
-abbrev pub supernetAs : Covering → ℕ × (Bool × (Net × ℕ))
-supernetAs (covering.Member m s) = (0, (true, (m, s)))
-supernetAs (covering.Nothing s) = (0, (false, (noNet, s)))
-supernetAs (covering.Refused r) = (number r, (false, (noNet, 0)))
+-- found or not, the member, the nodes that were read, and whether a set bit past the query's length was cut
+abbrev pub Sought : Type 0
+Sought = Bool × (Net × (ℕ × Bool))
 
-abbrev pub containsAs : Contained → ℕ × (Bool × ℕ)
-containsAs (contained.Is b s) = (0, (b, s))
-containsAs (contained.Refused r) = (number r, (false, 0))
+abbrev pub Held : Type 0
+Held = Bool × (ℕ × Bool)
+
+abbrev pub unsought : Sought
+unsought = (false, (noNet, (0, false)))
+
+abbrev pub unheld : Held
+unheld = (false, (0, false))
+
+abbrev pub supernetAs : Covering → ℕ × Sought
+supernetAs (covering.Member m s t) = (0, (true, (m, (s, t))))
+supernetAs (covering.Nothing s t) = (0, (false, (noNet, (s, t))))
+supernetAs (covering.Refused r) = (number r, unsought)
+
+abbrev pub containsAs : Contained → ℕ × Held
+containsAs (contained.Is b s t) = (0, (b, (s, t)))
+containsAs (contained.Refused r) = (number r, unheld)
 
 -- the member that a path shows is the query, cut to the member's length: the nodes read are one more than that
-abbrev pub memberOf : Net → Shown → ℕ × (Bool × (Net × ℕ))
-memberOf n (Member d) = (0, (true, (cleared (withLen n d), d + 1)))
-memberOf n (Nothing s) = (0, (false, (noNet, s)))
-memberOf n (Refused r) = (number r, (false, (noNet, 0)))
+abbrev pub memberOf : Net → Shown → ℕ × Sought
+memberOf n (Member d) = (0, (true, (cleared (withLen n d), (d + 1, hasBitPast n))))
+memberOf n (Nothing s) = (0, (false, (noNet, (s, hasBitPast n))))
+memberOf n (Refused r) = (number r, unsought)
 
-abbrev pub isMember : Shown → ℕ × (Bool × ℕ)
-isMember (Member d) = (0, (true, d + 1))
-isMember (Nothing s) = (0, (false, s))
-isMember (Refused r) = (number r, (false, 0))
+abbrev pub isMember : Net → Shown → ℕ × Held
+isMember n (Member d) = (0, (true, (d + 1, hasBitPast n)))
+isMember n (Nothing s) = (0, (false, (s, hasBitPast n)))
+isMember n (Refused r) = (number r, unheld)
 
-unfoldable pub supernetRule : List ℕ → ℕ → Net → ℕ × (Bool × (Net × ℕ))
+unfoldable pub supernetRule : List ℕ → ℕ → Net → ℕ × Sought
 supernetRule w k n = memberOf n (lookup w k n)
 
-unfoldable pub containsRule : List ℕ → ℕ → Net → ℕ × (Bool × ℕ)
-containsRule w k n = isMember (lookup w k n)
+unfoldable pub containsRule : List ℕ → ℕ → Net → ℕ × Held
+containsRule w k n = isMember n (lookup w k n)
 
 -- the emptiness test, by the root's number r in a pool of n nodes
 abbrev pub emptyAt : ℕ → ℕ → ℕ × Bool
@@ -81,7 +93,7 @@ setNo S k = firstNo (unknown S k ∷ [])
 abbrev pub lookupNo : State → ℕ → Net → ℕ
 lookupNo S k n = firstNo (unknown S k ∷ netRules n S)
 
--- with the nodes that were read
-abbrev pub foundAs : ℕ → Found → ℕ → Bool × (Net × ℕ)
-foundAs f (found p) s = (true, (netFrom f p, s))
-foundAs f missing s = (false, (noNet, s))
+-- with the nodes that were read, and the report
+abbrev pub foundAs : ℕ → Found → ℕ → Bool → Sought
+foundAs f (found p) s t = (true, (netFrom f p, (s, t)))
+foundAs f missing s t = (false, (noNet, (s, t)))

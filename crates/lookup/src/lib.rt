@@ -2,6 +2,7 @@
 use nets::Net;
 use nets::Refusal;
 use nets::Taken;
+use nets::has_bit_past;
 use pool_state::Answer;
 use pool_state::Told;
 use walking::Shown;
@@ -10,33 +11,33 @@ use walking::root;
 ghost use mathlib.Core.Bool.{true};
 ghost use mathlib.Core.Path.{_≡_};
 ghost use Prim.Native.Nat.{_+_, _≤_};
-ghost use Rattle.nets.specs.Networks.{withLen, withLenNo, cleared};
+ghost use Rattle.nets.specs.Networks.{withLen, withLenNo, cleared, hasBitPast};
 ghost use Rattle.pool_state.specs.Rules.{toldAs};
 ghost use Rattle.lookup.specs.Rules.{supernetAs, containsAs, supernetRule, containsRule, emptyRule};
 
 mod walking;
 
-// What supernet answers: the member that contains the query, or that there is none; and how many nodes were read.
+// What supernet answers: the member that contains the query, or that there is none; how many nodes were read; and whether a set bit past the query's length was cut.
 pub enum Covering {
-    Member(Net, u8),
-    Nothing(u8),
+    Member(Net, u8, bool),
+    Nothing(u8, bool),
     Refused(Refusal),
 }
 
-// What contains answers: whether there is such a member, and how many nodes were read.
+// What contains answers: whether there is such a member, how many nodes were read, and whether a bit was cut.
 pub enum Contained {
-    Is(bool, u8),
+    Is(bool, u8, bool),
     Refused(Refusal),
 }
 
 // The member of that length around the query: it and each node above it were read.
 fn member(net: Net, len: u8) -> Covering
     requires { ⌜ (withLenNo net len ≡ 0) × (len ≤ 128) ⌝ }
-    ensures { λ r. ⌜ supernetAs r ≡ (0, (true, (cleared (withLen net len), len + 1))) ⌝ }
+    ensures { λ r. ⌜ supernetAs r ≡ (0, (true, (cleared (withLen net len), (len + 1, hasBitPast net)))) ⌝ }
 {
     let t = net.with_new_prefix(len);
     match t {
-        Taken::Network(m) => Covering::Member(m, len + 1),
+        Taken::Network(m) => Covering::Member(m, len + 1, has_bit_past(net)),
         Taken::Refused(no) => Covering::Refused(no),
     }
 }
@@ -48,7 +49,7 @@ pub fn supernet(pool: &[u32], set: u32, net: Net) -> Covering
     let s = lookup(pool, set, net);
     match s {
         Shown::Member(len) => member(net, len),
-        Shown::Nothing(steps) => Covering::Nothing(steps),
+        Shown::Nothing(steps) => Covering::Nothing(steps, has_bit_past(net)),
         Shown::Refused(no) => Covering::Refused(no),
     }
 }
@@ -59,8 +60,8 @@ pub fn contains(pool: &[u32], set: u32, net: Net) -> Contained
 {
     let s = lookup(pool, set, net);
     match s {
-        Shown::Member(len) => Contained::Is(true, len + 1),
-        Shown::Nothing(steps) => Contained::Is(false, steps),
+        Shown::Member(len) => Contained::Is(true, len + 1, has_bit_past(net)),
+        Shown::Nothing(steps) => Contained::Is(false, steps, has_bit_past(net)),
         Shown::Refused(no) => Contained::Refused(no),
     }
 }

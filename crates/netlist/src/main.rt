@@ -27,9 +27,9 @@ fn main() {
             tell(report::refused(number, no));
             tool_io::say_refused_line(b"netlist", number, no);
         }
-        Input::Added => {
+        Input::Added(trimmed) => {
             change::simplify(&mut pool, 0);
-            tell(report::set(&pool));
+            tell(report::set(&pool, trimmed));
         }
     }
 }

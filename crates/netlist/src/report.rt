@@ -15,8 +15,8 @@ pub fn refused(number: u64, no: u8) -> bool {
         && io::write_all(OUT, b"\n")
 }
 
-// How many networks and nodes set 0 has.
-fn counts(pool: &[u32]) -> bool {
+// How many networks and nodes set 0 has, and how many lines were trimmed.
+fn counts(pool: &[u32], trimmed: u64) -> bool {
     let held = pool::held(pool, 0);
     let Report::Numbers(nodes, networks) = held else {
         return false;
@@ -24,12 +24,14 @@ fn counts(pool: &[u32]) -> bool {
     io::print_decimal(OUT, networks as u64)
         && io::write_all(OUT, b" networks, ")
         && io::print_decimal(OUT, nodes as u64)
-        && io::write_all(OUT, b" nodes\n")
+        && io::write_all(OUT, b" nodes, ")
+        && io::print_decimal(OUT, trimmed)
+        && io::write_all(OUT, b" trimmed\n")
 }
 
 // Set 0: its counts, and its networks.
-pub fn set(pool: &[u32]) -> bool {
-    if !counts(pool) {
+pub fn set(pool: &[u32], trimmed: u64) -> bool {
+    if !counts(pool, trimmed) {
         return false;
     }
     let mut rows = [0u64; ROWS];

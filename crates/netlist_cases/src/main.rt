@@ -7,6 +7,7 @@ mod filled;
 mod large;
 mod reading;
 mod small;
+mod trimmed;
 
 fn main() {
     let mut t = small::accepted(test_counts::none());
@@ -20,5 +21,7 @@ fn main() {
     t = large::long_lines(t);
     t = damaged::at_once(t);
     t = damaged::between(t);
+    t = trimmed::few(t);
+    t = trimmed::refused(t);
     test_counts::say(t);
 }

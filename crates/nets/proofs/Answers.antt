@@ -8,12 +8,14 @@ use native.Mathlib.Omega.{arith}
 use lib.ListN.{getD}
 use borrow.Author.Tests.{ne-eqb}
 use Rattle.nets.specs.Refusals.{number, answered}
-use Rattle.nets.specs.Networks.{isFamily, inRange, refusalOf, noNet, takenAs, judged, withLen, withLenNo, noBits, startOf, prefixAs, nextAs, nextOf}
+use Rattle.nets.specs.Networks.{isFamily, inRange, refusalOf, noNet, takenAs, judged, withLen, withLenNo, enteredAs, noBits, startOf, prefixAs, nextAs, nextOf}
 use Rattle.nets.specs.declared.Refusal.{Refusal}
 use Rattle.nets.specs.declared.Refusal.the-variants.{BadSetup, Damaged, NoSet, BadText, BadFile, WrongFamily, BadNetwork, Occupied, OverLimit, NoRoom, ShortBuffer}
 use Rattle.nets.specs.declared.Net.{Net}
 use Rattle.nets.specs.declared.Taken.{Taken}
 use Rattle.nets.specs.declared.Taken.the-variants as taken
+use Rattle.nets.specs.declared.Entered.{Entered}
+use Rattle.nets.specs.declared.Entered.the-variants as entering
 use Rattle.nets.specs.declared.PrefixBits.{PrefixBits}
 use Rattle.nets.specs.declared.NextBit.{NextBit}
 use Rattle.nets.specs.declared.NextBit.the-variants.{Bit, End}
@@ -53,13 +55,19 @@ number-some r e = let h : none ≡ some r = ap named (sym e) ∙ named-number r 
 pub answered-granted : {A : Type 0} (k : ℕ) (z v a : A) → (0, a) ≡ answered k z v → (k ≡ 0) × (a ≡ v)
 answered-granted k z v a e = let h : k ≡ 0 = sym (ap (λ p. p .0) e) in (h, rw h at (ap (λ p. p .1) e))
 
+pub taken-network : (t : Taken) (k : ℕ) (v m : Net) → takenAs t ≡ answered k noNet v → t ≡ taken.Network m → (k ≡ 0) × (m ≡ v)
+taken-network t k v m e h = answered-granted k noNet v m (sym (ap takenAs h) ∙ e)
+
+pub taken-refused : {A : Type 0} (t : Taken) (k : ℕ) (v : Net) (r : Refusal) (z a : A) → takenAs t ≡ answered k noNet v → t ≡ taken.Refused r → (number r, z) ≡ answered k z a
+taken-refused t k v r z a e h =
+    let q : k ≡ number r = ap (λ p. p .0) (sym e ∙ ap takenAs h) in
+    rw (q, ne-eqb (number r) 0 (number-some r))
+
 pub judged-network : (t : Taken) (n m : Net) → takenAs t ≡ judged n → t ≡ taken.Network m → (refusalOf n ≡ 0) × (m ≡ n)
-judged-network t n m e h = answered-granted (refusalOf n) noNet n m (sym (ap takenAs h) ∙ e)
+judged-network t n m e h = taken-network t (refusalOf n) n m e h
 
 pub judged-refused : {A : Type 0} (t : Taken) (n : Net) (r : Refusal) (z v : A) → takenAs t ≡ judged n → t ≡ taken.Refused r → (number r, z) ≡ answered (refusalOf n) z v
-judged-refused t n r z v e h =
-    let k : refusalOf n ≡ number r = ap (λ p. p .0) (sym e ∙ ap takenAs h) in
-    rw (k, ne-eqb (number r) 0 (number-some r))
+judged-refused t n r z v e h = taken-refused t (refusalOf n) n r z v e h
 
 -- Another length: of a network it is refused as its result is, and what is no network is refused as it is.
 pub withLenNo-net : (n : Net) (k : ℕ) → refusalOf n ≡ 0 → withLenNo n k ≡ refusalOf (withLen n k)
@@ -93,6 +101,12 @@ takenAs-one (taken.Network m) (taken.Network n) e = ap taken.Network (ap (λ p. 
 takenAs-one (taken.Network m) (taken.Refused y) e = absurd (number-some y (sym (ap (λ p. p .0) e)))
 takenAs-one (taken.Refused x) (taken.Network n) e = absurd (number-some x (ap (λ p. p .0) e))
 takenAs-one (taken.Refused x) (taken.Refused y) e = ap taken.Refused (number-one x y (ap (λ p. p .0) e))
+
+pub enteredAs-one : (r s : Entered) → enteredAs r ≡ enteredAs s → r ≡ s
+enteredAs-one (entering.Network m a) (entering.Network n b) e = let x = ap (λ p. p .1 .0) e in let y = ap (λ p. p .1 .1) e in cc
+enteredAs-one (entering.Network m a) (entering.Refused y) e = absurd (number-some y (sym (ap (λ p. p .0) e)))
+enteredAs-one (entering.Refused x) (entering.Network n b) e = absurd (number-some x (ap (λ p. p .0) e))
+enteredAs-one (entering.Refused x) (entering.Refused y) e = ap entering.Refused (number-one x y (ap (λ p. p .0) e))
 
 pub prefixAs-one : (r s : Prefix) → prefixAs r ≡ prefixAs s → r ≡ s
 prefixAs-one (prefix.Bits m) (prefix.Bits n) e = ap prefix.Bits (ap (λ p. p .1) e)

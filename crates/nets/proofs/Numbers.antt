@@ -116,6 +116,15 @@ refusalOf-netFrom f p e h =
     let g : length p + k ≡ width f = omega arith in
     is-refusalOf (netOf f (val p * 2 ^ k) (length p)) (record { family = e; len = h; address = rw (split (val p * 2 ^ k) 64) (rw g at (shl-lt (length p) k (val-high p))) })
 
+-- Of networks of one family with the same bits clearing makes one.
+pub cleared-one : (m n : Net) → m .family ≡ n .family → netBits m ≡ netBits n → cleared m ≡ cleared n
+unfolding cleared
+cleared-one m n f e = cc
+
+pub family-cleared : (n : Net) → cleared n .family ≡ n .family
+unfolding cleared netFrom
+family-cleared n = refl
+
 -- Where n is a network: its bits are those of the address without the low ones, which clearing takes away.
 module _ (n : Net) (e : refusalOf n ≡ 0) where
   pub length-netBits : length (netBits n) ≡ n .len
@@ -132,6 +141,9 @@ module _ (n : Net) (e : refusalOf n ≡ 0) where
   pub refusalOf-cleared : refusalOf (cleared n) ≡ 0
   unfolding cleared
   refusalOf-cleared = refusalOf-netFrom (n .family) (netBits n) (refusalOf-is n e .family) netBits-within
+
+  pub cleared-cleared : cleared (cleared n) ≡ cleared n
+  cleared-cleared = cleared-one (cleared n) n (family-cleared n) netBits-cleared
 
   module _ (k : ℕ) (g : n .len + k ≡ width (n .family)) where
     pub netBits-number : netBits n ≡ bits (n .len) (address n / 2 ^ k)

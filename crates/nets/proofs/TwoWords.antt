@@ -1,6 +1,7 @@
 -- A number v in two words, hi and lo: what clearing its low bits, moving it to the left and taking its first bit make of the words.
 -- `omega` stops at numbers as long as 2^128, so a word is split off by the laws of lib.Pow. Assumes nothing.
-use mathlib.Core.Bool.{Bool, true, false, _&&_, and-true}
+use mathlib.Core.Bool.{Bool, true, false, _&&_, and-true, true≢false}
+use mathlib.Core.Logic.{_↔_}
 use mathlib.Core.Path.{_≡_, refl, ap, sym, _∙_}
 use Prim.Native.Nat.{ℕ, zero, suc, _+_, _-_, _*_, _/_, _%_, _^_, _≤_, _<_}
 use native.Mathlib.Nat.{add-comm, add-zero, add-mul, mul-one, zero-mul, mul-assoc, mul-add-div-right, mul-mod-left}
@@ -10,13 +11,13 @@ use lib.Dec.{eqb, leb, ltb, eqb·suc-zero}
 use lib.Arith.{digits-lt}
 use lib.Bits.{bitOr, or-shifted}
 use lib.Pow.{pow-pos, pow-mono, pow-add, shl-shr, shr-shr, split, high, low, mod-pow-add}
-use borrow.Author.Tests.{eqb-true, eq-eqb, ne-eqb, ltb-true, ltb-false, le-ltb, lt-ltb}
-use Rattle.nets.specs.Networks.{width, value, netWords, netOf, address, bitsWords, inRange, refusalOf, cleared, startOf, nextAs, nextOf}
+use borrow.Author.Tests.{not-false, eqb-true, eq-eqb, ne-eqb, ltb-true, ltb-false, le-ltb, lt-ltb}
+use Rattle.nets.specs.Networks.{width, value, netWords, netOf, address, bitsWords, inRange, refusalOf, cleared, hasBitPast, startOf, nextAs, nextOf}
 use Rattle.nets.specs.declared.Net.{Net}
 use Rattle.nets.specs.declared.PrefixBits.{PrefixBits}
 use Rattle.nets.specs.declared.NextBit.the-variants.{Bit}
 use Rattle.nets.proofs.Strings.{and-left, and-right, bool-iff}
-use Rattle.nets.proofs.Numbers.{cleared-number}
+use Rattle.nets.proofs.Numbers.{refusalOf-is, refusalOf-cleared, cleared-cleared, cleared-number}
 
 pub netOf-value : (f hi lo n : ℕ) → lo < 2 ^ 64 → netOf f (value hi lo) n ≡ netWords f hi lo n
 netOf-value f hi lo n h = rw (high hi 64 h, low hi 64 h)
@@ -89,13 +90,35 @@ value-past hi lo k h = bool-iff (eqb (value hi lo % 2 ^ k) 0) (eqb (keep hi (k -
         let y = eqb-true (keep lo k) lo (and-right (eqb (keep hi (k - 64)) hi) (eqb (keep lo k) lo) e) in
         eq-eqb (value hi lo % 2 ^ k) 0 (same-keep (value hi lo) k (value-keep hi lo k h ∙ rw (x, y)))
 
--- So clearing leaves a network as it is exactly where no bit past its length is set.
-module _ (n : Net) (k : ℕ) (e : refusalOf n ≡ 0) (g : n .len + k ≡ width (n .family)) where
-  pub cleared-same : n .lo < 2 ^ 64 → address n % 2 ^ k ≡ 0 → cleared n ≡ n
-  cleared-same h z = rw (cleared-number n e k g, keep-same (address n) k z) (netOf-value (n .family) (n .hi) (n .lo) (n .len) h)
+-- So clearing leaves a network as it is exactly where no bit past its length is set: what is reported is whether clearing changes the network.
+module _ (n : Net) (e : refusalOf n ≡ 0) where
+  abbrev past : ℕ
+  past = width (n .family) - n .len
 
-  pub same-cleared : cleared n ≡ n → address n % 2 ^ k ≡ 0
-  same-cleared p = same-keep (address n) k (sym (split (keep (address n) k) 64) ∙ ap address (sym (cleared-number n e k g) ∙ p))
+  all : n .len + past ≡ width (n .family)
+  all = omega (arith, refusalOf-is n e .len)
+
+  pub cleared-same : n .lo < 2 ^ 64 → hasBitPast n ≡ false → cleared n ≡ n
+  unfolding hasBitPast
+  cleared-same h z =
+      let q = eqb-true (address n % 2 ^ past) 0 (not-false _ z) in
+      rw (cleared-number n e past all, keep-same (address n) past q) (netOf-value (n .family) (n .hi) (n .lo) (n .len) h)
+
+  pub same-cleared : cleared n ≡ n → hasBitPast n ≡ false
+  unfolding hasBitPast
+  same-cleared p = rw (eq-eqb (address n % 2 ^ past) 0 (same-keep (address n) past (sym (split (keep (address n) past) 64) ∙ ap address (sym (cleared-number n e past all) ∙ p))))
+
+-- for any network, so for the cleared one
+module _ (n : Net) (e : refusalOf n ≡ 0) where
+  pub hasBitPast-differs : n .lo < 2 ^ 64 → (hasBitPast n ≡ true) ↔ (cleared n ≡ n → ⊥)
+  hasBitPast-differs h = (λ t p. true≢false (sym t ∙ same-cleared n e p), λ ne. go (hasBitPast n) refl ne)
+    where
+      go : (b : Bool) → hasBitPast n ≡ b → (cleared n ≡ n → ⊥) → hasBitPast n ≡ true
+      go true q ne = q
+      go false q ne = absurd (ne (cleared-same n e h q))
+
+  pub hasBitPast-cleared : hasBitPast (cleared n) ≡ false
+  hasBitPast-cleared = same-cleared (cleared n) (refusalOf-cleared n e) (cleared-cleared n e)
 
 -- The range of each family, by words.
 pub inRange-4 : (n : Net) → n .family ≡ 4 → inRange n ≡ (leb (n .len) 32 && (eqb (n .hi) 0 && ltb (n .lo) (2 ^ 32)))

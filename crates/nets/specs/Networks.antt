@@ -6,12 +6,14 @@
 --   netBits n        the network: the first len bits of its address
 --   netFrom f p      the numbers of the network p: the bits past its length are clear
 --   cleared n        the network n with the bits past its length cleared
+--   hasBitPast n     a bit past its length is set, in the numbers as they are given: clearing will cut it
+--   entered n        n taken in: its refusal, or the cleared network and whether a bit was cut
 --   withLen n k      the numbers of n with the length k
 --   refusalOf n      6 for another family than 4 and 6, 7 for a length or an address outside the range, 0 for a network
 --   withLenNo n k    6 for another family, 7 where n or withLen n k is outside the range, else 0
 --   bigEndian b xs k the number that the first k digits of base b write, the most significant first
 --   bitsLeft s       the bits that the iterator s has still to hand out;  nextOf s: its next bit, and the iterator behind it
-use mathlib.Core.Bool.{Bool, true, false, cond, _&&_, _||_}
+use mathlib.Core.Bool.{Bool, true, false, not, cond, _&&_, _||_}
 use mathlib.Core.List.{List, [], _∷_}
 use Prim.Native.Nat.{ℕ, zero, suc, _+_, _-_, _*_, _/_, _%_, _^_}
 use lib.Dec.{eqb, leb, ltb}
@@ -21,6 +23,8 @@ use Rattle.nets.specs.Refusals.{number, answered}
 use Rattle.nets.specs.declared.Net.{Net}
 use Rattle.nets.specs.declared.Taken.{Taken}
 use Rattle.nets.specs.declared.Taken.the-variants as taken
+use Rattle.nets.specs.declared.Entered.{Entered}
+use Rattle.nets.specs.declared.Entered.the-variants as entering
 use Rattle.nets.specs.declared.Prefix.{Prefix}
 use Rattle.nets.specs.declared.Prefix.the-variants as prefix
 use Rattle.nets.specs.declared.PrefixBits.{PrefixBits}
@@ -76,10 +80,27 @@ withLen n k = netWords (n .family) (n .hi) (n .lo) k
 unfoldable pub withLenNo : Net → ℕ → ℕ
 withLenNo n k = cond (isFamily (n .family)) (cond (inRange n && inRange (withLen n k)) 0 7) 6
 
--- a network with the bits past its length cleared
-
+-- a network with the bits past its length cleared, and whether one of them is set
 unfoldable pub cleared : Net → Net
 cleared n = netFrom (n .family) (netBits n)
+
+unfoldable pub hasBitPast : Net → Bool
+hasBitPast n = not (eqb (address n % 2 ^ (width (n .family) - n .len)) 0)
+
+-- taking a network in: the values stand in pairs to the right, and a refusal reports no
+abbrev pub noEntry : Net × Bool
+noEntry = (noNet, false)
+
+abbrev pub enteredAs : Entered → ℕ × (Net × Bool)
+enteredAs (entering.Network n b) = (0, (n, b))
+enteredAs (entering.Refused r) = (number r, noEntry)
+
+-- by the number k of the refusal, 0 where there is none
+abbrev pub takenIn : ℕ → Net → ℕ × (Net × Bool)
+takenIn k n = answered k noEntry (cleared n, hasBitPast n)
+
+abbrev pub entered : Net → ℕ × (Net × Bool)
+entered n = takenIn (refusalOf n) n
 
 unfoldable pub bigEndian : ℕ → List ℕ → ℕ → ℕ
 bigEndian b xs zero = 0

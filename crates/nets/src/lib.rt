@@ -1,7 +1,7 @@
 // Networks: the numbers of one, the refusal of numbers that are none, clearing, and the bits from the highest on.
 ghost use mathlib.Core.Path.{_≡_};
 ghost use Rattle.nets.specs.Refusals.{number, answered};
-ghost use Rattle.nets.specs.Networks.{netWords, refusalOf, noNet, takenAs, judged, withLen, withLenNo, cleared};
+ghost use Rattle.nets.specs.Networks.{netWords, refusalOf, noNet, takenAs, judged, withLen, withLenNo, cleared, enteredAs, entered};
 ghost use Rattle.nets.specs.Networks.{startOf, noBits, prefixAs, nextAs, nextOf};
 
 pub mod families;
@@ -66,6 +66,12 @@ pub enum Taken {
     Refused(Refusal),
 }
 
+// A network taken in, its bits past the length cleared, and whether one of them was set; or why there is none.
+pub enum Entered {
+    Network(Net, bool),
+    Refused(Refusal),
+}
+
 // The bits of a network that are still to come, the first of them the highest of the two words.
 pub struct PrefixBits {
     pub hi: u64,
@@ -98,17 +104,17 @@ impl Net {
         })
     }
 
-    // The network with the bits past its length cleared.
-    pub fn to_network(self) -> Taken
-        ensures { λ r. ⌜ takenAs r ≡ answered (refusalOf self) noNet (cleared self) ⌝ }
+    // The network taken in: the bits past its length are cleared, and the answer says whether one was set.
+    pub fn to_network(self) -> Entered
+        ensures { λ r. ⌜ enteredAs r ≡ entered self ⌝ }
     {
-        match rules::judge(self) {
-            Taken::Network(n) => Taken::Network(words::clear(n)),
-            Taken::Refused(no) => Taken::Refused(no),
+        match rules::cut(self) {
+            Taken::Network(n) => Entered::Network(n, has_bit_past(self)),
+            Taken::Refused(no) => Entered::Refused(no),
         }
     }
 
-    // The network of length len around the same address.
+    // The network of length len around the same address. The bits behind it are cut as asked, so there is nothing to report.
     pub fn with_new_prefix(self, len: u8) -> Taken
         ensures { λ r. ⌜ takenAs r ≡ answered (withLenNo self len) noNet (cleared (withLen self len)) ⌝ }
     {
@@ -116,7 +122,7 @@ impl Net {
         match t {
             Taken::Network(mut n) => {
                 n.len = len;
-                n.to_network()
+                rules::cut(n)
             }
             Taken::Refused(no) => Taken::Refused(no),
         }

@@ -1,11 +1,13 @@
 // Which numbers are a network, and the refusal of those that are none.
 ghost use mathlib.Core.Path.{_≡_};
-ghost use Rattle.nets.specs.Networks.{inRange, takenAs, judged};
+ghost use Rattle.nets.specs.Refusals.{answered};
+ghost use Rattle.nets.specs.Networks.{inRange, refusalOf, noNet, takenAs, judged, cleared};
 use crate::IPV4;
 use crate::Net;
 use crate::Refusal;
 use crate::Taken;
 use crate::families::is_family;
+use crate::words::clear;
 
 // Whether length and address are within the family's range.
 fn in_range(n: Net) -> bool
@@ -28,4 +30,14 @@ pub fn judge(n: Net) -> Taken
         return Taken::Refused(Refusal::BadNetwork);
     }
     Taken::Network(n)
+}
+
+// The network with the bits past its length cleared, or the refusal of its numbers.
+pub fn cut(n: Net) -> Taken
+    ensures { λ r. ⌜ takenAs r ≡ answered (refusalOf n) noNet (cleared n) ⌝ }
+{
+    match judge(n) {
+        Taken::Network(n) => Taken::Network(clear(n)),
+        Taken::Refused(no) => Taken::Refused(no),
+    }
 }

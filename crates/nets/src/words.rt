@@ -1,9 +1,7 @@
 // The arithmetic of address words.
 ghost use mathlib.Core.Path.{_≡_};
-ghost use mathlib.Core.Bool.{not};
-ghost use Prim.Native.Nat.{_-_, _*_, _/_, _%_, _^_};
-ghost use lib.Dec.{eqb};
-ghost use Rattle.nets.specs.Networks.{width, address, refusalOf, cleared, startOf};
+ghost use Prim.Native.Nat.{_-_, _*_, _/_, _^_};
+ghost use Rattle.nets.specs.Networks.{width, refusalOf, cleared, hasBitPast, startOf};
 use crate::IPV4;
 use crate::Net;
 use crate::PrefixBits;
@@ -51,7 +49,7 @@ pub fn clear(mut n: Net) -> Net
 
 // The rule backwards: a bit past the length is set, so that clearing changes a word.
 pub fn has_bit_past(n: Net) -> bool
-    ensures { λ r. ⌜ r ≡ not (eqb (address n % 2 ^ (width (n .family) - n .len)) 0) ⌝ }
+    ensures { λ r. ⌜ r ≡ hasBitPast n ⌝ }
 {
     let k = past(n);
     keep(n.hi, less(k, 64)) != n.hi || keep(n.lo, k) != n.lo

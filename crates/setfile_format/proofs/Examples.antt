@@ -5,7 +5,7 @@ use mathlib.Core.List.{List, [], _∷_}
 use Prim.Native.Nat.{ℕ}
 use Rattle.nets.specs.Bits.{Bits, bits, before}
 use Rattle.nets.specs.Lists as lists
-use Rattle.nets.specs.Networks.{width, netBits, netWords, bigEndian}
+use Rattle.nets.specs.Networks.{width, netBits, netWords, hasBitPast, bigEndian}
 use Rattle.setfile_format.specs.Files.{bytesOf, entryBytes, fileBytes, entryOf, entriesOf, headerOf, fileOf, headNumber, entryNet, isClean, areClean, networksIn, isFileHeader, areEntries, readFile, file, broken}
 use Rattle.address_order.specs.Streams.{putInOrder, inAddressOrder, shared, moreNodes, pathNodes}
 
@@ -23,7 +23,7 @@ unfolding fileOf headerOf bytesOf fileBytes entriesOf entryBytes entryOf width n
 written = refl
 
 pub reads : readFile bytes ≡ file 4 (ten ∷ two ∷ [])
-unfolding readFile isFileHeader headNumber bigEndian fileBytes entryBytes width areEntries areClean isClean entryNet lists.isList networksIn before netBits bits
+unfolding readFile isFileHeader headNumber bigEndian fileBytes entryBytes width areEntries areClean isClean hasBitPast entryNet lists.isList networksIn before netBits bits
 reads = refl
 
 pub cut : readFile (0 ∷ 0 ∷ 0 ∷ 4 ∷ []) ≡ broken

@@ -1,7 +1,7 @@
 -- Files and lists: a list's file reads back to it (Written), and whatever reads as a list is that list's file. So each list has one file in its family, and all other bytes are
 -- broken. One proof over the width. Assumes nothing.
 use mathlib.Core.Path.{_≡_, refl, sym, ap, _∙_}
-use mathlib.Core.Bool.{Bool, true, false, cond, _&&_}
+use mathlib.Core.Bool.{Bool, true, false, not, cond, _&&_, Bool·not-not}
 use mathlib.Core.List.{List, [], _∷_, _++_}
 use Prim.Native.Nat.{ℕ, zero, suc, _+_, _-_, _*_, _/_, _%_, _^_, _≤_, _<_}
 use native.Mathlib.Nat.{zero-add, mul-add, mul-suc, add-zero}
@@ -14,7 +14,7 @@ use lib.Pow.{shr-mod, split}
 use lib.Seq.{take-suc, take-add, drop-drop, getD-drop}
 use Rattle.nets.specs.Bits.{Bits, val, bits}
 use Rattle.nets.specs.Lists.{isList}
-use Rattle.nets.specs.Networks.{isFamily, width, address, netBits, bigEndian}
+use Rattle.nets.specs.Networks.{isFamily, width, address, netBits, hasBitPast, bigEndian}
 use Rattle.nets.specs.declared.Net.{Net}
 use Rattle.nets.proofs.Strings.{and-left, and-right}
 use Rattle.nets.proofs.Numbers.{length-bits, val-bits, take-bits}
@@ -77,15 +77,16 @@ readFile-is d f l e =
 module _ (n : Net) (clean : isClean n ≡ true) (low : address n < 2 ^ width (n .family)) where
   pub clean-len : n .len ≤ width (n .family)
   unfolding isClean
-  clean-len = leb-true (n .len) (width (n .family)) (and-left (leb (n .len) (width (n .family))) (eqb (address n % 2 ^ (width (n .family) - n .len)) 0) clean)
+  clean-len = leb-true (n .len) (width (n .family)) (and-left (leb (n .len) (width (n .family))) (not (hasBitPast n)) clean)
 
   -- k bits stand past the length
   module _ (k : ℕ) (p : n .len + k ≡ width (n .family)) where
     clean-zero : address n % 2 ^ k ≡ 0
-    unfolding isClean
+    unfolding isClean hasBitPast
     clean-zero =
         let q : width (n .family) - n .len ≡ k = omega arith in
-        rw (← q) (eqb-true (address n % 2 ^ (width (n .family) - n .len)) 0 (and-right (leb (n .len) (width (n .family))) (eqb (address n % 2 ^ (width (n .family) - n .len)) 0) clean))
+        let z = eqb (address n % 2 ^ (width (n .family) - n .len)) 0 in
+        rw (← q) (eqb-true (address n % 2 ^ (width (n .family) - n .len)) 0 (sym (Bool·not-not z) ∙ and-right (leb (n .len) (width (n .family))) (not (not z)) clean))
 
     clean-bits : netBits n ≡ bits (n .len) (address n / 2 ^ k)
     unfolding netBits

@@ -12,7 +12,7 @@ use lib.Pow.{pow-add, shl-lt, split}
 use lib.Seq.{drop-at, getD-at}
 use Rattle.nets.specs.Bits.{Bits, val}
 use Rattle.nets.specs.Lists.{within, isList}
-use Rattle.nets.specs.Networks.{isFamily, width, netFrom}
+use Rattle.nets.specs.Networks.{isFamily, width, netFrom, hasBitPast}
 use Rattle.nets.proofs.Strings.{and-left, and-right}
 use Rattle.nets.proofs.Order.{val-high}
 use Rattle.nets.proofs.Numbers.{family-few, width-4, width-6, width-le, netBits-netFrom}
@@ -60,7 +60,7 @@ module _ (f : ℕ) (p : Bits) (h : length p ≤ width f) where
   number-lt = let e : length p + (width f - length p) ≡ width f = omega arith in rw e at (shl-lt (length p) (width f - length p) (val-high p))
 
   isClean-netFrom : isClean (netFrom f p) ≡ true
-  unfolding isClean netFrom
+  unfolding isClean hasBitPast netFrom
   isClean-netFrom =
       let k = width f - length p in
       rw (le-leb (length p) (width f) h, split (val p * 2 ^ k) 64, mul-mod-left (val p) (2 ^ k))

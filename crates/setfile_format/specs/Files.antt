@@ -7,14 +7,14 @@
 --   entryNet f d i    entry i of the bytes d, as a network
 --   networksIn f d i k    the networks of the k entries from entry i on
 --   readFile d        the family and the list of a file, or broken: a rule is broken
-use mathlib.Core.Bool.{Bool, true, cond, _&&_}
+use mathlib.Core.Bool.{Bool, true, not, cond, _&&_}
 use mathlib.Core.List.{List, [], _∷_, _++_}
 use Prim.Native.Nat.{ℕ, zero, suc, _+_, _-_, _*_, _/_, _%_, _^_}
 use lib.Dec.{eqb, leb}
 use lib.ListN.{length, getD, drop}
 use Rattle.nets.specs.Bits.{Bits, val}
 use Rattle.nets.specs.Lists.{isList}
-use Rattle.nets.specs.Networks.{isFamily, width, netOf, address, netBits, bigEndian}
+use Rattle.nets.specs.Networks.{isFamily, width, netOf, netBits, hasBitPast, bigEndian}
 use Rattle.nets.specs.declared.Net.{Net}
 
 unfoldable pub bytesOf : ℕ → ℕ → List ℕ
@@ -63,7 +63,7 @@ entryNet f d i = netOf f (bigEndian 256 (drop (entryAt f i) d) (addressBytes f))
 
 -- a length within the width, and no bits past it
 unfoldable pub isClean : Net → Bool
-isClean n = leb (n .len) (width (n .family)) && eqb (address n % 2 ^ (width (n .family) - n .len)) 0
+isClean n = leb (n .len) (width (n .family)) && not (hasBitPast n)
 
 unfoldable pub areClean : ℕ → List ℕ → ℕ → ℕ → Bool
 areClean f d i zero = true

@@ -7,12 +7,14 @@ use crate::table::Word;
 use crate::table::number;
 use crate::table::word_at;
 ghost use Prim.Native.Nat.{_<_};
+use change::Noted;
 use nets::Net;
 use nets::Refusal;
 use pool_state::Answer;
 use pool_state::Report;
 
-// What a call answers, as the first two words behind the sign =: numbers, the name `refused` and its number, or a network.
+// What a call answers, as the first two words behind the sign =: numbers, the name `refused` and its number, or a network. Of add and
+// remove the second is the name `cut` where a set bit past the length was cut.
 pub struct Got {
     pub first: Word,
     pub second: Word,
@@ -43,6 +45,23 @@ pub fn answer(a: Answer) -> Got {
     match a {
         Answer::Granted(n) => numbers(n as u64, 0),
         Answer::Refused(no) => refusal(no),
+    }
+}
+
+fn mark(cut: bool) -> Word {
+    if cut {
+        return named(b'c');
+    }
+    number(0)
+}
+
+fn noted(a: Noted) -> Got {
+    match a {
+        Noted::Granted(n, cut) => Got {
+            first: number(n as u64),
+            second: mark(cut),
+        },
+        Noted::Refused(no) => refusal(no),
     }
 }
 
@@ -132,8 +151,8 @@ pub fn call(pool: &mut [u32], row: &[u8]) -> Got {
     let set = taken(row, 1);
     match letter(row) {
         b'l' => layout(pool, row),
-        b'a' => answer(change::add(pool, set, net(row))),
-        b'r' => answer(change::remove(pool, set, net(row))),
+        b'a' => noted(change::add(pool, set, net(row))),
+        b'r' => noted(change::remove(pool, set, net(row))),
         b's' => answer(change::simplify(pool, set)),
         b'f' => answer(pool::free(pool)),
         b'h' => report(pool::held(pool, set)),

@@ -1,13 +1,17 @@
--- Lines as a reader meets them: read, refused and written by computation. Assumes nothing.
+-- Lines as a reader meets them: read, refused, taken in and written by computation. Assumes nothing.
+use mathlib.Core.Bool.{true, false}
 use mathlib.Core.List.{List, [], _∷_, map}
 use mathlib.Core.Path.{_≡_, refl}
 use Prim.Native.Char.{code}
 use Prim.Native.Nat.{ℕ}
 use Prim.Native.String.{String}
 use lib.ListN.{replicate}
+use Rattle.nets.specs.Bits.{bits}
+use Rattle.nets.specs.Networks.{width, netBits, netFrom, cleared, hasBitPast}
 use Rattle.nets.specs.declared.Net.{Net}
 use Rattle.text.specs.Decimal.{isDigit, allDigits, decimalFrom, plain, isNumber, leading, behind, readNumber, digitsOf}
-use Rattle.text.specs.Ipv4.{address, ipv4, joined, readNext, readQuad, badText, readLine, lineOf}
+use Rattle.text.specs.Ipv4.{address, ipv4, joined, readNext, readQuad, badText, readLine, lineAs, lineOf}
+use Rattle.text.specs.Answers.{enteredLine}
 
 abbrev bytes : String → List ℕ
 bytes String.[] = []
@@ -35,7 +39,13 @@ pub zeros-refused : map read ("010.0.0.0/8" ∷ "10.0.0.00/8" ∷ "10.0.0.0/08" 
 unfolding isDigit allDigits decimalFrom plain isNumber leading behind readNumber readNext readQuad readLine
 zeros-refused = refl
 
+-- taken in: the bits past the length go, and the answer says whether one was set; a /32 has none
+pub lines-entered : map (λ s. enteredLine (bytes s)) ("10.9.8.7/8" ∷ "10.0.0.0/8" ∷ "0.0.0.1/0" ∷ "0.0.0.1/32" ∷ "0.0.0.1/31" ∷ [])
+    ≡ (0, (net 10 0 0 0 8, true)) ∷ (0, (net 10 0 0 0 8, false)) ∷ (0, (net 0 0 0 0 0, true)) ∷ (0, (net 0 0 0 1 32, false)) ∷ (0, (net 0 0 0 0 31, true)) ∷ []
+unfolding isDigit allDigits decimalFrom plain isNumber leading behind readNumber readNext readQuad readLine enteredLine width bits netBits netFrom cleared hasBitPast
+lines-entered = refl
+
 pub lines-written : map lineOf (net 10 9 8 7 8 ∷ net 0 0 0 0 0 ∷ net 192 168 100 255 32 ∷ [])
-    ≡ map bytes ("10.9.8.7/8" ∷ "0.0.0.0/0" ∷ "192.168.100.255/32" ∷ [])
-unfolding digitsOf joined lineOf
+    ≡ map bytes ("10.0.0.0/8" ∷ "0.0.0.0/0" ∷ "192.168.100.255/32" ∷ [])
+unfolding digitsOf joined lineAs lineOf width bits netBits netFrom cleared
 lines-written = refl

@@ -1,5 +1,5 @@
--- What is written reads back to the same network, and no other line reads as that network: each of its numbers is known by its value. So of all lines of the
--- addresses that a network stands for, the written one alone has no bit past the length. Assumes nothing.
+-- What is written reads back to the cleared network, and no other line reads as those numbers: each of them is known by its value. So of all lines of the
+-- addresses that a network stands for, the written one alone has no bit past the length, and all of them are written as that one. Assumes nothing.
 use mathlib.Core.Bool.{Bool, true, false, cond, _&&_}
 use mathlib.Core.List.{List}
 use mathlib.Core.Logic.{_↔_}
@@ -9,20 +9,25 @@ use native.Mathlib.Omega.{arith}
 use lib.Dec.{eqb, leb, ltb}
 use lib.ListN.{length, take, drop}
 use lib.Seq.{take-append-seam}
-use borrow.Author.Tests.{leb-true, ltb-true, eqb-true, le-leb, lt-ltb}
-use Rattle.nets.proofs.Answers.{answered-granted}
-use Rattle.nets.proofs.Numbers.{netBits-cleared, refusalOf-cleared}
+use borrow.Author.Tests.{leb-true, ltb-true, eqb-true, ne-eqb, le-leb, lt-ltb}
+use Rattle.nets.proofs.Answers.{number-some, answered-granted}
+use Rattle.nets.proofs.Numbers.{refusalOf-cleared, cleared-one, cleared-cleared, family-cleared}
 use Rattle.nets.proofs.Strings.{and-left, and-right}
-use Rattle.nets.proofs.TwoWords.{inRange-4}
-use Rattle.nets.specs.Networks.{inRange, refusalOf, netBits, netFrom, cleared}
+use Rattle.nets.proofs.TwoWords.{inRange-4, cleared-same, hasBitPast-cleared}
+use Rattle.nets.specs.Networks.{inRange, refusalOf, netBits, cleared, hasBitPast, noNet, takenAs, noEntry, enteredAs, entered}
+use Rattle.nets.specs.Refusals.{number}
 use Rattle.nets.specs.declared.Net.{Net}
+use Rattle.nets.specs.declared.Refusal.{Refusal}
+use Rattle.nets.specs.declared.Taken.{Taken}
+use Rattle.nets.specs.declared.Taken.the-variants as taken
+use Rattle.nets.specs.declared.Entered.{Entered}
 use Rattle.text.specs.Decimal.{decimal, digitsOf}
 use Rattle.text.specs.DecOctet.{isDecOctet}
-use Rattle.text.specs.Ipv4.{address, ipv4, IsLine, readLine, octetOf, lineOf}
-use Rattle.text.specs.Answers.{lineRefusal, over, Wrote}
+use Rattle.text.specs.Ipv4.{address, ipv4, IsLine, readLine, octetOf, lineAs, lineOf}
+use Rattle.text.specs.Answers.{enteredLine, noneWritten, lineRefusal, over, Wrote}
 use Rattle.text.specs.declared.Written.the-variants.{Bytes}
 use Rattle.text.proofs.Numbers.{isNumber-is}
-use Rattle.text.proofs.Writing.{length-digitsOf-two, isNumber-digitsOf, decimal-digitsOf, length-lineOf}
+use Rattle.text.proofs.Writing.{length-digitsOf-two, isNumber-digitsOf, decimal-digitsOf, length-lineAs}
 use Rattle.text.proofs.Digits.{number-known}
 use Rattle.text.proofs.DecOctet.{octet-number, number-octet}
 use Rattle.text.proofs.Grammar.{readLine-accepts}
@@ -72,9 +77,9 @@ isDecOctet-octetOf a k =
     let h : x < 256 = omega arith in
     number-octet (octetOf a k) (isNumber-digitsOf 255 x (omega arith) (omega arith))
 
-pub lineOf-is : (n : Net) → n .family ≡ 4 → refusalOf n ≡ 0 → IsLine (lineOf n) n
-unfolding lineOf
-lineOf-is n f e =
+pub lineAs-is : (n : Net) → n .family ≡ 4 → refusalOf n ≡ 0 → IsLine (lineAs n) n
+unfolding lineAs
+lineAs-is n f e =
     let i = ipv4-is n f e in
     record {
       a = octetOf (n .lo) 3;
@@ -91,11 +96,11 @@ lineOf-is n f e =
       network = ipv4-known i (simp decimal-digitsOf (address-octets (n .lo) (i .lo))) (sym (decimal-digitsOf (n .len)));
     }
 
-pub readLine-lineOf : (n : Net) → n .family ≡ 4 → refusalOf n ≡ 0 → readLine (lineOf n) ≡ (0, n)
-readLine-lineOf n f e = readLine-accepts (lineOf n) n .1 (lineOf-is n f e)
+pub readLine-lineAs : (n : Net) → n .family ≡ 4 → refusalOf n ≡ 0 → readLine (lineAs n) ≡ (0, n)
+readLine-lineAs n f e = readLine-accepts (lineAs n) n .1 (lineAs-is n f e)
 
-pub lineOf-short : (n : Net) → n .family ≡ 4 → refusalOf n ≡ 0 → length (lineOf n) ≤ 18
-lineOf-short n f e = let l = ipv4-is n f e .len in omega (arith, length-lineOf n, length-digitsOf-two (n .len) (omega arith))
+pub lineAs-short : (n : Net) → n .family ≡ 4 → refusalOf n ≡ 0 → length (lineAs n) ≤ 18
+lineAs-short n f e = let l = ipv4-is n f e .len in omega (arith, length-lineAs n, length-digitsOf-two (n .len) (omega arith))
 
 -- What is read can be written.
 octet-known : {s : List ℕ} → isDecOctet s ≡ true → (decimal s ≤ 255) × (s ≡ digitsOf (decimal s))
@@ -113,8 +118,22 @@ isLine-granted s n l =
 pub readLine-granted : (s : List ℕ) (n : Net) → readLine s ≡ (0, n) → (n .family ≡ 4) × (refusalOf n ≡ 0)
 readLine-granted s n e = isLine-granted s n (readLine-accepts s n .0 e)
 
-pub readLine-again : (s : List ℕ) (n : Net) → readLine s ≡ (0, n) → readLine (lineOf n) ≡ (0, n)
-readLine-again s n e = let g = readLine-granted s n e in readLine-lineOf n (g .0) (g .1)
+-- so it is taken in, and what is refused is refused
+pub enteredLine-network : {t : Taken} {n : Net} (s : List ℕ) (r : Entered) → t ≡ taken.Network n → takenAs t ≡ readLine s → enteredAs r ≡ entered n → enteredAs r ≡ enteredLine s
+unfolding enteredLine
+enteredLine-network {t} {n} s r e h k =
+    let q : readLine s ≡ (0, n) = sym h ∙ ap takenAs e in
+    rw q (rw (readLine-granted s n q .1) at k)
+
+pub enteredLine-refused : {t : Taken} {x : Refusal} (s : List ℕ) → t ≡ taken.Refused x → takenAs t ≡ readLine s → (number x, noEntry) ≡ enteredLine s
+unfolding enteredLine
+enteredLine-refused {t} {x} s e h =
+    let q : readLine s ≡ (number x, noNet) = sym h ∙ ap takenAs e in
+    rw (q, ne-eqb (number x) 0 (number-some x))
+
+pub enteredLine-no : (s : List ℕ) → enteredLine s .0 ≡ readLine s .0
+unfolding enteredLine
+enteredLine-no s = refl
 
 lineRefusal-zero : (n : Net) (room : ℕ) → lineRefusal n room ≡ 0 → (n .family ≡ 4) × (refusalOf n ≡ 0)
 unfolding lineRefusal refusalOf
@@ -125,22 +144,14 @@ lineRefusal-zero n room e = go (eqb (n .family) 4) (inRange n) refl refl e
     go true false h k e = absurd (omega arith)
     go false r h k e = absurd (omega arith)
 
--- the bytes that a call has written read back to its network
-pub written-reads : (n : Net) (old new : List ℕ) (k : ℕ) → Wrote n old new (Bytes k) → readLine (take k new) ≡ (0, n)
-written-reads n old new k w =
-    let a = answered-granted (lineRefusal n (length old)) 0 (length (lineOf n)) k (w .answer) in
-    let g = lineRefusal-zero n (length old) (a .0) in
-    let e : new ≡ over (lineOf n) old = rw (a .0) at (w .bytes) in
-    rw (e, a .1, take-append-seam (lineOf n) (drop (length (lineOf n)) old)) (readLine-lineOf n (g .0) (g .1))
-
--- No other line reads as the network: the four bytes of its address are known.
+-- No other line reads as the same numbers: the four bytes of its address are known.
 octets-address : (a b c d : ℕ) → a ≤ 255 → b ≤ 255 → c ≤ 255 → d ≤ 255
     → let x = address a b c d in (x / 2 ^ 24 % 256 ≡ a) × (x / 2 ^ 16 % 256 ≡ b) × (x / 2 ^ 8 % 256 ≡ c) × (x / 2 ^ 0 % 256 ≡ d)
 octets-address a b c d h g f e = (omega arith, omega arith, omega arith, omega arith)
 
-isLine-lineOf : (s : List ℕ) (n : Net) → IsLine s n → s ≡ lineOf n
-unfolding lineOf
-isLine-lineOf s n l =
+isLine-lineAs : (s : List ℕ) (n : Net) → IsLine s n → s ≡ lineAs n
+unfolding lineAs
+isLine-lineAs s n l =
     let a = octet-known (l .a-rule) in
     let b = octet-known (l .b-rule) in
     let c = octet-known (l .c-rule) in
@@ -149,30 +160,69 @@ isLine-lineOf s n l =
     let o = octets-address (decimal (l .a)) (decimal (l .b)) (decimal (l .c)) (decimal (l .d)) (a .0) (b .0) (c .0) (d .0) in
     l .bytes ∙ rw (l .network, o .0, o .1, o .2, o .3, ← a .1, ← b .1, ← c .1, ← d .1, ← k)
 
-pub lineOf-only : (s : List ℕ) (n : Net) → readLine s ≡ (0, n) → s ≡ lineOf n
-lineOf-only s n e = isLine-lineOf s n (readLine-accepts s n .0 e)
+pub lineAs-only : (s : List ℕ) (n : Net) → readLine s ≡ (0, n) → s ≡ lineAs n
+lineAs-only s n e = isLine-lineAs s n (readLine-accepts s n .0 e)
 
--- A line of a network, whatever its bits past the length: with none there, it is the written line.
-pub record ReadsClear (s : List ℕ) (n : Net) : Type 0 where
+-- The line that is written is that of the cleared numbers.
+module _ (n : Net) (f : n .family ≡ 4) (e : refusalOf n ≡ 0) where
+  lineOf-reads : readLine (lineOf n) ≡ (0, cleared n)
+  unfolding lineOf
+  lineOf-reads = readLine-lineAs (cleared n) (family-cleared n ∙ f) (refusalOf-cleared n e)
+
+  -- it reads back to the cleared network, and reports no
+  pub enteredLine-lineOf : enteredLine (lineOf n) ≡ (0, (cleared n, false))
+  unfolding enteredLine
+  enteredLine-lineOf = rw (lineOf-reads, cleared-cleared n e, hasBitPast-cleared n e)
+
+-- the bytes that a call has written do so, and its report says whether a bit was cut
+pub written-reads : (n : Net) (old new : List ℕ) (k : ℕ) (b : Bool) → Wrote n old new (Bytes k b) → (enteredLine (take k new) ≡ (0, (cleared n, false))) × (b ≡ hasBitPast n)
+written-reads n old new k b w =
+    let a = answered-granted (lineRefusal n (length old)) noneWritten (length (lineOf n), hasBitPast n) (k, b) (w .answer) in
+    let g = lineRefusal-zero n (length old) (a .0) in
+    let e : new ≡ over (lineOf n) old = rw (a .0) at (w .bytes) in
+    let q : k ≡ length (lineOf n) = ap (λ p. p .0) (a .1) in
+    (rw (e, q, take-append-seam (lineOf n) (drop (length (lineOf n)) old)) (enteredLine-lineOf n (g .0) (g .1)), ap (λ p. p .1) (a .1))
+
+-- Networks of one family with the same bits are written alike: so every line of a network, read and written again, is one line.
+pub lineOf-one : (m n : Net) → m .family ≡ n .family → netBits m ≡ netBits n → lineOf m ≡ lineOf n
+unfolding lineOf
+lineOf-one m n f e = ap lineAs (cleared-one m n f e)
+
+-- what a line that is taken in reads as
+pub record Took (s : List ℕ) (m : Net) (b : Bool) : Type 0 where
   pub read : Net
   pub reads : readLine s ≡ (0, read)
-  pub network : netBits read ≡ netBits n
-  pub clear : cleared read ≡ read
+  pub family : read .family ≡ 4
+  pub granted : refusalOf read ≡ 0
+  pub network : m ≡ cleared read
+  pub report : b ≡ hasBitPast read
 
-cleared-one : (m n : Net) → m .family ≡ n .family → netBits m ≡ netBits n → cleared m ≡ cleared n
-unfolding cleared
-cleared-one m n f e = cc
+pub took : (s : List ℕ) (m : Net) (b : Bool) → enteredLine s ≡ (0, (m, b)) → Took s m b
+unfolding enteredLine
+took s m b e =
+    let n = readLine s .1 in
+    let a = answered-granted (readLine s .0) noEntry (cleared n, hasBitPast n) (m, b) (sym e) in
+    let q : readLine s ≡ (0, n) = ap (λ k. (k, n)) (a .0) in
+    let g = readLine-granted s n q in
+    record { read = n; reads = q; family = g .0; granted = g .1; network = ap (λ p. p .0) (a .1); report = ap (λ p. p .1) (a .1) }
 
-pub lineOf-clear : (s : List ℕ) (n : Net) → n .family ≡ 4 → refusalOf n ≡ 0 → ReadsClear s n ↔ (s ≡ lineOf (cleared n))
-unfolding cleared netFrom
+pub lineOf-again : (s : List ℕ) (m n : Net) (b : Bool) → n .family ≡ 4 → enteredLine s ≡ (0, (m, b)) → netBits m ≡ netBits n → lineOf m ≡ lineOf n
+lineOf-again s m n b f e g =
+    let t = took s m b e in
+    let h : m .family ≡ 4 = ap (λ x. x .family) (t .network) ∙ family-cleared (t .read) ∙ t .family in
+    lineOf-one m n (h ∙ sym f) g
+
+-- And of all lines of a network the written one alone reports no.
+pub lineOf-clear : (s : List ℕ) (n : Net) → n .family ≡ 4 → refusalOf n ≡ 0 → (enteredLine s ≡ (0, (cleared n, false))) ↔ (s ≡ lineOf n)
+unfolding lineOf
 lineOf-clear s n f e = (only, written)
   where
-    only : ReadsClear s n → s ≡ lineOf (cleared n)
-    only r =
-        let g = readLine-granted s (r .read) (r .reads) .0 ∙ sym f in
-        lineOf-only s (r .read) (r .reads) ∙ ap lineOf (sym (r .clear) ∙ cleared-one (r .read) n g (r .network))
+    only : enteredLine s ≡ (0, (cleared n, false)) → s ≡ lineAs (cleared n)
+    only h =
+        let t = took s (cleared n) false h in
+        let l = ipv4-is (t .read) (t .family) (t .granted) .lo in
+        let c : cleared (t .read) ≡ t .read = cleared-same (t .read) (t .granted) (omega arith) (sym (t .report)) in
+        lineAs-only s (t .read) (t .reads) ∙ ap lineAs (sym c ∙ sym (t .network))
 
-    written : s ≡ lineOf (cleared n) → ReadsClear s n
-    written h =
-        let b = netBits-cleared n e in
-        record { read = cleared n; reads = rw h (readLine-lineOf (cleared n) f (refusalOf-cleared n e)); network = b; clear = cleared-one (cleared n) n refl b }
+    written : s ≡ lineAs (cleared n) → enteredLine s ≡ (0, (cleared n, false))
+    written h = ap enteredLine h ∙ enteredLine-lineOf n f e

@@ -11,7 +11,7 @@ use lib.Seq.{sets}
 use borrow.Author.Tests.{ltb-true, ltb-false, lt-ltb, le-ltb, ne-eqb}
 use Rattle.nets.specs.declared.Net.{Net}
 use Rattle.text.specs.Decimal.{isDigit, allDigits, decimal, decimalFrom, isNumber, plain, byteOf, digitsOf}
-use Rattle.text.specs.Ipv4.{dot, slash, joined, octetOf, lineOf}
+use Rattle.text.specs.Ipv4.{dot, slash, joined, octetOf, lineAs}
 use Rattle.text.specs.Places.{Stored}
 use Rattle.text.proofs.Numbers.{is-isDigit, is-isNumber}
 
@@ -97,8 +97,8 @@ joined-fields a b c d n = simp append-assoc
 
 pub stored-line : {w v : List ℕ} {q : ℕ} (n : Net)
     → Stored w 0 ((octetOf (n .lo) 3 ++ (dot ∷ [])) ++ ((octetOf (n .lo) 2 ++ (dot ∷ [])) ++ ((octetOf (n .lo) 1 ++ (dot ∷ [])) ++ ((octetOf (n .lo) 0 ++ (slash ∷ [])) ++ digitsOf (n .len))))) v q
-    → Stored w 0 (lineOf n) v q
-unfolding lineOf
+    → Stored w 0 (lineAs n) v q
+unfolding lineAs
 stored-line n h = rw (joined-fields (octetOf (n .lo) 3) (octetOf (n .lo) 2) (octetOf (n .lo) 1) (octetOf (n .lo) 0) (digitsOf (n .len))) at h
 
 pub length-joined : (a b c d n : List ℕ) → length (joined a b c d n) ≡ length a + length b + length c + length d + length n + 4
@@ -110,14 +110,14 @@ length-ended s e = length-append s (e ∷ [])
 
 -- how many bytes the line of a network has, and each of its numbers with the byte that ends it
 pub record Lengths (n : Net) : Type 0 where
-  pub line : length (lineOf n) ≡ length (octetOf (n .lo) 3) + length (octetOf (n .lo) 2) + length (octetOf (n .lo) 1) + length (octetOf (n .lo) 0) + length (digitsOf (n .len)) + 4
+  pub line : length (lineAs n) ≡ length (octetOf (n .lo) 3) + length (octetOf (n .lo) 2) + length (octetOf (n .lo) 1) + length (octetOf (n .lo) 0) + length (digitsOf (n .len)) + 4
   pub third : length (octetOf (n .lo) 3 ++ (dot ∷ [])) ≡ length (octetOf (n .lo) 3) + 1
   pub second : length (octetOf (n .lo) 2 ++ (dot ∷ [])) ≡ length (octetOf (n .lo) 2) + 1
   pub first : length (octetOf (n .lo) 1 ++ (dot ∷ [])) ≡ length (octetOf (n .lo) 1) + 1
   pub last : length (octetOf (n .lo) 0 ++ (slash ∷ [])) ≡ length (octetOf (n .lo) 0) + 1
 
 pub lengths : (n : Net) → Lengths n
-unfolding lineOf
+unfolding lineAs
 lengths n =
     record {
       line = length-joined (octetOf (n .lo) 3) (octetOf (n .lo) 2) (octetOf (n .lo) 1) (octetOf (n .lo) 0) (digitsOf (n .len));
@@ -127,8 +127,8 @@ lengths n =
       last = length-ended (octetOf (n .lo) 0) slash;
     }
 
-pub length-lineOf : (n : Net) → length (lineOf n) ≤ 16 + length (digitsOf (n .len))
-length-lineOf n =
+pub length-lineAs : (n : Net) → length (lineAs n) ≤ 16 + length (digitsOf (n .len))
+length-lineAs n =
     omega (
       arith,
       lengths n,

@@ -1,25 +1,33 @@
 -- The answers of the calls by the scope document's table, and what a write leaves.
 --
---   writtenAs r            number and count of an answer
+--   enteredLine s          the line s taken in: its refusal, or the cleared network and whether a bit was cut
+--   writtenAs r            number, count and report of an answer: a refusal reports no
 --   lineRefusal n room     why a network cannot be written to room bytes, or 0
 --   Wrote n old new r      the answer r and the bytes new, where n is written over the bytes old
-use mathlib.Core.Bool.{cond}
+use mathlib.Core.Bool.{Bool, false, cond}
 use mathlib.Core.List.{List, _++_}
 use mathlib.Core.Path.{_≡_}
 use Prim.Native.Nat.{ℕ}
 use lib.Dec.{eqb, leb}
 use lib.ListN.{length, drop}
-use Rattle.nets.specs.Networks.{inRange}
+use Rattle.nets.specs.Networks.{inRange, hasBitPast, takenIn}
 use Rattle.nets.specs.Refusals.{number, answered}
 use Rattle.nets.specs.declared.Net.{Net}
 use Rattle.nets.specs.declared.Refusal.the-variants.{WrongFamily, BadNetwork, ShortBuffer}
-use Rattle.text.specs.Ipv4.{lineOf}
+use Rattle.text.specs.Ipv4.{readLine, lineOf}
 use Rattle.text.specs.declared.Written.{Written}
 use Rattle.text.specs.declared.Written.the-variants.{Bytes, Refused}
 
-abbrev pub writtenAs : Written → ℕ × ℕ
-writtenAs (Bytes k) = (0, k)
-writtenAs (Refused r) = (number r, 0)
+unfoldable pub enteredLine : List ℕ → ℕ × (Net × Bool)
+enteredLine s = takenIn (readLine s .0) (readLine s .1)
+
+-- the values stand in pairs to the right
+abbrev pub noneWritten : ℕ × Bool
+noneWritten = (0, false)
+
+abbrev pub writtenAs : Written → ℕ × (ℕ × Bool)
+writtenAs (Bytes k b) = (0, (k, b))
+writtenAs (Refused r) = (number r, noneWritten)
 
 unfoldable pub lineRefusal : Net → ℕ → ℕ
 lineRefusal n room =
@@ -30,5 +38,5 @@ abbrev pub over : List ℕ → List ℕ → List ℕ
 over s old = s ++ drop (length s) old
 
 pub record Wrote (n : Net) (old new : List ℕ) (r : Written) : Type 0 where
-  pub answer : writtenAs r ≡ answered (lineRefusal n (length old)) 0 (length (lineOf n))
+  pub answer : writtenAs r ≡ answered (lineRefusal n (length old)) noneWritten (length (lineOf n), hasBitPast n)
   pub bytes : new ≡ cond (eqb (lineRefusal n (length old)) 0) (over (lineOf n) old) old

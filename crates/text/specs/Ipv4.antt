@@ -7,13 +7,14 @@
 --   readNext e p       what p has read with one more of the four numbers behind it, and the byte e that ends that number
 --   readQuad s         the address that the four numbers write, the last of them ended by the slash
 --   readLine s         the network of the line s, or the refusal of bytes that are none
---   lineOf n           the line that is written for n
+--   lineAs n           the line of the numbers of n as they stand
+--   lineOf n           the line that is written for n: its bits past the length are cleared
 use mathlib.Core.Bool.{Bool, true, cond}
 use mathlib.Core.List.{List, [], _∷_, _++_}
 use mathlib.Core.Path.{_≡_}
 use Prim.Native.Nat.{ℕ, _+_, _*_, _/_, _%_, _^_}
 use lib.Dec.{eqb}
-use Rattle.nets.specs.Networks.{netWords, noNet}
+use Rattle.nets.specs.Networks.{netWords, noNet, cleared}
 use Rattle.nets.specs.Refusals.{number}
 use Rattle.nets.specs.declared.Net.{Net}
 use Rattle.nets.specs.declared.Refusal.the-variants.{BadText}
@@ -83,5 +84,8 @@ readLine s = withAddress (readQuad s)
 abbrev pub octetOf : ℕ → ℕ → List ℕ
 octetOf a k = digitsOf (a / 2 ^ (8 * k) % 256)
 
+unfoldable pub lineAs : Net → List ℕ
+lineAs n = joined (octetOf (n .lo) 3) (octetOf (n .lo) 2) (octetOf (n .lo) 1) (octetOf (n .lo) 0) (digitsOf (n .len))
+
 unfoldable pub lineOf : Net → List ℕ
-lineOf n = joined (octetOf (n .lo) 3) (octetOf (n .lo) 2) (octetOf (n .lo) 1) (octetOf (n .lo) 0) (digitsOf (n .len))
+lineOf n = lineAs (cleared n)

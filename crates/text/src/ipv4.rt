@@ -4,7 +4,7 @@ ghost use mathlib.Core.List.{[], _∷_, _++_};
 ghost use Prim.Native.Nat.{_+_, _*_, _/_, _%_, _^_, _≤_, _<_};
 ghost use lib.ListN.{length, drop};
 ghost use Rattle.nets.specs.Networks.{takenAs};
-ghost use Rattle.text.specs.Ipv4.{readNext, readQuad, readLine, octetOf, lineOf};
+ghost use Rattle.text.specs.Ipv4.{readNext, readQuad, readLine, octetOf, lineAs};
 ghost use Rattle.text.specs.Places.{readAs, valueOf, Stored};
 use crate::cursor;
 use crate::cursor::Cursor;
@@ -44,7 +44,7 @@ fn quad(s: &[u8], start: Cursor) -> Read
     next(s, c, b'/')
 }
 
-// The network of a line.
+// The network of a line, with its address as the line has it.
 pub fn read(line: &[u8]) -> Taken
     ensures { λ r. ⌜ takenAs r ≡ readLine (now (line .entry)) ⌝ }
 {
@@ -84,9 +84,9 @@ fn digits(address: u64, k: u32) -> usize
     decimal::length(octet(address, k))
 }
 
-// How many bytes the line of the network has.
+// How many bytes the line of the numbers has, as they stand.
 pub fn length(net: Net) -> usize
-    ensures { λ r. ⌜ r ≡ length (lineOf net) ⌝ }
+    ensures { λ r. ⌜ r ≡ length (lineAs net) ⌝ }
 {
     let a = net.lo;
     let address = digits(a, 3) + digits(a, 2) + digits(a, 1) + digits(a, 0);
@@ -103,10 +103,10 @@ fn put(out: &mut [u8], at: usize, address: u64, k: u32, end: u8) -> usize
     next + 1
 }
 
-// Writes the line of the network from the first byte on, and gives the place behind it.
+// Writes the line of the numbers from the first byte on, and gives the place behind it.
 pub fn write(net: Net, out: &mut [u8]) -> usize
-    requires { ⌜ length (lineOf net) ≤ length (now out) ⌝ }
-    ensures { λ r. ⌜ Stored (now (out .entry)) 0 (lineOf net) (now (out .exit)) r ⌝ }
+    requires { ⌜ length (lineAs net) ≤ length (now out) ⌝ }
+    ensures { λ r. ⌜ Stored (now (out .entry)) 0 (lineAs net) (now (out .exit)) r ⌝ }
 {
     let address = net.lo;
     let a = put(out, 0, address, 3, b'.');

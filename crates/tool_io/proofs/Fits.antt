@@ -8,7 +8,7 @@ use lib.Dec.{eqb, leb}
 use lib.ListN.{length}
 use borrow.Author.Tests.{leb-true}
 use Rattle.nets.proofs.Answers.{answered-granted}
-use Rattle.nets.specs.Networks.{inRange}
+use Rattle.nets.specs.Networks.{inRange, hasBitPast}
 use Rattle.nets.specs.declared.Net.{Net}
 use Rattle.pool_state.specs.Changes.{listAt}
 use Rattle.pool_state.specs.Decode.{decode}
@@ -18,7 +18,7 @@ use Rattle.pool_state.specs.declared.Answer.the-variants.{Granted}
 use Rattle.pool_state.proofs.Answered.{answerOn-fits}
 use Rattle.listing.specs.Calls.{listRules, listRule, Listed}
 use Rattle.text.specs.Ipv4.{lineOf}
-use Rattle.text.specs.Answers.{writtenAs, lineRefusal, Wrote}
+use Rattle.text.specs.Answers.{noneWritten, writtenAs, lineRefusal, Wrote}
 use Rattle.text.specs.declared.Written.{Written}
 use Rattle.text.specs.declared.Written.the-variants.{Bytes}
 
@@ -32,10 +32,10 @@ lineRefusal-fits n room e = leb-true (length (lineOf n)) room (go (eqb (n .famil
     go true false c e = absurd (omega arith)
     go false b c e = absurd (omega arith)
 
-pub wrote-fits : {n : Net} {old new : List ℕ} {r : Written} {k : ℕ} → Wrote n old new r → r ≡ Bytes k → k ≤ length old
-wrote-fits {n} {old} {new} {r} {k} w e =
-    let g = answered-granted (lineRefusal n (length old)) 0 (length (lineOf n)) k (sym (ap writtenAs e) ∙ w .answer) in
-    omega (arith, g .1, lineRefusal-fits n (length old) (g .0))
+pub wrote-fits : {n : Net} {old new : List ℕ} {r : Written} {k : ℕ} {b : Bool} → Wrote n old new r → r ≡ Bytes k b → k ≤ length old
+wrote-fits {n} {old} {new} {r} {k} {b} w e =
+    let g = answered-granted (lineRefusal n (length old)) noneWritten (length (lineOf n), hasBitPast n) (k, b) (sym (ap writtenAs e) ∙ w .answer) in
+    omega (arith, ap (λ p. p .0) (g .1), lineRefusal-fits n (length old) (g .0))
 
 pub listed-fits : {w v u : List ℕ} {k m : ℕ} {r : Answer} → Listed w k v r u → r ≡ Granted m → 3 * m ≤ length v
 unfolding listRule listRules

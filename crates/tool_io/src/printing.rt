@@ -9,7 +9,7 @@ ghost use lib.ListN.{length};
 // One network, by way of a lent line. Whether it was written.
 fn network(net: Net, line: &mut [u8]) -> bool {
     let written = text::write_line(net, line);
-    let Written::Bytes(k) = written else {
+    let Written::Bytes(k, _) = written else {
         return false;
     };
     let n = k as usize;

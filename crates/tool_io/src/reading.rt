@@ -1,9 +1,10 @@
 // Reading lines from an open file.
 use lines::Reader;
 
-// What became of the input: each line's network is added; or the number of the first refused line, from 1 on, and its refusal; or it cannot be read.
+// What became of the input: each line's network is added, and so many lines were trimmed, a set bit past the length being cut; or the number of the first refused
+// line, from 1 on, and its refusal; or it cannot be read.
 pub enum Input {
-    Added,
+    Added(u64),
     Refused(u64, u8),
     Unreadable,
 }
@@ -46,5 +47,5 @@ pub fn read_lines(fd: i32, pool: &mut [u32]) -> Input {
     if r.no != 0 {
         return Input::Refused(r.number, r.no);
     }
-    Input::Added
+    Input::Added(r.trimmed)
 }

@@ -32,10 +32,10 @@ network-spec =
     (λ c.
     let l = c .before in
     let s = l .before .before .before .before .before .args .s .now in
-    rw (l .before .before .match .keys1) (rw (l .read-line .ensures, rest-is s 35) at (c .of-taken .ensures)))
-    (λ c. rw (c .before .before .match .keys2) (rw (c .before .new .ensures) at (c .of-taken2 .ensures)))
-    (λ c. rw (c .before .before .match .keys3) (rw (c .before .to-network .ensures) at (c .of-taken3 .ensures)))
-    (λ c. rw (c .before .before .before .match .keys4) (rw (c .before .with-new-prefix .ensures) at (c .of-taken4 .ensures)))
+    rw (l .before .before .match .keys1) (rw (l .read-line .ensures, rest-is s 35) at (c .of-entered .ensures)))
+    (λ c. rw (c .before .before .match .keys2) (rw (c .before .new .ensures) at (c .of-taken .ensures)))
+    (λ c. rw (c .before .before .match .keys3) (rw (c .before .to-network .ensures) at (c .of-entered2 .ensures)))
+    (λ c. rw (c .before .before .before .match .keys4) (rw (c .before .with-new-prefix .ensures) at (c .of-taken2 .ensures)))
     (λ c. rw (c .before .before .match .keys5) (rw (c .before .prefix-bits .ensures) at (c .of-prefix .ensures)))
     (λ c. rw (c .before .before .before .match .keys6) (rw (c .before .next .ensures, c .before .before .bits-of .ensures) at (c .of-bit .ensures)))
     (λ c.

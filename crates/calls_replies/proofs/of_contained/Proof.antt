@@ -8,8 +8,9 @@ of-contained-spec =
     tie.close
     (tie.spec
     (λ c. search needs)
+    (λ c. search needs)
     (λ c κs. search needs)
     (λ c. search needs)
     (λ c κs. search needs)
-    (λ c. rw (c .before .before .a .given .1) (c .of-lookup .ensures))
+    (λ c. rw (c .before .before .a .given .1) (c .of-trimmed .ensures))
     (λ c. rw (c .before .before .a2 .given .1) (c .refused .ensures)))

@@ -11,5 +11,5 @@ of-written-spec =
     (λ c κs. search needs)
     (λ c. search needs)
     (λ c κs. search needs)
-    (λ c. rw (c .before .before .a .given .1) (c .of-numbers .ensures))
+    (λ c. rw (c .before .before .a .given .1) (c .of-trimmed .ensures))
     (λ c. rw (c .before .before .a2 .given .1) (c .refused .ensures)))

@@ -1,4 +1,5 @@
 -- `remove` meets its contract: each return by the law for it, with what the calls on the way to it have found. Assumes nothing.
+use mathlib.Core.Path.{refl}
 use native.Mathlib.Omega.{arith}
 use borrow.Author.Needs.{needs}
 use Rattle.nets.specs.Lists.{removeL}
@@ -7,6 +8,7 @@ use Rattle.pool_state.proofs.Returns.{result-refused, result-fits, result-relin
 use Rattle.change.specs.Steps.{Ready}
 use Rattle.trie_remove.proofs.Splices.{left-root}
 use Rattle.change.proofs.Calls.{Counted, works-remove, seat-stands, result, result-stands, result-few, result-room, result-wrote}
+use Rattle.change.proofs.Reported.{reports-refused, reports-granted}
 use Rattle.change.proofs.remove.Statement.{statement}
 use Rattle.change.proofs.remove.Tie as tie
 
@@ -39,15 +41,17 @@ remove-spec =
     let j = e .before .before in
     let h = counted (j .before .before) in
     result-relinks (result h) (j .judge .ensures) (e .enum-told .given .1) (result-wrote h (left-root _ (i .remove .ensures _ _ (result-stands h)))))
+    (λ c κs. search needs)
     (λ c. search needs)
-    (λ c. (rw (c .before .asked .given .1) at (c .before .before .before .ask .ensures)) _)
+    (λ c. reports-refused (c .before .asked .given .0 .0) ((rw (c .before .asked .given .1) at (c .before .before .before .ask .ensures)) _))
     (λ c. search needs)
-    (λ c. let j = c .before .before .before in result-refused (result (counted (j .before .before))) (j .judge .ensures) _ (c .before .verdict .given .1))
+    (λ c. let j = c .before .before .before in reports-refused (c .before .verdict .given .0 .0) (result-refused (result (counted (j .before .before))) (j .judge .ensures) _ (c .before .verdict .given .1)))
     (λ c. search needs)
     (λ c.
-    let l = c .before .before in
+    let l = c .before .before .before in
     let i = l .before .before .before .before in
     let e = i .before .before .before in
     let j = e .before .before in
     let h = counted (j .before .before) in
-    result-granted (result h) (j .judge .ensures) (e .enum-told .given .1) (result-wrote h (left-root _ (i .remove .ensures _ _ (result-stands h)))) (l .granted .ensures .0) (l .granted .ensures .1)))
+    reports-granted (c .has-bit-past .ensures)
+    (result-granted (result h) (j .judge .ensures) (e .enum-told .given .1) (result-wrote h (left-root _ (i .remove .ensures _ _ (result-stands h)))) refl (l .granted .ensures .1))))

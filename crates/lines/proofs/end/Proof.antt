@@ -12,10 +12,11 @@ returns c = let t = took (c .before) in let a = t .before .before .before .args 
 
 returns-2 : tie.Need-returns-2
 returns-2 c =
-    let e = c .before in
+    let n = c .before .before in
+    let e = n .before in
     let t = took (e .before) in
     let a = t .before .before .before .args in
-    ended-added (a .pool .now) (a .g .reader) (t .take-kept .ensures) (e .if1 .left) (c .wrapping-add-u64 .ensures)
+    ended-added (a .pool .now) (a .g .reader) (t .take-kept .ensures) (e .if1 .left) (n .wrapping-add-u64 .ensures) (c .before .one-if .ensures) (c .wrapping-add-u642 .ensures)
 
 pub end-spec : {M : Type 1} → statement M
 end-spec =
@@ -24,6 +25,8 @@ end-spec =
     (λ c κs. c .before .before .pre)
     (λ c. search needs)
     returns
+    (λ c κs. search needs)
+    (λ c κs. search needs)
     (λ c κs. search needs)
     (λ c. search needs)
     returns-2)

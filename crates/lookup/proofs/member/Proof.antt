@@ -1,10 +1,8 @@
 -- `member` meets its contract: the network of the member's length is granted. Assumes nothing.
-use mathlib.Core.Bool.{true}
-use mathlib.Core.Path.{ap}
-use Prim.Native.Nat.{_+_}
 use native.Mathlib.Omega.{arith}
 use borrow.Author.Needs.{needs}
-use Rattle.lookup.proofs.Asked.{taken-network, taken-granted}
+use Rattle.nets.proofs.Answers.{taken-network}
+use Rattle.lookup.proofs.Asked.{taken-granted}
 use Rattle.lookup.proofs.member.Statement.{statement}
 use Rattle.lookup.proofs.member.Tie as tie
 
@@ -15,6 +13,10 @@ member-spec =
     (λ c κs. search needs)
     (λ c. search needs)
     (λ c. omega (arith, c .before .before .before .before .pre .1))
+    (λ c κs. search needs)
     (λ c. search needs)
-    (λ c. let s = c .before .before .before in ap (λ m. (0, (true, (m, s .before .args .len + 1)))) (taken-network _ _ _ (s .with-new-prefix .ensures) (s .before .pre .0) _ (c .before .t .given .1)))
+    (λ c.
+    let s = c .before .before .before .before in
+    let h = taken-network _ _ _ _ (s .with-new-prefix .ensures) (c .before .before .t .given .1) in
+    rw (c .has-bit-past .ensures, h .1))
     (λ c. let s = c .before .before .before in absurd (taken-granted _ _ _ (s .with-new-prefix .ensures) (s .before .pre .0) _ (c .before .t2 .given .1))))

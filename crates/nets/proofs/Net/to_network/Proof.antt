@@ -1,13 +1,10 @@
--- `Net::to_network` meets its contract: what `judge` grants is cleared, and what it refuses is refused. Assumes nothing.
-use mathlib.Core.Path.{_≡_}
+-- `Net::to_network` meets its contract: of what is cut, whether a bit past the length was set is reported, and of a refusal nothing. Assumes nothing.
+use mathlib.Core.Path.{_∙_}
 use borrow.Author.Needs.{needs}
-use Rattle.nets.specs.Networks.{refusalOf, noNet, cleared}
-use Rattle.nets.proofs.Answers.{judged-network, judged-refused}
+use Rattle.nets.specs.Networks.{refusalOf, noEntry, cleared, hasBitPast}
+use Rattle.nets.proofs.Answers.{taken-network, taken-refused}
 use Rattle.nets.proofs.Net.to_network.Statement.{statement}
 use Rattle.nets.proofs.Net.to_network.Tie as tie
-
-granted : (c : tie.After-known-told) → let n = c .before .before .before .before .args .self in (refusalOf n ≡ 0) × (c .before .n .given .0 .0 ≡ n)
-granted c = let s = c .before .before .before in judged-network (s .judge .result) (s .before .args .self) (c .before .n .given .0 .0) (s .judge .ensures) (c .before .n .given .1)
 
 pub to-network-spec : {M : Type 1} → statement M
 to-network-spec =
@@ -15,10 +12,15 @@ to-network-spec =
     (tie.spec
     (λ c κs. search needs)
     (λ c. search needs)
-    (λ c κs. rw (granted c .1) (granted c .0))
+    (λ c κs. search needs)
     (λ c. search needs)
-    (λ c. rw (c .clear .ensures, granted (c .before) .1, granted (c .before) .0))
+    (λ c.
+    let t = c .before .before in
+    let s = t .before .before in
+    let n = s .before .args .self in
+    let h = taken-network (s .cut .result) (refusalOf n) (cleared n) (t .n .given .0 .0) (s .cut .ensures) (t .n .given .1) in
+    rw (c .has-bit-past .ensures, h .1, h .0))
     (λ c.
     let s = c .before .before .before in
     let n = s .before .args .self in
-    judged-refused (s .judge .result) n (c .before .no .given .0 .0) noNet (cleared n) (s .judge .ensures) (c .before .no .given .1)))
+    taken-refused (s .cut .result) (refusalOf n) (cleared n) (c .before .no .given .0 .0) noEntry (cleared n, hasBitPast n) (s .cut .ensures) (c .before .no .given .1)))

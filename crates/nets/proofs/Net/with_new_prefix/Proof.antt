@@ -19,7 +19,7 @@ with-new-prefix-spec =
     let s = d .before .before in
     let a = s .before .args in
     let h = judged-network (s .judge .result) (a .self) (d .t .given .0 .0) (s .judge .ensures) (d .t .given .1) in
-    rw (withLenNo-net (a .self) (a .len) (h .0)) (rw (h .1) at (c .to-network .ensures)))
+    rw (withLenNo-net (a .self) (a .len) (h .0)) (rw (h .1) at (c .cut .ensures)))
     (λ c.
     let s = c .before .before .before in
     let a = s .before .args in

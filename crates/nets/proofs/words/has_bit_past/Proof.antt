@@ -4,6 +4,7 @@ use Prim.Native.Nat.{_-_, _*_, _/_, _^_}
 use native.Mathlib.Omega.{arith}
 use borrow.Author.Needs.{needs}
 use borrow.Author.Tests.{eq-eqb, ne-eqb}
+use Rattle.nets.specs.Networks.{hasBitPast}
 use Rattle.nets.proofs.TwoWords.{value-past}
 use Rattle.nets.proofs.words.has_bit_past.Statement.{statement}
 use Rattle.nets.proofs.words.has_bit_past.Tie as tie
@@ -12,6 +13,7 @@ high : (c : tie.After-keep) → let s = c .before .before in let k = s .past .re
 high c = cc
 
 pub has-bit-past-spec : {M : Type 1} → statement M
+unfolding hasBitPast
 has-bit-past-spec =
     tie.close
     (tie.spec

@@ -1,5 +1,4 @@
 -- `cleared::is_clean` meets its contract: its tests are those of the definition. Assumes nothing.
-use mathlib.Core.Bool.{Bool·not-not}
 use native.Mathlib.Omega.{arith}
 use borrow.Author.Needs.{needs}
 use borrow.Author.Tests.{le-leb, lt-leb}
@@ -16,5 +15,5 @@ is-clean-spec =
     (λ c κs. search needs)
     (λ c.
     let s = c .before .before .before in
-    rw (c .has-bit-past .ensures, Bool·not-not, ← s .width .ensures, le-leb (s .before .args .n .len) (s .width .result) (omega arith)))
+    rw (c .has-bit-past .ensures, ← s .width .ensures, le-leb (s .before .args .n .len) (s .width .result) (omega arith)))
     (λ c. let s = c .before .before in rw (← s .width .ensures, lt-leb (s .before .args .n .len) (s .width .result) (omega arith))))

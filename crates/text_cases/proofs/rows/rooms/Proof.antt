@@ -6,10 +6,10 @@ use Rattle.text_cases.proofs.rows.rooms.Statement.{statement}
 use Rattle.text_cases.proofs.rows.rooms.Tie as tie
 
 abbrev Inv-loop : tie.InvT-loop
-Inv-loop line entry net t₀ room₀ t room = room ≤ 25
+Inv-loop line entry trimmed net t₀ room₀ t room = room ≤ 25
 
 abbrev μ-loop : tie.MeasureT-loop
-μ-loop line entry net t₀ room₀ t room = 25 - room
+μ-loop line entry trimmed net t₀ room₀ t room = 25 - room
 
 pub rooms-spec : {M : Type 1} → statement M
 rooms-spec =
