@@ -199,8 +199,14 @@ fn combinations<N: Numbers + Clone>(d: &mut Dice, family: u8, a: &List) {
     let all = n + b.len();
     row("merge", family, n, all, turns(|| fresh(MERGE, 0, 1), || seconds(|| drop(black_box(r.merge(&s))))));
     row("intersect", family, n, all, turns(|| fresh(INTERSECT, 0, 1), || seconds(|| drop(black_box(r.intersect(&s))))));
-    row("exclude", family, n, all, turns(|| fresh(EXCLUDE, 0, 1), || seconds(|| drop(black_box(r.exclude(&s))))));
-    row("copy / clone", family, n, n, turns(|| fresh(EXCLUDE, 0, 3), || seconds(|| drop(black_box(r.clone())))));
+    let simplified = || {
+        let mut x = r.exclude(&s);
+        x.simplify();
+        drop(black_box(x))
+    };
+    row("exclude / exclude and simplify", family, n, all, turns(|| fresh(EXCLUDE, 0, 1), || seconds(simplified)));
+    row("exclude_apart / exclude", family, n, all, turns(|| fresh(EXCLUDE_APART, 0, 1), || seconds(|| drop(black_box(r.exclude(&s))))));
+    row("copy / clone", family, n, n, turns(|| fresh(EXCLUDE_APART, 0, 3), || seconds(|| drop(black_box(r.clone())))));
     let same = ranges::<N>(a);
     let mut twice = pool(family, &[a, a]);
     let equal = Call { a: 0, b: 1, ..Call::new(EQUAL) };

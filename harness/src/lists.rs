@@ -88,8 +88,13 @@ pub fn intersect(w: u8, l: &List, m: &List) -> List {
     simplify(w, &inside(l, m).into_iter().chain(inside(m, l)).collect())
 }
 
-pub fn exclude(w: u8, l: &List, m: &List) -> List {
+/// What is left of each member by itself.
+pub fn exclude_apart(w: u8, l: &List, m: &List) -> List {
     m.iter().fold(l.clone(), |r, &n| remove(w, &r, n))
+}
+
+pub fn exclude(w: u8, l: &List, m: &List) -> List {
+    simplify(w, &exclude_apart(w, l, m))
 }
 
 /// The different leading bit strings of the members.

@@ -401,6 +401,7 @@ pub fn apply(w: &mut [u32], c: &Call) -> Answer {
         MERGE => combine(w, s, c, lists::merge),
         INTERSECT => combine(w, s, c, lists::intersect),
         EXCLUDE => combine(w, s, c, lists::exclude),
+        EXCLUDE_APART => combine(w, s, c, lists::exclude_apart),
         EQUAL => {
             let j = c.b as usize;
             answered(if known && j < s.sets.len() { 0 } else { 3 }, || told(s.sets[k].list == s.sets[j].list))

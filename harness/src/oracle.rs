@@ -101,7 +101,11 @@ impl<N: Numbers + Clone> Ranges<N> {
             SIMPLIFY => self.0[i].simplify(),
             MERGE => self.0[i] = self.0[j].merge(&self.0[k]),
             INTERSECT => self.0[i] = self.0[j].intersect(&self.0[k]),
-            EXCLUDE => self.0[i] = self.0[j].exclude(&self.0[k]),
+            EXCLUDE_APART => self.0[i] = self.0[j].exclude(&self.0[k]),
+            EXCLUDE => {
+                self.0[i] = self.0[j].exclude(&self.0[k]);
+                self.0[i].simplify();
+            }
             LOAD => self.0[i] = ranges(&read_file(&c.tail).unwrap().1),
             LINES => {
                 for line in &read_lines(&c.tail)[..a.x as usize - 1] {

@@ -235,7 +235,8 @@ impl Plan {
             42..=46 => SIMPLIFY,
             47..=51 => MERGE,
             52..=56 => INTERSECT,
-            57..=61 => EXCLUDE,
+            57..=59 => EXCLUDE,
+            60..=61 => EXCLUDE_APART,
             62..=67 => SUPERNET,
             68..=72 => CONTAINS,
             73..=74 => IS_EMPTY,
@@ -252,7 +253,7 @@ impl Plan {
         };
         let mut call = Call { a, b, c, net, ..Call::new(code) };
         match code {
-            MERGE..=EXCLUDE => {
+            MERGE..=EXCLUDE_APART | EXCLUDE => {
                 let empty: Vec<u32> = (0..self.sets).filter(|&k| s.sets[k as usize].list.is_empty()).collect();
                 if !empty.is_empty() && !d.one_in(6) {
                     call.a = d.pick(&empty);

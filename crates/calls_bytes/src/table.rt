@@ -23,7 +23,7 @@ pub const MERGE: u8 = 11;
 
 pub const INTERSECT: u8 = 12;
 
-pub const EXCLUDE: u8 = 13;
+pub const EXCLUDE_APART: u8 = 13;
 
 pub const EQUAL: u8 = 14;
 
@@ -46,6 +46,8 @@ pub const NTH: u8 = 22;
 pub const LAST: u8 = 23;
 
 pub const PAGE: u8 = 24;
+
+pub const EXCLUDE: u8 = 25;
 
 pub const NEW: u8 = 32;
 

@@ -1,13 +1,13 @@
 -- What the calls that change the pool answer and leave. w are the pool's words, s the bytes of the call, c its fixed part.
 --
---   changeOf w c        the calls that change a set: 8 to 13
+--   changeOf w c        the calls that change a set: 8 to 13, and 25
 --   layoutOf w c s, writeOf w c s     layout, 1, and words written over the pool's, 48
 use mathlib.Core.Bool.{cond}
 use mathlib.Core.List.{List}
 use Prim.Native.Nat.{ℕ, _+_, _*_, _/_, _%_}
 use lib.Dec.{eqb}
 use Rattle.nets.specs.Bits.{Bits}
-use Rattle.nets.specs.Lists.{mergeL, intersectL, excludeL}
+use Rattle.nets.specs.Lists.{mergeL, intersectL, differenceL, excludeL}
 use Rattle.nodes.specs.Words.{put}
 use Rattle.pool_state.specs.Rules.{setup, layoutNo, laid}
 use Rattle.pool_state.specs.Changes.{listAt}
@@ -30,7 +30,8 @@ changeOf w c =
     (cond (eqb (c .code) 10) (relisted w (c .a) noArgs (listSimple (c .a)))
     (cond (eqb (c .code) 11) (combined mergeL w c)
     (cond (eqb (c .code) 12) (combined intersectL w c)
-    (combined excludeL w c)))))
+    (cond (eqb (c .code) 13) (combined excludeL w c)
+    (combined differenceL w c))))))
 
 -- the shares and the limits that stand in the tail
 abbrev pub sharesOf : Call → List ℕ → List ℕ

@@ -24,6 +24,7 @@ pub fn change(pool: &mut [u32], c: Call) -> Reply
         table::SIMPLIFY => of_answer(change::simplify(pool, c.a)),
         table::MERGE => of_answer(combine::merge(pool, c.a, c.b, c.c)),
         table::INTERSECT => of_answer(combine::intersect(pool, c.a, c.b, c.c)),
+        table::EXCLUDE_APART => of_answer(combine::exclude_apart(pool, c.a, c.b, c.c)),
         _ => of_answer(combine::exclude(pool, c.a, c.b, c.c)),
     }
 }

@@ -37,7 +37,7 @@ pub fn kind_of(code: u8) -> Kind
     match code {
         table::LAYOUT => Kind::Layout,
         table::FREE..=table::IS_EMPTY => Kind::Report,
-        table::ADD..=table::EXCLUDE => Kind::Change,
+        table::ADD..=table::EXCLUDE_APART => Kind::Change,
         table::EQUAL => Kind::Report,
         table::LIST => Kind::List,
         table::NEXT => Kind::Report,
@@ -47,6 +47,7 @@ pub fn kind_of(code: u8) -> Kind
         table::LOAD => Kind::Load,
         table::LINES => Kind::Lines,
         table::NTH..=table::PAGE => Kind::Report,
+        table::EXCLUDE => Kind::Change,
         table::NEW..=table::WORDS => Kind::Network,
         table::WRITE_WORDS => Kind::WriteWords,
         table::READ_WORDS => Kind::ReadWords,

@@ -1,5 +1,5 @@
 -- A combination: what `ask` finds, a law for each return, what the sources mean, and then the result, counted and written (`Result` of pool's proofs/Returns.antt says what
--- becomes of it). An operation on lists is done on tries, so one law serves all three. Assumes nothing.
+-- becomes of it). An operation on lists is done on tries, so one law serves all four. Assumes nothing.
 use mathlib.Core.Bool.{Bool, true, false, cond}
 use mathlib.Core.List.{List, []}
 use mathlib.Core.Path.{_≡_, refl, sym, ap, _∙_}
@@ -17,9 +17,10 @@ use Rattle.nets.specs.declared.Refusal.the-variants.{NoSet, Occupied}
 use Rattle.nets.proofs.Answers.{number-some}
 use Rattle.nets.proofs.Combining.{listOf-union, listOf-common}
 use Rattle.nets.proofs.Excluding.{listOf-except}
+use Rattle.nets.proofs.Laws.{listOf-difference}
 use Rattle.trie_emit.specs.Combine.{opOf, joined, opOn}
 use Rattle.trie_emit.proofs.Answers.{length-body}
-use Rattle.trie_emit.proofs.Combine.{opOn-union, opOn-common, opOn-except, size-op}
+use Rattle.trie_emit.proofs.Combine.{opOn-union, opOn-common, opOn-difference, opOn-except, size-op}
 use Rattle.pool_state.specs.States.{State, roomOf}
 use Rattle.pool_state.specs.Decode.{recordAt, decode}
 use Rattle.pool_state.specs.Changes.{listAt}
@@ -30,7 +31,7 @@ use Rattle.pool_state.proofs.Seen.{Seen, trieAt, seen, seen-figures, seen-empty
 use Rattle.pool_state.proofs.Changed.{withTrie, behind-first, gap-asks}
 use Rattle.pool_state.proofs.Returns.{Result, isEmpty-some, change-seat, change-args, changed}
 use Rattle.combine.specs.Rules.{combineRules}
-use Rattle.combine.specs.Steps.{Operation, merging, intersecting, excluding, combineL, Ready, Asks, sourcesOf, Reads, Writable, written}
+use Rattle.combine.specs.Steps.{Operation, merging, intersecting, excluding, excludingApart, combineL, Ready, Asks, sourcesOf, Reads, Writable, written}
 use Rattle.combine.specs.declared.asking.Destination.the-variants.{Empty, Refused}
 use Rattle.combine.specs.declared.asking.Sources.{Sources}
 use Rattle.combine.proofs.Sources.{Source, source}
@@ -83,7 +84,8 @@ module _ {w : List ℕ} {to : ℕ} {v : Survey} (first second : ℕ) (h : Survey
 listOf-op : {op : ℕ} (w : ℕ) (t u : Trie) → Operation op → levels t ≤ suc w → levels u ≤ suc w → listOf (opOn op (suc w) t u) ≡ combineL op (listOf t) (listOf u)
 listOf-op w t u merging h k = ap listOf (opOn-union (suc w) t u) ∙ listOf-union w t u h k
 listOf-op w t u intersecting h k = ap listOf (opOn-common (suc w) t u) ∙ listOf-common w t u h k
-listOf-op w t u excluding h k = ap listOf (opOn-except (suc w) t u) ∙ listOf-except (suc w) t u h k
+listOf-op w t u excluding h k = ap listOf (opOn-difference (suc w) t u) ∙ listOf-difference w t u h k
+listOf-op w t u excludingApart h k = ap listOf (opOn-except (suc w) t u) ∙ listOf-except (suc w) t u h k
 
 size-opOn : (op k : ℕ) (t u : Trie) → size (opOn op k t u) ≤ 1 + 2 * (size t + size u)
 size-opOn op k t u = omega (arith, size-op (joined op) (opOf op) k t u, length-body t, length-body u)

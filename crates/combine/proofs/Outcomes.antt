@@ -5,12 +5,12 @@ use mathlib.Core.List.{List, [], _∷_, _++_}
 use mathlib.Core.Path.{_≡_, refl}
 use Prim.Native.Nat.{ℕ}
 use Rattle.nets.specs.Bits.{Bits}
-use Rattle.nets.specs.Lists.{isList, mergeL, intersectL, excludeL}
+use Rattle.nets.specs.Lists.{isList, mergeL, intersectL, differenceL, excludeL}
 use Rattle.nets.specs.Networks.{width}
 use Rattle.nets.specs.Refusals.{firstNo}
 use Rattle.nets.proofs.Refused.{firstNo-zero, firstNo-both}
 use Rattle.nets.proofs.Combining.{isList-merge, isList-intersect}
-use Rattle.nets.proofs.Laws.{isList-exclude}
+use Rattle.nets.proofs.Laws.{isList-difference, isList-exclude}
 use Rattle.nets.proofs.TrieOf.{isList-within}
 use Rattle.pool_state.specs.States.{State}
 use Rattle.pool_state.specs.Decode.{sound, decode}
@@ -22,7 +22,7 @@ use Rattle.pool_state.proofs.Decoded.{decode-state}
 use Rattle.pool_state.proofs.Judged.{changeNo-zero}
 use Rattle.pool_state.proofs.Determined.{changed-one}
 use Rattle.pool_state.proofs.Leaves.{RelistLeaves, relist-leaves}
-use Rattle.combine.specs.Rules.{combineRules, Combined, Merged, Intersected, Excluded}
+use Rattle.combine.specs.Rules.{combineRules, Combined, Merged, Intersected, Excluded, ExcludedApart}
 
 -- One outcome.
 module _ (w : List ℕ) (to first second : ℕ) {r s : Answer} {u v : List ℕ} where
@@ -34,6 +34,9 @@ module _ (w : List ℕ) (to first second : ℕ) {r s : Answer} {u v : List ℕ} 
 
   pub exclude-determined : Excluded w to first second (answerAs r) u → Excluded w to first second (answerAs s) v → (r ≡ s) × (u ≡ v)
   exclude-determined h g = changed-one h g
+
+  pub exclude-apart-determined : ExcludedApart w to first second (answerAs r) u → ExcludedApart w to first second (answerAs s) v → (r ≡ s) × (u ≡ v)
+  exclude-apart-determined h g = changed-one h g
 
 -- What is left of a sound pool, where an operation makes lists of lists.
 abbrev Keeps : (List Bits → List Bits → List Bits) → Type 0
@@ -52,8 +55,11 @@ module _ {w v : List ℕ} {S : State} {to : ℕ} {r : ℕ × ℕ} (first second 
   pub intersect-leaves : Intersected w to first second r v → RelistLeaves w S to (combineRules to first second S) (intersectL (listAt S first) (listAt S second)) r v
   intersect-leaves = combined-leaves intersectL (λ w l m h k. isList-intersect w l m (isList-within w l h) (isList-within w m k))
 
-  pub exclude-leaves : Excluded w to first second r v → RelistLeaves w S to (combineRules to first second S) (excludeL (listAt S first) (listAt S second)) r v
-  exclude-leaves = combined-leaves excludeL isList-exclude
+  pub exclude-leaves : Excluded w to first second r v → RelistLeaves w S to (combineRules to first second S) (differenceL (listAt S first) (listAt S second)) r v
+  exclude-leaves = combined-leaves differenceL isList-difference
+
+  pub exclude-apart-leaves : ExcludedApart w to first second r v → RelistLeaves w S to (combineRules to first second S) (excludeL (listAt S first) (listAt S second)) r v
+  exclude-apart-leaves = combined-leaves excludeL isList-exclude
 
 -- A source that is the destination reads as empty: where a call is granted, that is.
 isEmpty-is : (l : List Bits) → not (isEmpty l) ≡ false → l ≡ []
@@ -69,7 +75,7 @@ granted-empty to first second S l z =
     let a = combineRules to first second S in
     combineRules-empty to first second S (firstNo-both a (grantRules S to l) (changeNo-zero S to (a ++ grantRules S to l) z .1) .0)
 
--- A clone: what excluding an empty set leaves.
+-- A clone: what excluding an empty set leaves, where the members stay apart.
 pub exclude-empty : (l m : List Bits) → m ≡ [] → excludeL l m ≡ l
 unfolding excludeL
 exclude-empty l m e = rw e

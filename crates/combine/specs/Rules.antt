@@ -2,11 +2,11 @@
 --
 --   combineRules to first second S   the rules of the three sets as arguments: 3 a source that is no set, then 8 a destination that isn't empty
 --   Combined L w to first second r v    from the words w a call that gives the set `to` the list L of the two lists answers r and leaves the words v
---   Merged, Intersected, Excluded    its three uses
+--   Merged, Intersected, Excluded, ExcludedApart    its uses
 use mathlib.Core.List.{List, [], _∷_}
 use Prim.Native.Nat.{ℕ}
 use Rattle.nets.specs.Bits.{Bits}
-use Rattle.nets.specs.Lists.{mergeL, intersectL, excludeL}
+use Rattle.nets.specs.Lists.{mergeL, intersectL, differenceL, excludeL}
 use Rattle.nets.specs.Refusals.{Rule}
 use Rattle.pool_state.specs.States.{State}
 use Rattle.pool_state.specs.Rules.{unknown}
@@ -26,4 +26,7 @@ abbrev pub Intersected : List ℕ → ℕ → ℕ → ℕ → ℕ × ℕ → Lis
 Intersected = Combined intersectL
 
 abbrev pub Excluded : List ℕ → ℕ → ℕ → ℕ → ℕ × ℕ → List ℕ → Type 0
-Excluded = Combined excludeL
+Excluded = Combined differenceL
+
+abbrev pub ExcludedApart : List ℕ → ℕ → ℕ → ℕ → ℕ × ℕ → List ℕ → Type 0
+ExcludedApart = Combined excludeL

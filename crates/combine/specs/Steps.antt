@@ -13,7 +13,7 @@ use Prim.Native.Nat.{ℕ, zero, suc, _+_, _≤_, _<_}
 use lib.Dec.{eqb, ltb}
 use lib.ListN.{getD}
 use Rattle.nets.specs.Bits.{Bits}
-use Rattle.nets.specs.Lists.{mergeL, intersectL, excludeL}
+use Rattle.nets.specs.Lists.{mergeL, intersectL, differenceL, excludeL}
 use Rattle.nets.specs.Tries.{Trie, size}
 use Rattle.nets.specs.Networks.{width}
 use Rattle.nets.specs.Refusals.{number}
@@ -33,12 +33,14 @@ use Rattle.combine.specs.declared.asking.Sources.{Sources}
 pub data Operation : ℕ → Type 0 where
   merging : Operation 0
   intersecting : Operation 1
-  excluding : Operation 3
+  excluding : Operation 2
+  excludingApart : Operation 3
 
 abbrev pub combineL : ℕ → List Bits → List Bits → List Bits
 combineL zero l m = mergeL l m
 combineL (suc zero) l m = intersectL l m
-combineL (suc (suc n)) l m = excludeL l m
+combineL (suc (suc zero)) l m = differenceL l m
+combineL (suc (suc (suc n))) l m = excludeL l m
 
 pub record Ready (w : List ℕ) (to first second : ℕ) (v : Survey) : Type 0 where
   pub surveyed : Surveyed w to v

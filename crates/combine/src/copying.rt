@@ -1,5 +1,5 @@
-// Excluding nothing copies a set: its nodes are counted by where its trie ends, and its words are moved as a block.
-use crate::EXCLUDE;
+// Excluding nothing copies a set whose members stay apart: its nodes are counted by where its trie ends, and its words are moved as a block.
+use crate::EXCLUDE_APART;
 use crate::asking::Sources;
 use nodes::reading::trie_end;
 use nodes::writing::shift;
@@ -15,7 +15,7 @@ ghost use Rattle.combine.specs.Steps.{isCopy, Reads};
 pub fn is_copy(op: usize, s: Sources) -> bool
     ensures { λ r. ⌜ r ≡ isCopy op s ⌝ }
 {
-    if op == EXCLUDE {
+    if op == EXCLUDE_APART {
         return s.second == 0;
     }
     false

@@ -1,8 +1,9 @@
-// The calls that are exported each for itself, for programs in other languages: the lookup on the request path, and those whose rows or bytes would otherwise be copied. Each answers
-// 2^32 times the number of its refusal, plus its value.
+// The calls that are exported each for itself, for programs in other languages: the lookup on the request path, those whose rows or bytes would otherwise be copied, and
+// those that the requests brought. Each answers 2^32 times the number of its refusal, plus its value.
 ghost use mathlib.Core.Bool.{cond};
 ghost use mathlib.Core.Path.{_≡_};
 ghost use lib.ListN.{length};
+ghost use Rattle.nets.specs.Lists.{differenceL, excludeL};
 ghost use Rattle.nets.specs.Networks.{netWords};
 ghost use Rattle.nets.specs.Refusals.{number};
 ghost use Rattle.pool_state.specs.Decode.{decode};
@@ -10,7 +11,7 @@ ghost use Rattle.pool_state.specs.Rules.{answerAs};
 ghost use Rattle.lookup.specs.Rules.{containsAs, containsRule};
 ghost use Rattle.listing.specs.Calls.{listRule, rowsAfter};
 ghost use Rattle.setfile.specs.Calls.{saveRule, bytesAfter};
-ghost use Rattle.exports.specs.Packed.{packed, packedHeld, loadRule, loadWords};
+ghost use Rattle.exports.specs.Packed.{packed, packedHeld, loadRule, loadWords, combineRule, combineWords};
 use lookup::Contained;
 use nets::Net;
 use nets::Refusal;
@@ -100,4 +101,22 @@ pub extern "C" fn marlbrace_load(pool: &mut [u32], set: u32, file: &[u8]) -> u64
     ensures { λ _. ⌜ now (pool .exit) ≡ loadWords (now (pool .entry)) set (now (file .entry)) ⌝ }
 {
     of_answer(setfile::load(pool, set, file))
+}
+
+// Writes what the first set has and the second has not, simplified, into an empty one, and answers its nodes.
+#[no_mangle]
+pub extern "C" fn marlbrace_exclude(pool: &mut [u32], to: u32, first: u32, second: u32) -> u64
+    ensures { λ r. ⌜ r ≡ packed (combineRule differenceL (now (pool .entry)) to first second) ⌝ }
+    ensures { λ _. ⌜ now (pool .exit) ≡ combineWords differenceL (now (pool .entry)) to first second ⌝ }
+{
+    of_answer(combine::exclude(pool, to, first, second))
+}
+
+// The same with the members left apart. Excluding an empty set copies one.
+#[no_mangle]
+pub extern "C" fn marlbrace_exclude_apart(pool: &mut [u32], to: u32, first: u32, second: u32) -> u64
+    ensures { λ r. ⌜ r ≡ packed (combineRule excludeL (now (pool .entry)) to first second) ⌝ }
+    ensures { λ _. ⌜ now (pool .exit) ≡ combineWords excludeL (now (pool .entry)) to first second ⌝ }
+{
+    of_answer(combine::exclude_apart(pool, to, first, second))
 }

@@ -5,9 +5,9 @@ use Prim.Native.Nat.{ℕ}
 use Rattle.nets.specs.declared.Net.{Net}
 use Rattle.change.specs.Calls.{Added, Removed, Reports}
 use Rattle.change.specs.Simplified.{Simplifies}
-use Rattle.combine.specs.Rules.{Merged, Intersected, Excluded}
+use Rattle.combine.specs.Rules.{Merged, Intersected, Excluded, ExcludedApart}
 use Rattle.setfile.specs.Loading.{Loaded}
-use Rattle.histories.specs.Calls.{add, remove, simplify, merge, intersect, exclude, load, Outcome}
+use Rattle.histories.specs.Calls.{add, remove, simplify, merge, intersect, exclude, excludeApart, load, Outcome}
 
 -- of add and remove, their number and nodes; the report is no part of a history
 module _ {w v : List ℕ} {r : ℕ × (ℕ × Bool)} (k : ℕ) (n : Net) where
@@ -29,6 +29,9 @@ module _ {w v : List ℕ} {r : ℕ × ℕ} (k : ℕ) where
 
   pub excluded : (a b : ℕ) → Excluded w k a b r v → Outcome w (exclude k a b) r v
   excluded a b h = h
+
+  pub excludedApart : (a b : ℕ) → ExcludedApart w k a b r v → Outcome w (excludeApart k a b) r v
+  excludedApart a b h = h
 
   pub loaded : (d : List ℕ) → Loaded w k d r v → Outcome w (load k d) r v
   loaded d h = h

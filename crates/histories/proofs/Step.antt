@@ -9,7 +9,7 @@ use lib.Dec.{eqb, leb, ltb}
 use lib.ListN.{length}
 use borrow.Author.Tests.{leb-false, le-ltb, eq-eqb, eqb-true}
 use Rattle.nets.specs.Bits.{Bits}
-use Rattle.nets.specs.Lists.{within, isList, nodesL, mergeL, intersectL, excludeL}
+use Rattle.nets.specs.Lists.{within, isList, nodesL, mergeL, intersectL, differenceL, excludeL}
 use Rattle.nets.specs.Networks.{width, netBits}
 use Rattle.nets.specs.Refusals.{Rule, firstNo}
 use Rattle.nets.specs.declared.Net.{Net}
@@ -19,7 +19,7 @@ use Rattle.nets.proofs.Refused.{Few, firstNo-append, firstNo-few}
 use Rattle.nets.proofs.TrieOf.{isList-within, isList-add}
 use Rattle.nets.proofs.Simplifying.{isList-simplify}
 use Rattle.nets.proofs.Combining.{isList-merge, isList-intersect}
-use Rattle.nets.proofs.Laws.{isList-remove, isList-exclude}
+use Rattle.nets.proofs.Laws.{isList-remove, isList-difference, isList-exclude}
 use Rattle.pool_state.specs.States.{SetState, State, roomOf, isState}
 use Rattle.pool_state.specs.Decode.{leastWords, sound, decode}
 use Rattle.pool_state.specs.Rules.{answerOn, unknown}
@@ -34,7 +34,7 @@ use Rattle.combine.specs.Rules.{combineRules}
 use Rattle.setfile_format.specs.Files.{File, broken, file, readFile}
 use Rattle.setfile.specs.Loading.{loadRules}
 use Rattle.setfile.proofs.LoadOutcomes.{isList-load}
-use Rattle.histories.specs.Calls.{Call, add, remove, simplify, merge, intersect, exclude, load, target, namesOne, argsOf, argsNo, resultOf, rulesOf, nextOf, callNo, answerOf, stateAfter, Outcome}
+use Rattle.histories.specs.Calls.{Call, add, remove, simplify, merge, intersect, exclude, excludeApart, load, target, namesOne, argsOf, argsNo, resultOf, rulesOf, nextOf, callNo, answerOf, stateAfter, Outcome}
 use Rattle.histories.specs.Histories.{SameAt}
 
 within-listAt : (S : State) (k : ℕ) → isState S ≡ true → within (width (S .family)) (listAt S k) ≡ true
@@ -61,6 +61,7 @@ rules-few (simplify k) S = tt
 rules-few (merge to a b) S = combine-few to a b S
 rules-few (intersect to a b) S = combine-few to a b S
 rules-few (exclude to a b) S = combine-few to a b S
+rules-few (excludeApart to a b) S = combine-few to a b S
 rules-few (load k d) S = load-few (readFile d) k S
 
 few-append : (m : ℕ) (rs ss : List Rule) → Few m rs → Few m ss → Few m (rs ++ ss)
@@ -74,7 +75,8 @@ isList-resultOf (remove k n) S e a = isList-remove (width (S .family)) (listAt S
 isList-resultOf (simplify k) S e a = isList-simplify (width (S .family)) (listAt S k) (within-listAt S k e)
 isList-resultOf (merge to x y) S e a = isList-merge (width (S .family)) (listAt S x) (listAt S y) (within-listAt S x e) (within-listAt S y e)
 isList-resultOf (intersect to x y) S e a = isList-intersect (width (S .family)) (listAt S x) (listAt S y) (within-listAt S x e) (within-listAt S y e)
-isList-resultOf (exclude to x y) S e a = isList-exclude (width (S .family)) (listAt S x) (listAt S y) (isList-listAt S x e) (isList-listAt S y e)
+isList-resultOf (exclude to x y) S e a = isList-difference (width (S .family)) (listAt S x) (listAt S y) (isList-listAt S x e) (isList-listAt S y e)
+isList-resultOf (excludeApart to x y) S e a = isList-exclude (width (S .family)) (listAt S x) (listAt S y) (isList-listAt S x e) (isList-listAt S y e)
 isList-resultOf (load k d) S e a = isList-load d k S a
 
 -- Two states that agree on a set.
@@ -104,7 +106,8 @@ call-same (remove k n) S T e h = (net-same n k S T h, rw (sameAt-list h))
 call-same (simplify k) S T e h = (refl, rw (sameAt-list h))
 call-same (merge to a b) S T e h = combine-same mergeL to a b S T e h
 call-same (intersect to a b) S T e h = combine-same intersectL to a b S T e h
-call-same (exclude to a b) S T e h = combine-same excludeL to a b S T e h
+call-same (exclude to a b) S T e h = combine-same differenceL to a b S T e h
+call-same (excludeApart to a b) S T e h = combine-same excludeL to a b S T e h
 call-same (load k d) S T e h = (load-same (readFile d) k S T h, refl)
 
 -- A result within the share is judged by its limit alone.

@@ -13,7 +13,7 @@ use mathlib.Core.List.{List, []}
 use Prim.Native.Nat.{ℕ}
 use lib.Dec.{eqb}
 use Rattle.nets.specs.Bits.{Bits}
-use Rattle.nets.specs.Lists.{addL, removeL, simplifyL, mergeL, intersectL, excludeL}
+use Rattle.nets.specs.Lists.{addL, removeL, simplifyL, mergeL, intersectL, differenceL, excludeL}
 use Rattle.nets.specs.Networks.{netBits}
 use Rattle.nets.specs.Refusals.{answered, Rule, firstNo}
 use Rattle.nets.specs.declared.Net.{Net}
@@ -27,7 +27,7 @@ use Rattle.setfile.specs.Loading.{loadRules, fileList}
 pub data Call : Type 0 where
   add remove : ℕ → Net → Call
   simplify : ℕ → Call
-  merge intersect exclude : ℕ → ℕ → ℕ → Call
+  merge intersect exclude excludeApart : ℕ → ℕ → ℕ → Call
   load : ℕ → List ℕ → Call
 
 abbrev pub target : Call → ℕ
@@ -37,6 +37,7 @@ target (simplify k) = k
 target (merge to a b) = to
 target (intersect to a b) = to
 target (exclude to a b) = to
+target (excludeApart to a b) = to
 target (load k d) = k
 
 abbrev pub namesOne : Call → Bool
@@ -46,6 +47,7 @@ namesOne (simplify k) = true
 namesOne (merge to a b) = eqb a to && eqb b to
 namesOne (intersect to a b) = eqb a to && eqb b to
 namesOne (exclude to a b) = eqb a to && eqb b to
+namesOne (excludeApart to a b) = eqb a to && eqb b to
 namesOne (load k d) = true
 
 abbrev pub argsOf : Call → State → List Rule
@@ -55,6 +57,7 @@ argsOf (simplify k) = λ S. []
 argsOf (merge to a b) = combineRules to a b
 argsOf (intersect to a b) = combineRules to a b
 argsOf (exclude to a b) = combineRules to a b
+argsOf (excludeApart to a b) = combineRules to a b
 argsOf (load k d) = loadRules (readFile d) k
 
 abbrev pub argsNo : Call → State → ℕ
@@ -66,7 +69,8 @@ resultOf (remove k n) = λ S. removeL (listAt S k) (netBits n)
 resultOf (simplify k) = λ S. simplifyL (listAt S k)
 resultOf (merge to a b) = λ S. mergeL (listAt S a) (listAt S b)
 resultOf (intersect to a b) = λ S. intersectL (listAt S a) (listAt S b)
-resultOf (exclude to a b) = λ S. excludeL (listAt S a) (listAt S b)
+resultOf (exclude to a b) = λ S. differenceL (listAt S a) (listAt S b)
+resultOf (excludeApart to a b) = λ S. excludeL (listAt S a) (listAt S b)
 resultOf (load k d) = λ S. fileList (readFile d)
 
 abbrev pub rulesOf : Call → State → List Rule

@@ -123,7 +123,7 @@ isList-intersect w l m h k = isList-simplify w (inner l m ++ inner m l) (within-
 
 -- The tries list what the lists are: both are simplified, with the same addresses.
 module _ (w : ℕ) (t u : Trie) (h : levels t ≤ suc w) (k : levels u ≤ suc w) where
-  listOf-op : (f : Bool → Bool → Bool) (l : List Bits) → isList w l ≡ true → Simplified l → ((a : Bits) → length a ≡ w → covers l a ≡ f (covers (listOf t) a) (covers (listOf u) a)) → listOf (opT true f (suc w) t u) ≡ l
+  pub listOf-op : (f : Bool → Bool → Bool) (l : List Bits) → isList w l ≡ true → Simplified l → ((a : Bits) → length a ≡ w → covers l a ≡ f (covers (listOf t) a) (covers (listOf u) a)) → listOf (opT true f (suc w) t u) ≡ l
   listOf-op f l i s e =
       let o = opT true f (suc w) t u in
       simplified-one w (listOf o) l (isList-listOf w o (levels-op true f (suc w) t u)) i (simple-simplified o (simple-op f (suc w) t u)) s

@@ -12,7 +12,7 @@ use borrow.Author.Tests.{not-true}
 use Rattle.nets.specs.Bits.{Bits, leads, equal}
 use Rattle.nets.specs.Tries.{Trie, leaf, memberT, coversT, levels, listOf}
 use Rattle.nets.specs.TrieOps.{half}
-use Rattle.nets.specs.Lists.{member, covers, leadsAny, apart, within, isList, keep, simplifyL, mergeL, intersectL, Simplified}
+use Rattle.nets.specs.Lists.{member, covers, leadsAny, apart, within, isList, keep, simplifyL, mergeL, intersectL, differenceL, Simplified}
 use Rattle.nets.specs.Shortest.{Exactly, Shortest}
 use Rattle.nets.proofs.Strings.{and-left, and-right, and-both, equal-refl, leads-append, leads-length, leads-trans, leads-shorter}
 use Rattle.nets.proofs.Members.{anyOf-in, anyOf-out, member-keep, keep-fewer}
@@ -22,6 +22,7 @@ use Rattle.nets.proofs.TrieOf.{isList-apart, isList-is}
 use Rattle.nets.proofs.Simplifying.{Simple, simple-half, simple-one, simplified-simple}
 use Rattle.nets.proofs.Simplifying.{covers-simplify, simplified-simplify, isList-simplify, simplified-one}
 use Rattle.nets.proofs.Combining.{covers-merge, simplified-merge, isList-merge, covers-intersect, simplified-intersect, isList-intersect}
+use Rattle.nets.proofs.Laws.{covers-difference, simplified-difference, isList-difference}
 
 -- A list whose members are apart is not longer than m where each member has a network of m inside it: the first member takes one away at least, and none
 -- that lies inside another.
@@ -113,7 +114,11 @@ shortest-simplify w l h =
 pub simplify-fewest : (w : ℕ) (l m : List Bits) → within w l ≡ true → Exactly w (covers l) m → length (simplifyL l) ≤ length m
 simplify-fewest w l m h e = shortest-simplify w l h .fewest m e
 
--- What merging and intersecting leave is shortest too.
+-- What merging, intersecting and excluding leave is shortest too.
+pub shortest-difference : (w : ℕ) (l m : List Bits) → isList w l ≡ true → isList w m ≡ true → Shortest w (λ a. covers l a && not (covers m a)) (differenceL l m)
+shortest-difference w l m h k =
+    simplified-shortest w _ (differenceL l m) (isList-difference w l m h k) (simplified-difference l m) (covers-difference w l m h k)
+
 module _ (w : ℕ) (l m : List Bits) (h : within w l ≡ true) (k : within w m ≡ true) where
   pub shortest-merge : Shortest w (λ a. covers l a || covers m a) (mergeL l m)
   shortest-merge = simplified-shortest w _ (mergeL l m) (isList-merge w l m h k) (simplified-merge l m) (λ a n. covers-merge w l m a h k n)

@@ -7,14 +7,16 @@ use Prim.Native.Nat.{ℕ, suc, _≤_}
 use native.Mathlib.Omega.{arith}
 use lib.ListN.{length}
 use Rattle.nets.specs.Bits.{Bits, leads}
-use Rattle.nets.specs.Tries.{levels}
-use Rattle.nets.specs.TrieOps.{removeT}
-use Rattle.nets.specs.Lists.{found, member, covers, isList, removeL, excludeL, supernetL}
+use Rattle.nets.specs.Tries.{Trie, levels, listOf}
+use Rattle.nets.specs.TrieOps.{removeT, differenceT}
+use Rattle.nets.specs.Lists.{found, member, covers, isList, removeL, excludeL, differenceL, supernetL, Simplified}
 use Rattle.nets.proofs.Strings.{leads-refl, leads-all}
 use Rattle.nets.proofs.Listing.{covers-listOf}
 use Rattle.nets.proofs.Lookups.{supernetL-one}
 use Rattle.nets.proofs.Removing.{levels-remove, coversT-remove, listOf-remove}
-use Rattle.nets.proofs.TrieOf.{isList-is, isList-listOf}
+use Rattle.nets.proofs.TrieOf.{isList-is, isList-listOf, isList-within}
+use Rattle.nets.proofs.Simplifying.{covers-simplify, simplified-simplify, isList-simplify}
+use Rattle.nets.proofs.Combining.{listOf-op}
 use Rattle.nets.proofs.Excluding.{levels-except, listOf-except}
 use Rattle.nets.proofs.Excluding as excluding
 
@@ -49,6 +51,28 @@ isList-exclude w l m h k =
     let r = isList-is w l h in
     let s = isList-is w m k in
     rw (← r .1, ← s .1, ← listOf-except (suc w) (r .0) (s .0) (r .2) (s .2)) (isList-listOf w _ (levels-except (suc w) (r .0) (s .0)))
+
+-- Simplified, a difference covers what it covered, and is done on tries by joining full halves.
+module _ (w : ℕ) (l m : List Bits) (h : isList w l ≡ true) (k : isList w m ≡ true) where
+  pub covers-difference : (a : Bits) → length a ≡ w → covers (differenceL l m) a ≡ (covers l a && not (covers m a))
+  unfolding differenceL
+  covers-difference a e = covers-simplify w (excludeL l m) a (isList-within w (excludeL l m) (isList-exclude w l m h k)) e ∙ covers-exclude w l m a h k e
+
+  pub isList-difference : isList w (differenceL l m) ≡ true
+  unfolding differenceL
+  isList-difference = isList-simplify w (excludeL l m) (isList-within w (excludeL l m) (isList-exclude w l m h k))
+
+pub simplified-difference : (l m : List Bits) → Simplified (differenceL l m)
+unfolding differenceL
+simplified-difference l m = simplified-simplify (excludeL l m)
+
+pub listOf-difference : (w : ℕ) (t u : Trie) → levels t ≤ suc w → levels u ≤ suc w → listOf (differenceT (suc w) t u) ≡ differenceL (listOf t) (listOf u)
+unfolding differenceT
+listOf-difference w t u h k =
+    let x = isList-listOf w t h in
+    let y = isList-listOf w u k in
+    listOf-op w t u h k _ (differenceL (listOf t) (listOf u)) (isList-difference w (listOf t) (listOf u) x y) (simplified-difference (listOf t) (listOf u))
+    (covers-difference w (listOf t) (listOf u) x y)
 
 -- the member that holds a query is the one that is found
 pub supernetL-is : (w : ℕ) (l : List Bits) (q p : Bits) → isList w l ≡ true → member p l ≡ true → leads p q ≡ true → supernetL l q ≡ found p

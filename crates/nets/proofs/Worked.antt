@@ -8,7 +8,7 @@ use lib.Dec.{eqb}
 use lib.ListN.{length, take}
 use Rattle.nets.specs.Bits.{Bits, equal, bits, before}
 use Rattle.nets.specs.Tries.{size, levels, listOf, insertT, trieOf, simplifyT}
-use Rattle.nets.specs.Lists.{Found, found, missing, nodesL, addL, removeL, simplifyL, intersectL, excludeL, supernetL, containsL}
+use Rattle.nets.specs.Lists.{Found, found, missing, nodesL, addL, removeL, simplifyL, intersectL, excludeL, differenceL, supernetL, containsL}
 use Rattle.nets.specs.Networks.{inRange, refusalOf, width}
 
 -- what a row says of a result: the list and its nodes, how many networks and nodes, what is found, whether it is contained, which refusal it gets
@@ -63,11 +63,12 @@ table =
     ∷ contains (containsL two (ip 192 168 0 0 23)) false
     ∷ lists (simplifyL two) (ip 192 168 0 0 23 ∷ []) 24
     ∷ lists (excludeL two []) (ip 192 168 0 0 24 ∷ ip 192 168 1 0 24 ∷ []) 26
+    ∷ lists (differenceL two []) (ip 192 168 0 0 23 ∷ []) 24
     ∷ lists (intersectL two (ip 192 168 0 0 23 ∷ [])) (ip 192 168 0 0 23 ∷ []) 24
     ∷ refused (refusalOf (record { family = 4; hi = 0; lo = 0; len = 33 })) 7
     ∷ lists (removeL two (ip 0 0 0 0 0)) [] 0
     ∷ []
 
 pub worked : allHold table ≡ true
-unfolding table bits before size levels listOf insertT trieOf simplifyT nodesL addL removeL simplifyL intersectL excludeL supernetL containsL inRange refusalOf width
+unfolding table bits before size levels listOf insertT trieOf simplifyT nodesL addL removeL simplifyL intersectL excludeL differenceL supernetL containsL inRange refusalOf width
 worked = refl

@@ -3,7 +3,8 @@
 --   member q l, covers l q     q is listed; some member leads q, so l holds the address q
 --   isList w l                 ascending, no member inside another, no length above the width w
 --   nodesL l                   how many different leading bit strings the members have, the empty one and themselves included
---   addL removeL simplifyL mergeL intersectL excludeL     what a changing call leaves
+--   addL removeL simplifyL mergeL intersectL     what a changing call leaves
+--   excludeL, differenceL      what is left of each member by itself, and the same simplified: exclude_apart and exclude
 --   supernetL containsL nextL  what a lookup finds;  stepsL l q: how many nodes it reads for q
 --   Simplified l               no two halves of one block are both listed
 use mathlib.Core.Bool.{Bool, true, false, not, cond, _&&_, _||_}
@@ -108,6 +109,9 @@ intersectL l m = simplifyL (keep (covers m) l ++ keep (covers l) m)
 unfoldable pub excludeL : List Bits → List Bits → List Bits
 excludeL l [] = l
 excludeL l (n ∷ m) = excludeL (removeL l n) m
+
+unfoldable pub differenceL : List Bits → List Bits → List Bits
+differenceL l m = simplifyL (excludeL l m)
 
 pub data Found : Type 0 where
   found : Bits → Found

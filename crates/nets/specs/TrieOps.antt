@@ -2,7 +2,7 @@
 --
 --   removeT, searchT      remove, supernet;  stepsT: the nodes on the way down
 --   opT j f k t u         the set operation f on two tries of at most k levels; j: two full halves are joined
---   unionT, commonT, exceptT      its three uses
+--   unionT, commonT, exceptT, differenceT      its uses: the last two differ in that one joins
 use mathlib.Core.Bool.{Bool, true, false, not, cond, _&&_, _||_}
 use mathlib.Core.List.{[], _∷_}
 use Prim.Native.Nat.{ℕ, zero, suc}
@@ -74,3 +74,6 @@ commonT k t u = opT true _&&_ k t u
 
 unfoldable pub exceptT : ℕ → Trie → Trie → Trie
 exceptT k t u = opT false (λ x y. x && not y) k t u
+
+unfoldable pub differenceT : ℕ → Trie → Trie → Trie
+differenceT k t u = opT true (λ x y. x && not y) k t u

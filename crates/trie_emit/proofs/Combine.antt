@@ -7,7 +7,7 @@ use Prim.Native.Nat.{ℕ, zero, suc, _+_, _-_, _*_, _≤_, _<_, _^_}
 use native.Mathlib.Omega.{arith}
 use lib.ListN.{length}
 use Rattle.nets.specs.Tries.{Trie, none, node, leaf, size, glue}
-use Rattle.nets.specs.TrieOps.{Kind, flat, mixed, kindOf, verdict, opT, half, unionT, commonT, exceptT}
+use Rattle.nets.specs.TrieOps.{Kind, flat, mixed, kindOf, verdict, opT, half, unionT, commonT, exceptT, differenceT}
 use Rattle.nets.proofs.Strings.{cond-both}
 use Rattle.nets.proofs.Glue.{levels-half}
 use Rattle.nets.proofs.Operate.{flat≢mixed, verdict-levels, opHalf, opT-flat, opT-mixed, opT-step}
@@ -30,6 +30,10 @@ module _ (k : ℕ) (t u : Trie) where
   pub opOn-common : opOn 1 k t u ≡ commonT k t u
   unfolding opOf commonT
   opOn-common = refl
+
+  pub opOn-difference : opOn 2 k t u ≡ differenceT k t u
+  unfolding opOf differenceT
+  opOn-difference = refl
 
   pub opOn-except : opOn 3 k t u ≡ exceptT k t u
   unfolding opOf exceptT
