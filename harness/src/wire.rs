@@ -53,6 +53,7 @@ pub const NTH: u8 = 22;
 pub const LAST: u8 = 23;
 pub const PAGE: u8 = 24;
 pub const EXCLUDE: u8 = 25;
+pub const REPLAN: u8 = 26;
 pub const NEW: u8 = 32;
 pub const TO_NETWORK: u8 = 33;
 pub const WITH_NEW_PREFIX: u8 = 34;

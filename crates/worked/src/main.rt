@@ -28,6 +28,7 @@ fn call(pool: &mut [u32], row: &[u8]) -> Got {
         b'i' => calls::answer(combine::intersect(pool, a, b, c)),
         b'e' => calls::answer(combine::exclude(pool, a, b, c)),
         b'k' => calls::answer(combine::exclude_apart(pool, a, b, c)),
+        b'g' => calls::answer(replan::replan(pool, a, b, c)),
         b'c' => told(compare::equal(pool, a, b)),
         _ => calls::call(pool, row),
     }
