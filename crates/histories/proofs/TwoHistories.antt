@@ -6,6 +6,7 @@ use mathlib.Core.List.{List, [], _∷_}
 use Prim.Native.Nat.{ℕ}
 use native.Mathlib.Omega.{arith}
 use lib.Dec.{eqb, leb}
+use lib.ListN.{length}
 use borrow.Author.Tests.{eqb-true, eqb-false}
 use Rattle.nets.specs.Lists.{nodesL}
 use Rattle.nets.specs.Refusals.{answered, firstNo}
@@ -17,7 +18,7 @@ use Rattle.pool_state.proofs.Decoded.{decode-state}
 use Rattle.histories.specs.Calls.{Relist, Call, relist, replan, writes, target, argsOf, resultOf, nextOf, callNo, answerOf, stateAfter}
 use Rattle.histories.specs.Histories.{stateFrom, answersFrom, History, begin, step, callsOn, answersOn, Alone, CallAlone, AllAlone, SameAt}
 use Rattle.histories.proofs.Step.{call-same, relistNo-share, callNo-is, nextOf-is, stateAfter-numbers, stateAfter-other, stateAfter-own, isState-after}
-use Rattle.histories.proofs.Histories.{layout-begins, history-sound, history-answer}
+use Rattle.histories.proofs.Histories.{stateFrom-numbers, layout-begins, history-sound, history-answer}
 
 -- Agreeing.
 sameAt-refl : (k : ℕ) (S : State) → SameAt k S S
@@ -170,11 +171,24 @@ layout-histories {p = p} k l t h g a e =
     let x = two-histories (layout-begins l) (layout-begins t) k (sameAt-refl k (emptyState p)) h g a e in
     (x .0, ap (λ (s : SetState). s .list) (x .1))
 
--- "the fact on two histories holds between two such calls on a set": take two histories that have just replanned set k, in whatever way and granted or refused, and that agree on
--- it then. Until it is replanned again, the same calls on it, with results that fit its share, give it the same answers, list, share and limit.
-module _ {w z : List ℕ} {S T : State} (d : decode w ≡ sound S) (q : decode z ≡ sound T) {k x y a b : ℕ} {cs ds : List Call} {rs ss : List (ℕ × ℕ)} {u v : List ℕ}
-    (h : History w (replan k x y ∷ cs) rs u) (g : History z (replan k a b ∷ ds) ss v) where
-  pub replan-histories : {es fs : List Call} {ps qs : List (ℕ × ℕ)} {m n : List ℕ} → SameAt k (stateFrom S (replan k x y ∷ cs)) (stateFrom T (replan k a b ∷ ds))
-      → History u es ps m → History v fs qs n → AllAlone (stateFrom S (replan k x y ∷ cs)) k es → callsOn k es ≡ callsOn k fs
-      → (answersOn k es ps ≡ answersOn k fs qs) × (setAt (stateFrom (stateFrom S (replan k x y ∷ cs)) es) k ≡ setAt (stateFrom (stateFrom T (replan k a b ∷ ds)) fs) k)
-  replan-histories s i j f e = two-histories (history-sound d h) (history-sound q g) k s i j f e
+-- "document 01's two-histories fact holds between two such calls on that set, granted or refused, for two histories that agree on its list, share, limit ... right after the first":
+-- two histories in pools of one family and as many sets, as from one layout, that have just replanned set k, each in its own way. Until it is replanned again, the same calls on
+-- it, with results that fit its share, get the same answers and leave the same list.
+module _ {w z : List ℕ} {S T : State} (d : decode w ≡ sound S) (q : decode z ≡ sound T) (family : S .family ≡ T .family) (sets : length (S .sets) ≡ length (T .sets))
+    {k x y a b : ℕ} {cs ds : List Call} {rs ss : List (ℕ × ℕ)} {u v : List ℕ} (h : History w (replan k x y ∷ cs) rs u) (g : History z (replan k a b ∷ ds) ss v) where
+  abbrev one : State
+  one = stateFrom S (replan k x y ∷ cs)
+
+  abbrev two : State
+  two = stateFrom T (replan k a b ∷ ds)
+
+  replan-same : setAt one k ≡ setAt two k → SameAt k one two
+  replan-same e =
+      let m = stateFrom-numbers S (replan k x y ∷ cs) in
+      let n = stateFrom-numbers T (replan k a b ∷ ds) in
+      record { family = m .0 ∙ family ∙ sym (n .0); known = ap (λ i. leb i k) (m .2 ∙ sets ∙ sym (n .2)); set = e }
+
+  pub replan-histories : {es fs : List Call} {ps qs : List (ℕ × ℕ)} {m n : List ℕ} → setAt one k ≡ setAt two k
+      → History u es ps m → History v fs qs n → AllAlone one k es → callsOn k es ≡ callsOn k fs
+      → (answersOn k es ps ≡ answersOn k fs qs) × (setAt (stateFrom one es) k ≡ setAt (stateFrom two fs) k)
+  replan-histories s i j f e = two-histories (history-sound d h) (history-sound q g) k (replan-same s) i j f e
