@@ -113,6 +113,9 @@ fn exported(words: &[u32], c: &Call) -> Option<String> {
         LIST => list(&pool, c.a, &mut rows),
         SAVE => save(&pool, c.a, &mut bytes),
         LOAD => load(&mut pool, c.a, &c.tail),
+        EXCLUDE => exclude(&mut pool, c.a, c.b, c.c),
+        EXCLUDE_APART => exclude_apart(&mut pool, c.a, c.b, c.c),
+        REPLAN => replan(&mut pool, c.a, c.b, c.c),
         _ => return None,
     };
     bytes.extend(rows.iter().flat_map(|x| x.to_le_bytes()));
@@ -188,7 +191,7 @@ pub fn damage(d: &mut Dice) -> Case {
                 if c.code == LAYOUT {
                     c = Call::new(FREE);
                 }
-                let changes = (ADD..=EXCLUDE_APART).contains(&c.code) || c.code == EXCLUDE || c.code == LOAD || c.code == LINES;
+                let changes = (ADD..=EXCLUDE_APART).contains(&c.code) || c.code == EXCLUDE || c.code == REPLAN || c.code == LOAD || c.code == LINES;
                 if !changes || x == old {
                     c.net.family = state.family;
                     case.calls.push(c);
@@ -206,6 +209,19 @@ pub fn damage(d: &mut Dice) -> Case {
     case
 }
 
+/// A full pool: two halves of a block fit in set 2 joined, and not apart. So the named mode of exclude is refused 10 there, and the default is granted.
+fn full() -> Case {
+    let tail = [26u32, 0, 0, 26, 50, 50].iter().flat_map(|n| n.to_le_bytes()).collect();
+    let layout = Call { a: 3, b: 50, c: 3, net: Net { family: 4, len: 3, ..Net::default() }, tail, ..Call::new(LAYOUT) };
+    let add = |lo: u64| Call { net: Net { family: 4, lo, len: 24, ..Net::default() }, ..Call::new(ADD) };
+    let out = |code: u8| Call { a: 2, b: 0, c: 1, ..Call::new(code) };
+    let calls = vec![layout, add(0xc0a8_0000), add(0xc0a8_0100), out(EXCLUDE_APART), out(EXCLUDE)];
+    let mut words = vec![0; 64 + 24 + 400];
+    let numbers: Vec<u8> = calls.iter().map(|c| apply(&mut words, c).no).collect();
+    assert_eq!(numbers, [0, 0, 0, 10, 0]);
+    Case { words: words.len(), calls }
+}
+
 fn state_of(p: &Plan) -> crate::layout::State {
     let mut w = vec![0u32; p.words()];
     apply(&mut w, &p.layout());
@@ -218,7 +234,11 @@ pub fn main(calls: u64, seed: u64) -> bool {
     let (mut done, mut wrong, mut round) = (0u64, 0u64, 0u64);
     while done < calls {
         round += 1;
-        let case = if round % 40 == 0 { damage(&mut d) } else { sequence(&mut d, 60) };
+        let case = match round {
+            1 => full(),
+            _ if round % 40 == 0 => damage(&mut d),
+            _ => sequence(&mut d, 60),
+        };
         if let Some(what) = compare(&case, &mut tally) {
             wrong += 1;
             println!("round {round}: {what}");

@@ -120,6 +120,8 @@ pub fn encode(w: &mut [u32], s: &State) {
         let mut members: Vec<(u128, u8)> = set.list.iter().map(|m| (m.1, m.0)).collect();
         members.sort();
         w[64 + 8 * k] = if members.is_empty() { 0 } else { words.len() as u32 + 1 };
+        w[65 + 8 * k] = set.share;
+        w[66 + 8 * k] = set.limit;
         if !members.is_empty() {
             encode_at(width(s.family), 0, &members, &mut words);
         }

@@ -124,6 +124,22 @@ fn change_by(w: &mut [u32], s: State, c: &Call, f: fn(u8, &List, Member) -> List
     if a.no != 0 { a } else { Answer { y: trimmed(&c.net), ..a } }
 }
 
+/// Share and limit of set a become b and c: M-105's three conditions, the claims summed over all sets with the new share.
+fn replan(w: &mut [u32], mut s: State, c: &Call) -> Answer {
+    let k = c.a as usize;
+    if k >= s.sets.len() {
+        return Answer::refused(3);
+    }
+    let own = held(&s, k);
+    (s.sets[k].share, s.sets[k].limit) = (c.b, c.c);
+    let claims: u64 = (0..s.sets.len()).map(|j| held(&s, j).max(s.sets[j].share as u64)).sum();
+    if c.b > c.c || own > c.c as u64 || claims > s.nodes as u64 {
+        return Answer::refused(13);
+    }
+    encode(w, &s);
+    number(own as u32)
+}
+
 fn combine(w: &mut [u32], s: State, c: &Call, f: fn(u8, &List, &List) -> List) -> Answer {
     let sets = s.sets.len() as u32;
     let no = if c.b >= sets || c.c >= sets {
@@ -402,6 +418,7 @@ pub fn apply(w: &mut [u32], c: &Call) -> Answer {
         INTERSECT => combine(w, s, c, lists::intersect),
         EXCLUDE => combine(w, s, c, lists::exclude),
         EXCLUDE_APART => combine(w, s, c, lists::exclude_apart),
+        REPLAN => replan(w, s, c),
         EQUAL => {
             let j = c.b as usize;
             answered(if known && j < s.sets.len() { 0 } else { 3 }, || told(s.sets[k].list == s.sets[j].list))

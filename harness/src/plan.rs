@@ -1,6 +1,6 @@
 //! Seeded sequences of calls: several sets, both families, dense small universes and wide ones, networks around the ends of the words, and arguments that are wrong.
 use crate::files::{file, file_of};
-use crate::layout::State;
+use crate::layout::{room, State};
 use crate::lists::{self, cleared, width, List, Member};
 use crate::model::net;
 use crate::wire::*;
@@ -241,9 +241,10 @@ impl Plan {
             68..=72 => CONTAINS,
             73..=74 => IS_EMPTY,
             75..=77 => EQUAL,
-            78..=79 => FREE,
-            80..=81 => HELD,
-            82 => PLAN,
+            78 => FREE,
+            79..=80 => REPLAN,
+            81 => HELD,
+            82 => d.pick(&[PLAN, REPLAN]),
             83..=86 => NEXT,
             87..=89 => LIST,
             90..=92 => READ_LINE,
@@ -260,6 +261,16 @@ impl Plan {
                 } else if !d.one_in(6) {
                     return Call { a, net: Net { family: self.family, ..Net::default() }, ..Call::new(REMOVE) };
                 }
+            }
+            REPLAN => {
+                // at the bounds of each condition, and one to either side
+                let own = s.sets.get(a as usize).map_or(0, |x| lists::nodes(width(self.family), &x.list) as u32);
+                let space = room(s, a as usize) as u32;
+                let near = |d: &mut Dice, x: u32| d.pick(&[x, x.wrapping_add(1), x.saturating_sub(1)]);
+                let any = d.below(self.nodes as u64 + 2) as u32;
+                let (x, y) = (d.pick(&[own, space, 0, any]), d.pick(&[own, space, self.nodes, u32::MAX]));
+                call.b = near(d, x);
+                call.c = if d.one_in(3) { near(d, call.b) } else { near(d, y) };
             }
             LIST => {
                 call.b = d.below(40) as u32;

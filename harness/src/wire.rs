@@ -53,6 +53,7 @@ pub const NTH: u8 = 22;
 pub const LAST: u8 = 23;
 pub const PAGE: u8 = 24;
 pub const EXCLUDE: u8 = 25;
+pub const REPLAN: u8 = 26;
 pub const NEW: u8 = 32;
 pub const TO_NETWORK: u8 = 33;
 pub const WITH_NEW_PREFIX: u8 = 34;
@@ -138,6 +139,9 @@ extern "C" {
     fn marlbrace_list(pool: *const u32, pool_len: usize, set: u32, rows: *mut u64, rows_len: usize) -> u64;
     fn marlbrace_save(pool: *const u32, pool_len: usize, set: u32, out: *mut u8, out_len: usize) -> u64;
     fn marlbrace_load(pool: *mut u32, pool_len: usize, set: u32, file: *const u8, file_len: usize) -> u64;
+    fn marlbrace_exclude(pool: *mut u32, pool_len: usize, to: u32, first: u32, second: u32) -> u64;
+    fn marlbrace_exclude_apart(pool: *mut u32, pool_len: usize, to: u32, first: u32, second: u32) -> u64;
+    fn marlbrace_replan(pool: *mut u32, pool_len: usize, set: u32, share: u32, limit: u32) -> u64;
 }
 
 /// Runs a list of calls; gives what `marlbrace_run` answers, and the bytes of the answers.
@@ -160,4 +164,15 @@ pub fn save(pool: &[u32], set: u32, out: &mut [u8]) -> u64 {
 
 pub fn load(pool: &mut [u32], set: u32, file: &[u8]) -> u64 {
     unsafe { marlbrace_load(pool.as_mut_ptr(), pool.len(), set, file.as_ptr(), file.len()) }
+}
+pub fn exclude(pool: &mut [u32], to: u32, first: u32, second: u32) -> u64 {
+    unsafe { marlbrace_exclude(pool.as_mut_ptr(), pool.len(), to, first, second) }
+}
+
+pub fn exclude_apart(pool: &mut [u32], to: u32, first: u32, second: u32) -> u64 {
+    unsafe { marlbrace_exclude_apart(pool.as_mut_ptr(), pool.len(), to, first, second) }
+}
+
+pub fn replan(pool: &mut [u32], set: u32, share: u32, limit: u32) -> u64 {
+    unsafe { marlbrace_replan(pool.as_mut_ptr(), pool.len(), set, share, limit) }
 }

@@ -49,6 +49,8 @@ pub const PAGE: u8 = 24;
 
 pub const EXCLUDE: u8 = 25;
 
+pub const REPLAN: u8 = 26;
+
 pub const NEW: u8 = 32;
 
 pub const TO_NETWORK: u8 = 33;

@@ -1,6 +1,6 @@
 -- What the calls that change the pool answer and leave. w are the pool's words, s the bytes of the call, c its fixed part.
 --
---   changeOf w c        the calls that change a set: 8 to 13, and 25
+--   changeOf w c        the calls that change a set: 8 to 13, 25 and 26
 --   layoutOf w c s, writeOf w c s     layout, 1, and words written over the pool's, 48
 use mathlib.Core.Bool.{cond}
 use mathlib.Core.List.{List}
@@ -10,14 +10,14 @@ use Rattle.nets.specs.Bits.{Bits}
 use Rattle.nets.specs.Lists.{mergeL, intersectL, differenceL, excludeL}
 use Rattle.nodes.specs.Words.{put}
 use Rattle.pool_state.specs.Rules.{setup, layoutNo, laid}
-use Rattle.pool_state.specs.Changes.{listAt}
+use Rattle.pool_state.specs.Changes.{setAt, listAt, planned, planRules}
 use Rattle.change.specs.Calls.{listWith, listWithout}
 use Rattle.change.specs.Simplified.{listSimple, noArgs}
 use Rattle.combine.specs.Rules.{combineRules}
 use Rattle.calls_bytes.specs.Tails.{numbersFrom}
 use Rattle.calls_bytes.specs.declared.Call.{Call}
 use Rattle.calls_bytes.specs.declared.Reply.{Reply}
-use Rattle.calls_replies.specs.Replies.{noReply, relisted, relistedBy}
+use Rattle.calls_replies.specs.Replies.{noReply, changed, relisted, relistedBy}
 
 -- the list that a call makes of sets b and c goes to set a
 abbrev pub combined : (List Bits → List Bits → List Bits) → List ℕ → Call → Reply × List ℕ
@@ -31,7 +31,8 @@ changeOf w c =
     (cond (eqb (c .code) 11) (combined mergeL w c)
     (cond (eqb (c .code) 12) (combined intersectL w c)
     (cond (eqb (c .code) 13) (combined excludeL w c)
-    (combined differenceL w c))))))
+    (cond (eqb (c .code) 25) (combined differenceL w c)
+    (changed w (c .a) (planRules (c .a) (c .b) (c .c)) (λ S. planned (setAt S (c .a)) (c .b) (c .c)))))))))
 
 -- the shares and the limits that stand in the tail
 abbrev pub sharesOf : Call → List ℕ → List ℕ

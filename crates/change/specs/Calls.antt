@@ -2,7 +2,8 @@
 --
 --   listWith k n S, listWithout      the list of set k with the network n added, and with n removed
 --   Added w k n r v, Removed         from the words w the call with the network n on set k answers r and leaves the words v
---   notedAs a, Reports n C r v       what such a call answers, with the report: r is the answer of the call C, and reports where it is granted and a set bit past the length of n was cut
+--   notedAs a                        the number and the values of what such a call answers, the report behind the nodes
+--   Reports n C r v                  r is the answer of the call C, and reports: it is granted, and a set bit past the length of n was cut
 use mathlib.Core.Bool.{Bool, false, _&&_}
 use mathlib.Core.List.{List}
 use mathlib.Core.Path.{_≡_}

@@ -11,7 +11,7 @@ ghost use Rattle.pool_state.specs.Rules.{answerAs};
 ghost use Rattle.lookup.specs.Rules.{containsAs, containsRule};
 ghost use Rattle.listing.specs.Calls.{listRule, rowsAfter};
 ghost use Rattle.setfile.specs.Calls.{saveRule, bytesAfter};
-ghost use Rattle.exports.specs.Packed.{packed, packedHeld, loadRule, loadWords, combineRule, combineWords};
+ghost use Rattle.exports.specs.Packed.{packed, packedHeld, loadRule, loadWords, combineRule, combineWords, replanRule, replanWords};
 use lookup::Contained;
 use nets::Net;
 use nets::Refusal;
@@ -119,4 +119,13 @@ pub extern "C" fn marlbrace_exclude_apart(pool: &mut [u32], to: u32, first: u32,
     ensures { λ _. ⌜ now (pool .exit) ≡ combineWords excludeL (now (pool .entry)) to first second ⌝ }
 {
     of_answer(combine::exclude_apart(pool, to, first, second))
+}
+
+// Gives a set another share and limit, and answers the nodes that it holds.
+#[no_mangle]
+pub extern "C" fn marlbrace_replan(pool: &mut [u32], set: u32, share: u32, limit: u32) -> u64
+    ensures { λ r. ⌜ r ≡ packed (replanRule (now (pool .entry)) set share limit) ⌝ }
+    ensures { λ _. ⌜ now (pool .exit) ≡ replanWords (now (pool .entry)) set share limit ⌝ }
+{
+    of_answer(replan::replan(pool, set, share, limit))
 }

@@ -1,7 +1,7 @@
 -- Every sequence of calls from words that hold a state on, by its last call. Each beginning of a history is a history, so what holds of every history holds after every step.
 -- A granted layout leaves such words (`layout-begins`), and so does every history. Assumes nothing.
 use mathlib.Core.Path.{_≡_, refl, sym, ap, _∙_}
-use mathlib.Core.Bool.{true}
+use mathlib.Core.Bool.{true, cond}
 use mathlib.Core.List.{List, [], _∷_}
 use Prim.Native.Nat.{ℕ, _+_, _≤_, _<_}
 use native.Mathlib.Omega.{arith}
@@ -14,15 +14,16 @@ use Rattle.nets.specs.declared.Net.{Net}
 use Rattle.pool_state.specs.States.{SetState, State, held, used, claimed, claimedBut, freeOf, roomOf, isState}
 use Rattle.pool_state.specs.Decode.{leastWords, sound, decode}
 use Rattle.pool_state.specs.Rules.{answerOn, Setup, setup, emptyState, layoutNo, Laid, freeRule}
-use Rattle.pool_state.specs.Changes.{setAt, listAt, withSet, changeRules, changeRule, wordsAfter, relistRules, relistSet, netRules}
+use Rattle.pool_state.specs.Changes.{setAt, listAt, withSet, fits, changeRules, changeRule, wordsAfter, planRules, relistRules, relistSet, netRules}
 use Rattle.pool_state.proofs.Answered.{leftOn-refused}
 use Rattle.pool_state.proofs.Claims.{isList-listAt, held-limit, freeOf-is}
 use Rattle.pool_state.proofs.Decoded.{decode-state, decode-laid}
 use Rattle.pool_state.proofs.Determined.{changed-same}
 use Rattle.pool_state.proofs.Past.{Past, past-refl, past-trans}
-use Rattle.histories.specs.Calls.{Call, add, target, argsNo, resultOf, callNo, answerOf, stateAfter, Outcome}
+use Rattle.replan.proofs.Outcomes.{mayPlan, replan-exactly}
+use Rattle.histories.specs.Calls.{Relist, Call, add, relist, replan, writes, target, argsNo, resultOf, callNo, answerOf, stateAfter, Outcome}
 use Rattle.histories.specs.Histories.{stateFrom, answersFrom, History, begin, step}
-use Rattle.histories.proofs.Step.{callNo-share, callNo-room, outcome-answer, stateAfter-numbers, stateAfter-plan, stateAfter-other, outcome-decode, outcome-past}
+use Rattle.histories.proofs.Step.{callNo-share, callNo-room, stateAfter-plan, stateAfter-lists, outcome-answer, stateAfter-numbers, stateAfter-other, outcome-decode, outcome-past}
 
 -- One call from any words.
 
@@ -100,18 +101,24 @@ module _ {w : List ℕ} {S : State} (d : decode w ≡ sound S) where
       number-is : r .0 ≡ callNo (stateFrom S cs) c
       number-is = ap (λ a. a .0) history-answer
 
+    -- One that relists, by the share and the limit in force.
+    module _ {u : List ℕ} {r : ℕ × ℕ} (c : Relist) (o : Outcome v (relist c) r u) where
       -- "the sum over all sets of the larger of share and nodes is at most the pool's": so a result within the share is never refused for room.
-      pub share-granted : nodesL (resultOf c (stateFrom S cs)) ≤ setAt (stateFrom S cs) (target c) .share → r .0 ≡ 10 → ⊥
-      share-granted le e = omega (arith, number-is, callNo-share (stateFrom S cs) c history-state le)
+      pub share-granted : nodesL (resultOf c (stateFrom S cs)) ≤ setAt (stateFrom S cs) (writes c) .share → r .0 ≡ 10 → ⊥
+      share-granted le e = omega (arith, number-is (relist c) o, callNo-share (stateFrom S cs) c history-state le)
 
       -- "Room for a set is the pool's nodes less, for every other set, the larger of its share and the nodes of its list. A changing call is judged by the nodes of its result alone".
-      pub room-exact : target c < length (stateFrom S cs .sets) → argsNo c (stateFrom S cs) ≡ 0
-          → nodesL (resultOf c (stateFrom S cs)) ≤ setAt (stateFrom S cs) (target c) .limit
-          → (nodesL (resultOf c (stateFrom S cs)) ≤ roomOf (stateFrom S cs) (target c) → r .0 ≡ 0)
-          × (roomOf (stateFrom S cs) (target c) < nodesL (resultOf c (stateFrom S cs)) → r .0 ≡ 10)
+      pub room-exact : writes c < length (stateFrom S cs .sets) → argsNo c (stateFrom S cs) ≡ 0
+          → nodesL (resultOf c (stateFrom S cs)) ≤ setAt (stateFrom S cs) (writes c) .limit
+          → (nodesL (resultOf c (stateFrom S cs)) ≤ roomOf (stateFrom S cs) (writes c) → r .0 ≡ 0)
+          × (roomOf (stateFrom S cs) (writes c) < nodesL (resultOf c (stateFrom S cs)) → r .0 ≡ 10)
       room-exact lt a le =
-          let e = number-is ∙ callNo-room (stateFrom S cs) c lt a le in
+          let e = number-is (relist c) o ∙ callNo-room (stateFrom S cs) c lt a le in
           (λ k. rw (le-ltb _ _ k) at e, λ k. rw (lt-ltb _ _ k) at e)
+
+    -- A replan is granted exactly by the request's three conditions, of the nodes held and the shares in force.
+    pub plan-exact : {u : List ℕ} {r : ℕ × ℕ} (k x y : ℕ) → Outcome v (replan k x y) r u → k < length (stateFrom S cs .sets) → r .0 ≡ cond (mayPlan (stateFrom S cs) k x y) 0 13
+    plan-exact k x y o lt = number-is (replan k x y) o ∙ replan-exactly (stateFrom S cs) k x y history-state lt
 
   -- "demand 2 holds after each step": all answers of a history are those of the rules, and so the state and the calls determine them.
   pub history-answers : {cs : List Call} {rs : List (ℕ × ℕ)} {v : List ℕ} → History w cs rs v → rs ≡ answersFrom S cs
@@ -119,15 +126,21 @@ module _ {w : List ℕ} {S : State} (d : decode w ≡ sound S) where
   history-answers begin = refl
   history-answers (step {c = c} h o) = rw (history-answer h c o, history-answers h)
 
--- "merge, intersect and exclude write a third set": every call writes one set; the list of no other changes, and no share and no limit.
-pub only-written : (S : State) (cs : List Call) (c : Call) (j : ℕ)
-    → ((j ≡ target c → ⊥) → listAt (stateFrom S (c ∷ cs)) j ≡ listAt (stateFrom S cs) j)
-    × (setAt (stateFrom S (c ∷ cs)) j .share ≡ setAt (stateFrom S cs) j .share)
-    × (setAt (stateFrom S (c ∷ cs)) j .limit ≡ setAt (stateFrom S cs) j .limit)
-unfolding stateFrom
-only-written S cs c j =
-    let h = stateAfter-plan (stateFrom S cs) c j in
-    (λ ne. ap (λ (s : SetState). s .list) (stateAfter-other (stateFrom S cs) c j ne), h .0, h .1)
+-- "merge, intersect and exclude write a third set": every call writes one set, and all that is of another stays.
+module _ (S : State) (cs : List Call) where
+  pub only-written : (c : Call) (j : ℕ) → (j ≡ target c → ⊥) → setAt (stateFrom S (c ∷ cs)) j ≡ setAt (stateFrom S cs) j
+  unfolding stateFrom
+  only-written c j ne = stateAfter-other (stateFrom S cs) c j ne
+
+  -- a call that relists changes no share and no limit, and a replan no list
+  pub plans-stay : (c : Relist) (j : ℕ)
+      → (setAt (stateFrom S (relist c ∷ cs)) j .share ≡ setAt (stateFrom S cs) j .share) × (setAt (stateFrom S (relist c ∷ cs)) j .limit ≡ setAt (stateFrom S cs) j .limit)
+  unfolding stateFrom
+  plans-stay c j = stateAfter-plan (stateFrom S cs) c j
+
+  pub lists-stay : (k x y j : ℕ) → listAt (stateFrom S (replan k x y ∷ cs)) j ≡ listAt (stateFrom S cs) j
+  unfolding stateFrom
+  lists-stay k x y j = stateAfter-lists (stateFrom S cs) k x y j
 
 -- "IPv6 pool, 100 nodes, shares 40 and 30, limits 60 and 80, both sets empty. On set 1, adding a /59 (60 nodes) is granted; a /60 or /79 instead gets 10, a /80 gets 9. With the
 -- /59 there, set 0 may add a /39; a /40 gets 10."
@@ -137,11 +150,28 @@ pool100 = emptyState (setup 6 2 100 (40 ∷ 30 ∷ []) (60 ∷ 80 ∷ []))
 abbrev net : ℕ → Net
 net n = record { family = 6; hi = 0; lo = 0; len = n }
 
-pub worked-pool : (answersFrom pool100 (add 1 (net 59) ∷ []) ≡ (0, 60) ∷ [])
-    × (answersFrom pool100 (add 1 (net 60) ∷ []) ≡ (10, 0) ∷ [])
-    × (answersFrom pool100 (add 1 (net 79) ∷ []) ≡ (10, 0) ∷ [])
-    × (answersFrom pool100 (add 1 (net 80) ∷ []) ≡ (9, 0) ∷ [])
-    × (answersFrom pool100 (add 0 (net 39) ∷ add 1 (net 59) ∷ []) ≡ (0, 40) ∷ (0, 60) ∷ [])
-    × (answersFrom pool100 (add 0 (net 40) ∷ add 1 (net 59) ∷ []) ≡ (10, 0) ∷ (0, 60) ∷ [])
+abbrev adds : ℕ → ℕ → Call
+adds k n = relist (add k (net n))
+
+pub worked-pool : (answersFrom pool100 (adds 1 59 ∷ []) ≡ (0, 60) ∷ [])
+    × (answersFrom pool100 (adds 1 60 ∷ []) ≡ (10, 0) ∷ [])
+    × (answersFrom pool100 (adds 1 79 ∷ []) ≡ (10, 0) ∷ [])
+    × (answersFrom pool100 (adds 1 80 ∷ []) ≡ (9, 0) ∷ [])
+    × (answersFrom pool100 (adds 0 39 ∷ adds 1 59 ∷ []) ≡ (0, 40) ∷ (0, 60) ∷ [])
+    × (answersFrom pool100 (adds 0 40 ∷ adds 1 59 ∷ []) ≡ (10, 0) ∷ (0, 60) ∷ [])
 unfolding stateFrom answersFrom stateAfter changeRules withSet relistRules relistSet netRules refusalOf inRange width netBits bits addL nodesL before claimedBut claimed
 worked-pool = (refl, refl, refl, refl, refl, refl)
+
+-- Shares that move, in the same pool. Set 0 gives 20 of its 40 nodes up, and then set 1 may have 80: its room is the pool less the share in force. Set 0 gets them back no more, at
+-- 20 nodes yes and at 21 no. Or it claims what is left above the 30 of set 1, at 70 nodes yes and at 71 no, and then set 1 may have its 30 and none above it. A share is at most the
+-- limit, and a limit at least the nodes.
+pub worked-plans : (answersFrom pool100 (adds 1 79 ∷ replan 0 20 60 ∷ []) ≡ (0, 80) ∷ (0, 0) ∷ [])
+    × (answersFrom pool100 (replan 0 21 60 ∷ adds 1 79 ∷ replan 0 20 60 ∷ []) ≡ (13, 0) ∷ (0, 80) ∷ (0, 0) ∷ [])
+    × (answersFrom pool100 (replan 0 20 60 ∷ adds 1 79 ∷ replan 0 20 60 ∷ []) ≡ (0, 0) ∷ (0, 80) ∷ (0, 0) ∷ [])
+    × (answersFrom pool100 (adds 1 29 ∷ replan 0 70 70 ∷ []) ≡ (0, 30) ∷ (0, 0) ∷ [])
+    × (answersFrom pool100 (adds 1 30 ∷ replan 0 71 71 ∷ replan 0 70 70 ∷ []) ≡ (10, 0) ∷ (13, 0) ∷ (0, 0) ∷ [])
+    × (answersFrom pool100 (replan 0 40 39 ∷ []) ≡ (13, 0) ∷ [])
+    × (answersFrom pool100 (replan 1 0 60 ∷ adds 1 59 ∷ []) ≡ (0, 60) ∷ (0, 60) ∷ [])
+    × (answersFrom pool100 (replan 1 0 59 ∷ adds 1 59 ∷ []) ≡ (13, 0) ∷ (0, 60) ∷ [])
+unfolding stateFrom answersFrom stateAfter changeRules withSet fits planRules relistRules relistSet netRules refusalOf inRange width netBits bits addL nodesL before claimedBut claimed
+worked-plans = (refl, refl, refl, refl, refl, refl, refl, refl)

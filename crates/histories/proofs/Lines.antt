@@ -14,13 +14,13 @@ use Rattle.lines.specs.Reading.{fed, finished}
 use Rattle.lines.specs.declared.Reader.{Reader}
 use Rattle.lines.proofs.Lists.{added, decode-added}
 use Rattle.lines.proofs.Adds.{Adds, fed-adds, finished-adds}
-use Rattle.histories.specs.Calls.{Call, add}
+use Rattle.histories.specs.Calls.{Call, add, relist}
 use Rattle.histories.specs.Histories.{History, step}
 
 -- the calls cs, and then the networks ns added to set 0, one after the other
 abbrev pub addsOn : List Net → List Call → List Call
 addsOn [] cs = cs
-addsOn (n ∷ ns) cs = addsOn ns (add 0 n ∷ cs)
+addsOn (n ∷ ns) cs = addsOn ns (relist (add 0 n) ∷ cs)
 
 -- a history from w on that goes on from the calls cs by such adds, and leaves v
 pub record Goes (w : List ℕ) (cs : List Call) (v : List ℕ) : Type 0 where

@@ -19,11 +19,11 @@ use Rattle.pool_state.specs.Decode.{sound, decode}
 use Rattle.pool_state.specs.Rules.{setup, emptyState}
 use Rattle.pool_state.specs.Changes.{listAt, withSet, changeRules, relistRules, relistSet, netRules}
 use Rattle.combine.specs.Rules.{combineRules}
-use Rattle.histories.specs.Calls.{Call, add, merge, target, resultOf, callNo, stateAfter, Outcome}
+use Rattle.histories.specs.Calls.{Relist, Call, add, merge, relist, writes, resultOf, callNo, stateAfter, Outcome}
 use Rattle.histories.specs.Histories.{stateFrom, answersFrom, History, step}
-use Rattle.histories.specs.Merges.{MergedSince, since, merged, other, refused}
+use Rattle.histories.specs.Merges.{MergedSince, since, merged, other, replanned, refused}
 use Rattle.histories.proofs.Step.{nextOf-is, stateAfter-own}
-use Rattle.histories.proofs.Histories.{history-answer, lists-valid, only-written}
+use Rattle.histories.proofs.Histories.{history-answer, lists-valid, only-written, lists-stay}
 
 -- The last step of a history, and the history up to the sets that are merged.
 last-step : {z : List ℕ} {cs : List Call} {rs : List (ℕ × ℕ)} {c : Call} {r : ℕ × ℕ} {v : List ℕ} → History z (c ∷ cs) (r ∷ rs) v
@@ -35,6 +35,7 @@ begun : {z : List ℕ} {cs ds : List Call} {ss : List (ℕ × ℕ)} {v : List �
 begun {ss = ss} {v = v} h since = (ss, v, h)
 begun h (merged m n) = begun (last-step h .1) m
 begun h (other m ne) = begun (last-step h .1) m
+begun h (replanned m) = begun (last-step h .1) m
 begun h (refused m ne) = begun (last-step h .1) m
 
 module _ {z : List ℕ} {S : State} (d : decode z ≡ sound S) where
@@ -43,16 +44,17 @@ module _ {z : List ℕ} {S : State} (d : decode z ≡ sound S) where
     number-is : callNo (stateFrom S cs) c ≡ r .0
     number-is = sym (ap (λ a. a .0) (history-answer d h c o))
 
-    granted-list : r .0 ≡ 0 → listAt (stateFrom S (c ∷ cs)) (target c) ≡ resultOf c (stateFrom S cs)
-    unfolding stateFrom
-    granted-list q =
-        let T = stateFrom S cs in
-        let e = ap (λ (s : SetState). s .list) (stateAfter-own T c) in
-        (rw (eq-eqb (callNo T c) 0 (number-is ∙ q)) at e) ∙ ap (λ (s : SetState). s .list) (nextOf-is T c)
-
     refused-state : (r .0 ≡ 0 → ⊥) → stateFrom S (c ∷ cs) ≡ stateFrom S cs
     unfolding stateFrom stateAfter
     refused-state ne = rw (ne-eqb (callNo (stateFrom S cs) c) 0 (λ q. ne (sym number-is ∙ q)))
+
+  granted-list : {cs : List Call} {rs : List (ℕ × ℕ)} {w v : List ℕ} (c : Relist) → History z cs rs w → {r : ℕ × ℕ} → Outcome w (relist c) r v → r .0 ≡ 0
+      → listAt (stateFrom S (relist c ∷ cs)) (writes c) ≡ resultOf c (stateFrom S cs)
+  unfolding stateFrom
+  granted-list {cs} c h o q =
+      let T = stateFrom S cs in
+      let e = ap (λ (s : SetState). s .list) (stateAfter-own T (relist c)) in
+      (rw (eq-eqb (callNo T (relist c)) 0 (number-is (relist c) h o ∙ q)) at e) ∙ ap (λ (s : SetState). s .list) (nextOf-is T c)
 
   listAt-merged : {cs ds : List Call} {ss : List (ℕ × ℕ)} {v : List ℕ} {x : ℕ} {g : Grouping} → History z ds ss v → MergedSince cs ds ss x g
       → listAt (stateFrom S ds) x ≡ mergedL (listAt (stateFrom S cs)) g
@@ -60,7 +62,8 @@ module _ {z : List ℕ} {S : State} (d : decode z ≡ sound S) where
   listAt-merged h (merged {x = x} {a = a} {b = b} m n) =
       let (w, k, o) = last-step h in
       granted-list (merge x a b) k o refl ∙ rw (listAt-merged k m, listAt-merged k n)
-  listAt-merged h (other {ds = ds} {x = x} {c = c} m ne) = only-written S ds c x .0 (λ e. ne (sym e)) ∙ listAt-merged (last-step h .1) m
+  listAt-merged h (other {ds = ds} {x = x} {c = c} m ne) = ap (λ (s : SetState). s .list) (only-written S ds c x (λ e. ne (sym e))) ∙ listAt-merged (last-step h .1) m
+  listAt-merged h (replanned {ds = ds} {x = x} {a = a} {b = b} m) = lists-stay S ds x a b x ∙ listAt-merged (last-step h .1) m
   listAt-merged h (refused {x = x} {c = c} m ne) =
       let (w, k, o) = last-step h in
       ap (λ T. listAt T x) (refused-state c k o ne) ∙ listAt-merged k m
@@ -87,20 +90,20 @@ abbrev net : ℕ → ℕ → Net
 net a n = record { family = 4; hi = 0; lo = a * 2 ^ 24; len = n }
 
 abbrev three : List Call
-three = add 2 (net 8 7) ∷ add 1 (net 11 8) ∷ add 0 (net 10 8) ∷ []
+three = relist (add 2 (net 8 7)) ∷ relist (add 1 (net 11 8)) ∷ relist (add 0 (net 10 8)) ∷ []
 
 abbrev added : List (ℕ × ℕ)
 added = (0, 8) ∷ (0, 9) ∷ (0, 9) ∷ []
 
 abbrev through3 : List Call
-through3 = merge 4 3 2 ∷ merge 3 0 1 ∷ three
+through3 = relist (merge 4 3 2) ∷ relist (merge 3 0 1) ∷ three
 
 abbrev through4 : List Call
-through4 = merge 3 0 4 ∷ merge 4 2 1 ∷ three
+through4 = relist (merge 3 0 4) ∷ relist (merge 4 2 1) ∷ three
 
 pub worked-merges : (answersFrom pool5 through3 ≡ (0, 7) ∷ (0, 8) ∷ added)
     × (answersFrom pool5 through4 ≡ (0, 7) ∷ (0, 10) ∷ added)
-    × (answersFrom pool5 (merge 3 2 1 ∷ three) ≡ (9, 0) ∷ added)
+    × (answersFrom pool5 (relist (merge 3 2 1) ∷ three) ≡ (9, 0) ∷ added)
     × (listAt (stateFrom pool5 through3) 4 ≡ netBits (net 8 6) ∷ [])
     × (listAt (stateFrom pool5 through4) 3 ≡ netBits (net 8 6) ∷ [])
 unfolding stateFrom answersFrom stateAfter changeRules withSet relistRules relistSet netRules refusalOf inRange width netBits bits addL nodesL before claimedBut claimed

@@ -1,4 +1,4 @@
--- One call from a state: the number of its answer, and the state that it leaves. Three laws have a case for each call: the refusals of its arguments stand before those of the limit
+-- One call from a state: the number of its answer, and the state that it leaves. Three laws have a case for each call that relists: the refusals of its arguments stand before those of the limit
 -- and the room (rules-few), its result is a list (isList-resultOf), and where it names one set it depends on that set alone (call-same). Assumes nothing.
 use mathlib.Core.Path.{_≡_, refl, ap, _∙_}
 use mathlib.Core.Bool.{Bool, true, false, cond, _&&_}
@@ -31,10 +31,11 @@ use Rattle.pool_state.proofs.Judged.{changeNo-zero, relistNo-known}
 use Rattle.pool_state.proofs.Past.{Past}
 use Rattle.pool_state.proofs.Leaves.{after-cases, after-other, Keeps, Leaves, changed-leaves, after-plan, relist-keeps, netRules-within}
 use Rattle.combine.specs.Rules.{combineRules}
+use Rattle.replan.proofs.Outcomes.{plan-keeps, replan-lists}
 use Rattle.setfile_format.specs.Files.{File, broken, file, readFile}
 use Rattle.setfile.specs.Loading.{loadRules}
 use Rattle.setfile.proofs.LoadOutcomes.{isList-load}
-use Rattle.histories.specs.Calls.{Call, add, remove, simplify, merge, intersect, exclude, excludeApart, load, target, namesOne, argsOf, argsNo, resultOf, rulesOf, nextOf, callNo, answerOf, stateAfter, Outcome}
+use Rattle.histories.specs.Calls.{Relist, Call, add, remove, simplify, merge, intersect, exclude, excludeApart, load, relist, replan, writes, target, namesOne, argsOf, argsNo, resultOf, rulesOf, nextOf, callNo, answerOf, stateAfter, Outcome}
 use Rattle.histories.specs.Histories.{SameAt}
 
 within-listAt : (S : State) (k : ℕ) → isState S ≡ true → within (width (S .family)) (listAt S k) ≡ true
@@ -54,7 +55,7 @@ unfolding loadRules
 load-few broken k S = (omega arith, tt)
 load-few (file f l) k S = (omega arith, (omega arith, tt))
 
-rules-few : (c : Call) (S : State) → Few 9 (argsOf c S)
+rules-few : (c : Relist) (S : State) → Few 9 (argsOf c S)
 rules-few (add k n) S = net-few n S
 rules-few (remove k n) S = net-few n S
 rules-few (simplify k) S = tt
@@ -69,7 +70,7 @@ few-append m [] ss f g = g
 few-append m (r ∷ rs) ss f g = (f .0, few-append m rs ss (f .1) g)
 
 -- Its result.
-isList-resultOf : (c : Call) (S : State) → isState S ≡ true → argsNo c S ≡ 0 → isList (width (S .family)) (resultOf c S) ≡ true
+isList-resultOf : (c : Relist) (S : State) → isState S ≡ true → argsNo c S ≡ 0 → isList (width (S .family)) (resultOf c S) ≡ true
 isList-resultOf (add k n) S e a = isList-add (width (S .family)) (listAt S k) (netBits n) (isList-listAt S k e) (netRules-within n S a)
 isList-resultOf (remove k n) S e a = isList-remove (width (S .family)) (listAt S k) (netBits n) (isList-listAt S k e) (netRules-within n S a)
 isList-resultOf (simplify k) S e a = isList-simplify (width (S .family)) (listAt S k) (within-listAt S k e)
@@ -100,7 +101,7 @@ combine-same L to a b S T e h =
     let y = eqb-true b to (and-right (eqb a to) (eqb b to) e) in
     rw (x, y, h .known, sameAt-list h) (refl, refl)
 
-pub call-same : (c : Call) (S T : State) → namesOne c ≡ true → SameAt (target c) S T → (argsOf c S ≡ argsOf c T) × (resultOf c S ≡ resultOf c T)
+pub call-same : (c : Relist) (S T : State) → namesOne c ≡ true → SameAt (writes c) S T → (argsOf c S ≡ argsOf c T) × (resultOf c S ≡ resultOf c T)
 call-same (add k n) S T e h = (net-same n k S T h, rw (sameAt-list h))
 call-same (remove k n) S T e h = (net-same n k S T h, rw (sameAt-list h))
 call-same (simplify k) S T e h = (refl, rw (sameAt-list h))
@@ -128,35 +129,48 @@ relistNo-share S k a l e f = go (leb (length (S .sets)) k) refl
     go true p = refl
     go false p = rw (firstNo-append a (grantRules S k l), firstNo-append a (limitRule S k l ∷ [])) (args (leb-false (length (S .sets)) k p) (eqb (firstNo a) 0) refl)
 
--- The number of the answer, and the answer.
-module _ (S : State) (c : Call) where
-  pub callNo-is : callNo S c ≡ relistNo S (target c) (argsOf c S) (resultOf c S)
+-- The number of the answer of a call that relists, and what becomes of the set.
+module _ (S : State) (c : Relist) where
+  pub callNo-is : callNo S (relist c) ≡ relistNo S (writes c) (argsOf c S) (resultOf c S)
   unfolding relistRules
   callNo-is = refl
 
-  pub nextOf-is : nextOf c S ≡ setWith (setAt S (target c)) (resultOf c S)
+  pub nextOf-is : nextOf (relist c) S ≡ setWith (setAt S (writes c)) (resultOf c S)
   unfolding relistSet
   nextOf-is = refl
 
-  pub callNo-share : isState S ≡ true → nodesL (resultOf c S) ≤ setAt S (target c) .share → callNo S c ≤ 9
+  pub callNo-share : isState S ≡ true → nodesL (resultOf c S) ≤ setAt S (writes c) .share → callNo S (relist c) ≤ 9
   callNo-share e le =
-      let l = limitRule S (target c) (resultOf c S) in
-      rw (callNo-is, relistNo-share S (target c) (argsOf c S) (resultOf c S) e (λ q. le))
-      (firstNo-few 9 (unknown S (target c) ∷ (argsOf c S ++ (l ∷ []))) (omega arith, few-append 9 (argsOf c S) (l ∷ []) (rules-few c S) (omega arith, tt)))
+      let l = limitRule S (writes c) (resultOf c S) in
+      rw (callNo-is, relistNo-share S (writes c) (argsOf c S) (resultOf c S) e (λ q. le))
+      (firstNo-few 9 (unknown S (writes c) ∷ (argsOf c S ++ (l ∷ []))) (omega arith, few-append 9 (argsOf c S) (l ∷ []) (rules-few c S) (omega arith, tt)))
 
-  pub callNo-room : target c < length (S .sets) → argsNo c S ≡ 0 → nodesL (resultOf c S) ≤ setAt S (target c) .limit → callNo S c ≡ cond (ltb (roomOf S (target c)) (nodesL (resultOf c S))) 10 0
-  callNo-room lt a le = callNo-is ∙ relistNo-known S (target c) (argsOf c S) (resultOf c S) lt ∙ rw (a, le-ltb (setAt S (target c) .limit) (nodesL (resultOf c S)) le)
+  pub callNo-room : writes c < length (S .sets) → argsNo c S ≡ 0 → nodesL (resultOf c S) ≤ setAt S (writes c) .limit
+      → callNo S (relist c) ≡ cond (ltb (roomOf S (writes c)) (nodesL (resultOf c S))) 10 0
+  callNo-room lt a le = callNo-is ∙ relistNo-known S (writes c) (argsOf c S) (resultOf c S) lt ∙ rw (a, le-ltb (setAt S (writes c) .limit) (nodesL (resultOf c S)) le)
 
-  pub outcome-answer : {w v : List ℕ} {r : ℕ × ℕ} → decode w ≡ sound S → Outcome w c r v → r ≡ answerOf S c
-  unfolding changeRule answerOn
-  outcome-answer d o = rw d at (o .answer)
+  -- it leaves every share and limit
+  pub stateAfter-plan : (j : ℕ) → (setAt (stateAfter S (relist c)) j .share ≡ setAt S j .share) × (setAt (stateAfter S (relist c)) j .limit ≡ setAt S j .limit)
+  unfolding stateAfter relistRules relistSet
+  stateAfter-plan = after-plan S (writes c) (argsOf c S) (resultOf c S)
+
+-- a replan leaves every list
+pub stateAfter-lists : (S : State) (k x y j : ℕ) → listAt (stateAfter S (replan k x y)) j ≡ listAt S j
+unfolding stateAfter
+stateAfter-lists = replan-lists
+
+-- The answer.
+pub outcome-answer : (S : State) (c : Call) {w v : List ℕ} {r : ℕ × ℕ} → decode w ≡ sound S → Outcome w c r v → r ≡ answerOf S c
+unfolding changeRule answerOn
+outcome-answer S c d o = rw d at (o .answer)
 
 -- where a call is granted, what becomes of the set may stand in its place
 call-keeps : (S : State) (c : Call) → isState S ≡ true → Keeps S (target c) (rulesOf c S) (nextOf c S)
 unfolding relistRules relistSet
-call-keeps S c e = relist-keeps S (target c) (argsOf c S) (resultOf c S) e (isList-resultOf c S e)
+call-keeps S (relist c) e = relist-keeps S (writes c) (argsOf c S) (resultOf c S) e (isList-resultOf c S e)
+call-keeps S (replan k x y) e = plan-keeps S k x y e
 
--- The state afterwards: only the list of the set that is written differs.
+-- The state afterwards: only the set that is written differs.
 module _ (S : State) (c : Call) where
   stateAfter-cases : (P : State → Type 0) → (callNo S c ≡ 0 → P (withSet S (target c) (nextOf c S))) → (eqb (callNo S c) 0 ≡ false → P S) → P (stateAfter S c)
   unfolding stateAfter
@@ -168,10 +182,6 @@ module _ (S : State) (c : Call) where
       stateAfter-cases (λ T. (T .family ≡ S .family) × (T .nodes ≡ S .nodes) × (length (T .sets) ≡ length (S .sets)))
       (λ q. (refl, refl, withSet-length S (target c) (nextOf c S)))
       (λ q. (refl, refl, refl))
-
-  pub stateAfter-plan : (j : ℕ) → (setAt (stateAfter S c) j .share ≡ setAt S j .share) × (setAt (stateAfter S c) j .limit ≡ setAt S j .limit)
-  unfolding stateAfter relistRules relistSet
-  stateAfter-plan = after-plan S (target c) (argsOf c S) (resultOf c S)
 
   pub stateAfter-other : (j : ℕ) → (j ≡ target c → ⊥) → setAt (stateAfter S c) j ≡ setAt S j
   unfolding stateAfter

@@ -1,4 +1,4 @@
--- Two histories from states that agree on a set, seen from that set, where its results fit its share and its calls name no other set. In each the set is as though its calls had
+-- Two histories from states that agree on a set, seen from that set, where its calls relist it, their results fit its share and they name no other set. In each the set is as though its calls had
 -- been the only ones: a result within the share is judged by the limit alone, and a call that names one set depends on that set alone. Assumes nothing.
 use mathlib.Core.Path.{_≡_, refl, sym, ap, _∙_}
 use mathlib.Core.Bool.{Bool, true, false, cond}
@@ -6,6 +6,7 @@ use mathlib.Core.List.{List, [], _∷_}
 use Prim.Native.Nat.{ℕ}
 use native.Mathlib.Omega.{arith}
 use lib.Dec.{eqb, leb}
+use lib.ListN.{length}
 use borrow.Author.Tests.{eqb-true, eqb-false}
 use Rattle.nets.specs.Lists.{nodesL}
 use Rattle.nets.specs.Refusals.{answered, firstNo}
@@ -14,10 +15,10 @@ use Rattle.pool_state.specs.Decode.{sound, decode}
 use Rattle.pool_state.specs.Rules.{answerOn, unknown, Setup, emptyState, Laid, onSet}
 use Rattle.pool_state.specs.Changes.{setAt, listAt, setWith}
 use Rattle.pool_state.proofs.Decoded.{decode-state}
-use Rattle.histories.specs.Calls.{Call, target, argsOf, resultOf, nextOf, callNo, answerOf, stateAfter}
-use Rattle.histories.specs.Histories.{stateFrom, answersFrom, History, begin, step, callsOn, answersOn, Alone, AllAlone, SameAt}
+use Rattle.histories.specs.Calls.{Relist, Call, relist, replan, writes, target, argsOf, resultOf, nextOf, callNo, answerOf, stateAfter}
+use Rattle.histories.specs.Histories.{stateFrom, answersFrom, History, begin, step, callsOn, answersOn, Alone, CallAlone, AllAlone, SameAt}
 use Rattle.histories.proofs.Step.{call-same, relistNo-share, callNo-is, nextOf-is, stateAfter-numbers, stateAfter-other, stateAfter-own, isState-after}
-use Rattle.histories.proofs.Histories.{layout-begins, history-sound, history-answer}
+use Rattle.histories.proofs.Histories.{stateFrom-numbers, layout-begins, history-sound, history-answer}
 
 -- Agreeing.
 sameAt-refl : (k : ℕ) (S : State) → SameAt k S S
@@ -35,44 +36,54 @@ sameAt-other c {k} {S} ne h =
     let n = stateAfter-numbers S c in
     record { family = n .0 ∙ h .family; known = ap (λ m. leb m k) (n .2) ∙ h .known; set = stateAfter-other S c k (λ e. ne (sym e)) ∙ h .set }
 
-alone-same : (c : Call) {S T : State} → SameAt (target c) S T → Alone S c → Alone T c
+alone-same : (c : Relist) {S T : State} → SameAt (writes c) S T → Alone S c → Alone T c
 alone-same c {S} {T} h a =
     let (x, y) = call-same c S T (a .names) h in
     record { names = a .names; fits = λ q. omega (arith, a .fits (ap firstNo x ∙ q), ap nodesL y, ap (λ (s : SetState). s .share) (h .set)) }
 
-module _ (c : Call) {S T : State} (i : isState S ≡ true) (j : isState T ≡ true) (h : SameAt (target c) S T) (a : Alone T c) where
+module _ (c : Relist) {S T : State} (i : isState S ≡ true) (j : isState T ≡ true) (h : SameAt (writes c) S T) (a : Alone T c) where
   same : (argsOf c S ≡ argsOf c T) × (resultOf c S ≡ resultOf c T)
   same = call-same c S T (a .names) h
 
-  next-same : nextOf c S ≡ nextOf c T
+  next-same : nextOf (relist c) S ≡ nextOf (relist c) T
   next-same = nextOf-is S c ∙ rw (same .1) (ap (λ s. setWith s (resultOf c T)) (h .set)) ∙ sym (nextOf-is T c)
 
-  callNo-alone : callNo S c ≡ callNo T c
+  callNo-alone : callNo S (relist c) ≡ callNo T (relist c)
   callNo-alone =
       rw (
         callNo-is S c,
         callNo-is T c,
-        relistNo-share S (target c) (argsOf c S) (resultOf c S) i (alone-same c (sameAt-sym h) a .fits),
-        relistNo-share T (target c) (argsOf c T) (resultOf c T) j (a .fits),
+        relistNo-share S (writes c) (argsOf c S) (resultOf c S) i (alone-same c (sameAt-sym h) a .fits),
+        relistNo-share T (writes c) (argsOf c T) (resultOf c T) j (a .fits),
         same .0,
         same .1,
         h .known,
         ap (λ (s : SetState). s .limit) (h .set),
       )
 
-  answerOf-alone : answerOf S c ≡ answerOf T c
+  answerOf-alone : answerOf S (relist c) ≡ answerOf T (relist c)
   answerOf-alone = rw (callNo-alone, next-same)
 
-  sameAt-own : SameAt (target c) (stateAfter S c) (stateAfter T c)
+  sameAt-own : SameAt (writes c) (stateAfter S (relist c)) (stateAfter T (relist c))
   sameAt-own =
-      let m = stateAfter-numbers S c in
-      let n = stateAfter-numbers T c in
-      let k = target c in
+      let m = stateAfter-numbers S (relist c) in
+      let n = stateAfter-numbers T (relist c) in
+      let k = writes c in
       record {
         family = m .0 ∙ h .family ∙ sym (n .0);
         known = ap (λ x. leb x k) (m .2) ∙ h .known ∙ sym (ap (λ x. leb x k) (n .2));
-        set = rw (stateAfter-own S c, stateAfter-own T c, callNo-alone, next-same) (ap (λ s. cond (eqb (callNo T c) 0) (nextOf c T) s) (h .set));
+        set = rw (stateAfter-own S (relist c), stateAfter-own T (relist c), callNo-alone, next-same) (ap (λ s. cond (eqb (callNo T (relist c)) 0) (nextOf (relist c) T) s) (h .set));
       }
+
+-- no replan is among them
+call-alone-same : (c : Call) {S T : State} → SameAt (target c) S T → CallAlone S c → CallAlone T c
+call-alone-same (relist c) h a = alone-same c h a
+call-alone-same (replan k x y) h a = a
+
+call-alone : (c : Call) {S T : State} → isState S ≡ true → isState T ≡ true → SameAt (target c) S T → CallAlone T c
+    → (answerOf S c ≡ answerOf T c) × SameAt (target c) (stateAfter S c) (stateAfter T c)
+call-alone (relist c) i j h a = (answerOf-alone c i j h a, sameAt-own c i j h a)
+call-alone (replan k x y) i j h a = absurd a
 
 isState-from : (S : State) → isState S ≡ true → (cs : List Call) → isState (stateFrom S cs) ≡ true
 unfolding stateFrom
@@ -91,7 +102,7 @@ module _ {S T : State} (i : isState S ≡ true) (j : isState T ≡ true) (k : �
       go true q f =
           let b = rw q at a in
           let e = eqb-true (target c) k q in
-          rw q (rw e at (sameAt-own c (isState-from S i cs) (isState-from T j (callsOn k cs)) (rw e (f (b .0))) (b .1 e)))
+          rw q (rw e at (call-alone c (isState-from S i cs) (isState-from T j (callsOn k cs)) (rw e (f (b .0))) (b .1 e) .1))
       go false q f = rw q (sameAt-other c (eqb-false (target c) k q) (f (rw q at a)))
 
   alone-calls : (cs : List Call) → AllAlone S k cs → AllAlone T k (callsOn k cs)
@@ -99,7 +110,7 @@ module _ {S T : State} (i : isState S ≡ true) (j : isState T ≡ true) (k : �
   alone-calls (c ∷ cs) a = go (eqb (target c) k) (alone-calls cs (a .0))
     where
       go : (x : Bool) → AllAlone T k (callsOn k cs) → AllAlone T k (cond x (c ∷ callsOn k cs) (callsOn k cs))
-      go true b = (b, λ e. alone-same c (rw e (alone-state cs b)) (a .1 e))
+      go true b = (b, λ e. call-alone-same c (rw e (alone-state cs b)) (a .1 e))
       go false b = b
 
   alone-answers : {w : List ℕ} {cs : List Call} {rs : List (ℕ × ℕ)} {v : List ℕ} → decode w ≡ sound S → History w cs rs v → AllAlone T k (callsOn k cs)
@@ -113,12 +124,13 @@ module _ {S T : State} (i : isState S ≡ true) (j : isState T ≡ true) (k : �
       go true q f =
           let b = rw q at a in
           let e = eqb-true (target c) k q in
-          let s = answerOf-alone c (isState-from S i cs) (isState-from T j (callsOn k cs)) (rw e (alone-state cs (b .0))) (b .1 e) in
+          let s = call-alone c (isState-from S i cs) (isState-from T j (callsOn k cs)) (rw e (alone-state cs (b .0))) (b .1 e) .0 in
           rw (q, history-answer d h c o ∙ s, f (b .0))
       go false q f = rw q (f (rw q at a))
 
--- Take two states that agree on a set, and from each a history with the same calls on it, whose results all fit its share and which name no other set. Its answers and all that is
--- of it are then the same. That its results fit is asked of one of the two histories. Between its calls any others may be made, those that read it too.
+-- Take two states that agree on a set, and from each a history with the same calls on it, whose results all fit its share and which name no other set; no replan of it is among
+-- them. Its answers and all that is of it are then the same. That its results fit is asked of one of the two histories. Between its calls any others may be made, those that read
+-- it and replans of other sets too.
 module _ {w z : List ℕ} {S T : State} {cs ds : List Call} {rs ss : List (ℕ × ℕ)} {u v : List ℕ} (d : decode w ≡ sound S) (q : decode z ≡ sound T) (k : ℕ) (same-at : SameAt k S T)
     (h : History w cs rs u) (g : History z ds ss v) (a : AllAlone S k cs) (e : callsOn k cs ≡ callsOn k ds) where
   abbrev here : isState S ≡ true
@@ -158,3 +170,25 @@ pub layout-histories : {o w z : List ℕ} {p : Setup} {cs ds : List Call} {rs ss
 layout-histories {p = p} k l t h g a e =
     let x = two-histories (layout-begins l) (layout-begins t) k (sameAt-refl k (emptyState p)) h g a e in
     (x .0, ap (λ (s : SetState). s .list) (x .1))
+
+-- "document 01's two-histories fact holds between two such calls on that set, granted or refused, for two histories that agree on its list, share, limit ... right after the first":
+-- two histories in pools of one family and as many sets, as from one layout, that have just replanned set k, each in its own way. Until it is replanned again, the same calls on
+-- it, with results that fit its share, get the same answers and leave the same list.
+module _ {w z : List ℕ} {S T : State} (d : decode w ≡ sound S) (q : decode z ≡ sound T) (family : S .family ≡ T .family) (sets : length (S .sets) ≡ length (T .sets))
+    {k x y a b : ℕ} {cs ds : List Call} {rs ss : List (ℕ × ℕ)} {u v : List ℕ} (h : History w (replan k x y ∷ cs) rs u) (g : History z (replan k a b ∷ ds) ss v) where
+  abbrev one : State
+  one = stateFrom S (replan k x y ∷ cs)
+
+  abbrev two : State
+  two = stateFrom T (replan k a b ∷ ds)
+
+  replan-same : setAt one k ≡ setAt two k → SameAt k one two
+  replan-same e =
+      let m = stateFrom-numbers S (replan k x y ∷ cs) in
+      let n = stateFrom-numbers T (replan k a b ∷ ds) in
+      record { family = m .0 ∙ family ∙ sym (n .0); known = ap (λ i. leb i k) (m .2 ∙ sets ∙ sym (n .2)); set = e }
+
+  pub replan-histories : {es fs : List Call} {ps qs : List (ℕ × ℕ)} {m n : List ℕ} → setAt one k ≡ setAt two k
+      → History u es ps m → History v fs qs n → AllAlone one k es → callsOn k es ≡ callsOn k fs
+      → (answersOn k es ps ≡ answersOn k fs qs) × (setAt (stateFrom one es) k ≡ setAt (stateFrom two fs) k)
+  replan-histories s i j f e = two-histories (history-sound d h) (history-sound q g) k (replan-same s) i j f e

@@ -1,9 +1,11 @@
--- The calls that change a set. Four things say what a call is: the set that it writes, whether it names another, the rules of its arguments, and the list that is its
--- result. All else is said once for every call, so a further call is one more case of each. An answer is a number of the table and a value, whatever type a call answers by.
+-- The calls that change a set. Most relist it: four things say what such a call is, the set that it writes, whether it names another, the rules of its arguments, and the list that
+-- is its result. A replan gives the set another share and limit, and its list stays. All else is said once for every call, so a further call that relists is one more case of each
+-- of the four. An answer is a number of the table and a value, whatever type a call answers by.
 --
---   target c, namesOne c      the set that c writes;  c names no other set
+--   writes c, namesOne c      the set that c writes, where it relists;  c names no other set
 --   argsOf c S, resultOf c S  the rules of the arguments of c in the state S;  the list that c makes of the lists of S
 --   argsNo c S                the number that the arguments get, 0 where they are right
+--   target c                  the set that c writes, whatever it gives to it
 --   rulesOf c S, nextOf c S   all rules of c behind the one that there is the set;  what becomes of the set
 --   callNo S c, answerOf S c  the number of the answer, and the answer whole
 --   stateAfter S c            the state that c leaves
@@ -18,29 +20,34 @@ use Rattle.nets.specs.Networks.{netBits}
 use Rattle.nets.specs.Refusals.{answered, Rule, firstNo}
 use Rattle.nets.specs.declared.Net.{Net}
 use Rattle.pool_state.specs.States.{SetState, State, held}
-use Rattle.pool_state.specs.Changes.{listAt, withSet, changeNo, Changed, relistRules, relistSet, netRules}
+use Rattle.pool_state.specs.Changes.{setAt, listAt, withSet, changeNo, Changed, planned, planRules, relistRules, relistSet, netRules}
 use Rattle.combine.specs.Rules.{combineRules}
 use Rattle.setfile_format.specs.Files.{readFile}
 use Rattle.setfile.specs.Loading.{loadRules, fileList}
 
 -- a set and a network; a set; the set to write and the two to read; a set and the bytes of a file
+pub data Relist : Type 0 where
+  add remove : ℕ → Net → Relist
+  simplify : ℕ → Relist
+  merge intersect exclude excludeApart : ℕ → ℕ → ℕ → Relist
+  load : ℕ → List ℕ → Relist
+
+-- such a call; or a set, and the share and the limit that it is given
 pub data Call : Type 0 where
-  add remove : ℕ → Net → Call
-  simplify : ℕ → Call
-  merge intersect exclude excludeApart : ℕ → ℕ → ℕ → Call
-  load : ℕ → List ℕ → Call
+  relist : Relist → Call
+  replan : ℕ → ℕ → ℕ → Call
 
-abbrev pub target : Call → ℕ
-target (add k n) = k
-target (remove k n) = k
-target (simplify k) = k
-target (merge to a b) = to
-target (intersect to a b) = to
-target (exclude to a b) = to
-target (excludeApart to a b) = to
-target (load k d) = k
+abbrev pub writes : Relist → ℕ
+writes (add k n) = k
+writes (remove k n) = k
+writes (simplify k) = k
+writes (merge to a b) = to
+writes (intersect to a b) = to
+writes (exclude to a b) = to
+writes (excludeApart to a b) = to
+writes (load k d) = k
 
-abbrev pub namesOne : Call → Bool
+abbrev pub namesOne : Relist → Bool
 namesOne (add k n) = true
 namesOne (remove k n) = true
 namesOne (simplify k) = true
@@ -50,7 +57,7 @@ namesOne (exclude to a b) = eqb a to && eqb b to
 namesOne (excludeApart to a b) = eqb a to && eqb b to
 namesOne (load k d) = true
 
-abbrev pub argsOf : Call → State → List Rule
+abbrev pub argsOf : Relist → State → List Rule
 argsOf (add k n) = netRules n
 argsOf (remove k n) = netRules n
 argsOf (simplify k) = λ S. []
@@ -60,10 +67,10 @@ argsOf (exclude to a b) = combineRules to a b
 argsOf (excludeApart to a b) = combineRules to a b
 argsOf (load k d) = loadRules (readFile d) k
 
-abbrev pub argsNo : Call → State → ℕ
+abbrev pub argsNo : Relist → State → ℕ
 argsNo c S = firstNo (argsOf c S)
 
-abbrev pub resultOf : Call → State → List Bits
+abbrev pub resultOf : Relist → State → List Bits
 resultOf (add k n) = λ S. addL (listAt S k) (netBits n)
 resultOf (remove k n) = λ S. removeL (listAt S k) (netBits n)
 resultOf (simplify k) = λ S. simplifyL (listAt S k)
@@ -73,11 +80,17 @@ resultOf (exclude to a b) = λ S. differenceL (listAt S a) (listAt S b)
 resultOf (excludeApart to a b) = λ S. excludeL (listAt S a) (listAt S b)
 resultOf (load k d) = λ S. fileList (readFile d)
 
+abbrev pub target : Call → ℕ
+target (relist c) = writes c
+target (replan k x y) = k
+
 abbrev pub rulesOf : Call → State → List Rule
-rulesOf c = relistRules (target c) (argsOf c) (resultOf c)
+rulesOf (relist c) = relistRules (writes c) (argsOf c) (resultOf c)
+rulesOf (replan k x y) = planRules k x y
 
 abbrev pub nextOf : Call → State → SetState
-nextOf c = relistSet (target c) (resultOf c)
+nextOf (relist c) = relistSet (writes c) (resultOf c)
+nextOf (replan k x y) = λ S. planned (setAt S k) x y
 
 abbrev pub callNo : State → Call → ℕ
 callNo S c = changeNo S (target c) (rulesOf c S)

@@ -4,7 +4,8 @@
 --   stateFrom S cs, answersFrom   the state that the calls cs make of the state S, and what they answer by the rules. In every list the last call stands first
 --   History w cs rs v         from the words w on, the calls cs answered rs and left the words v
 --   callsOn k cs, answersOn   the calls on set k, those that write it, and the answers to them
---   Alone S c                 in the state S the call c names no other set than the one that it writes, and its result fits that set's share;  AllAlone: each call on set k
+--   Alone S c                 in the state S the call c, which relists, names no other set than the one that it writes, and its result fits that set's share
+--   AllAlone S k cs           each call on set k relists it so: from the state S on none of the calls cs replans it
 --   SameAt k S T              the states S and T agree on set k: the family, whether there is such a set, and all that is of it
 use mathlib.Core.Bool.{true, cond}
 use mathlib.Core.List.{List, [], _∷_}
@@ -15,7 +16,7 @@ use lib.ListN.{length}
 use Rattle.nets.specs.Lists.{nodesL}
 use Rattle.pool_state.specs.States.{State}
 use Rattle.pool_state.specs.Changes.{setAt}
-use Rattle.histories.specs.Calls.{Call, target, namesOne, argsNo, resultOf, answerOf, stateAfter, Outcome}
+use Rattle.histories.specs.Calls.{Relist, Call, relist, replan, writes, target, namesOne, argsNo, resultOf, answerOf, stateAfter, Outcome}
 
 unfoldable pub stateFrom : State → List Call → State
 stateFrom S [] = S
@@ -38,13 +39,17 @@ answersOn k [] rs = []
 answersOn k (c ∷ cs) [] = []
 answersOn k (c ∷ cs) (r ∷ rs) = cond (eqb (target c) k) (r ∷ answersOn k cs rs) (answersOn k cs rs)
 
-pub record Alone (S : State) (c : Call) : Type 0 where
+pub record Alone (S : State) (c : Relist) : Type 0 where
   pub names : namesOne c ≡ true
-  pub fits : argsNo c S ≡ 0 → nodesL (resultOf c S) ≤ setAt S (target c) .share
+  pub fits : argsNo c S ≡ 0 → nodesL (resultOf c S) ≤ setAt S (writes c) .share
+
+abbrev pub CallAlone : State → Call → Type 0
+CallAlone S (relist c) = Alone S c
+CallAlone S (replan k x y) = ⊥
 
 abbrev pub AllAlone : State → ℕ → List Call → Type 0
 AllAlone S k [] = Unit
-AllAlone S k (c ∷ cs) = AllAlone S k cs × (target c ≡ k → Alone (stateFrom S cs) c)
+AllAlone S k (c ∷ cs) = AllAlone S k cs × (target c ≡ k → CallAlone (stateFrom S cs) c)
 
 pub record SameAt (k : ℕ) (S T : State) : Type 0 where
   pub family : S .family ≡ T .family

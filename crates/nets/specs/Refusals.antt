@@ -1,10 +1,10 @@
--- The scope document's table of refusals: the number of each, what an answer says by it, and the rules of a call in the order in which they are asked.
+-- The table of refusals, of the scope document and of the requests: the number of each, what an answer says by it, and the rules of a call in the order in which they are asked.
 use mathlib.Core.Bool.{Bool, cond}
 use mathlib.Core.List.{List, [], _∷_}
 use Prim.Native.Nat.{ℕ}
 use lib.Dec.{eqb}
 use Rattle.nets.specs.declared.Refusal.{Refusal}
-use Rattle.nets.specs.declared.Refusal.the-variants.{BadSetup, Damaged, NoSet, BadText, BadFile, WrongFamily, BadNetwork, Occupied, OverLimit, NoRoom, ShortBuffer}
+use Rattle.nets.specs.declared.Refusal.the-variants.{BadSetup, Damaged, NoSet, BadText, BadFile, WrongFamily, BadNetwork, Occupied, OverLimit, NoRoom, ShortBuffer, BadShare}
 
 abbrev pub number : Refusal → ℕ
 number BadSetup = 1
@@ -18,6 +18,7 @@ number Occupied = 8
 number OverLimit = 9
 number NoRoom = 10
 number ShortBuffer = 11
+number BadShare = 13
 
 -- an answer by the table: its number, 0 where it is granted, and its value v, which is z where it is refused
 abbrev pub answered : {A : Type 0} → ℕ → A → A → ℕ × A

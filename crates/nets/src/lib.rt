@@ -23,6 +23,7 @@ pub enum Refusal {
     OverLimit,
     NoRoom,
     ShortBuffer,
+    BadShare,
 }
 
 impl Refusal {
@@ -42,6 +43,7 @@ impl Refusal {
             Refusal::OverLimit => 9,
             Refusal::NoRoom => 10,
             Refusal::ShortBuffer => 11,
+            Refusal::BadShare => 13,
         }
     }
 }

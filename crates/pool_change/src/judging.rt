@@ -8,7 +8,7 @@ ghost use Rattle.pool_state.specs.Decode.{decode, sound};
 ghost use Rattle.pool_state.specs.Steps.{Surveyed, Judges};
 
 // The nodes that the list of a set may have: the pool's less the claims of the other sets.
-fn room(w: &[u32], set: u32, v: Survey) -> u32
+pub fn room(w: &[u32], set: u32, v: Survey) -> u32
     requires { ⌜ Surveyed (now w) set v ⌝ }
     ensures { λ r. ⌜ ((S : State) → decode (now (w .entry)) ≡ sound S → r ≡ roomOf S set) ⌝ }
 {

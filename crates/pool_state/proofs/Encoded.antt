@@ -105,7 +105,7 @@ overRecords-has w s i (x ∷ xs) le =
     let here : Has u (recordAt s) (recordOf i x) = put-has w (recordAt s) (recordOf i x) (omega arith) in
     (has-overRecords (s + 1) (i + held x) xs here (omega arith), overRecords-has u (s + 1) (i + held x) xs (rw (length-put w (recordAt s) (recordOf i x)) (omega arith)))
 
-records-same : (w : List ℕ) (s i : ℕ) (xs : List SetState) → Records w s i xs → overRecords w s i xs ≡ w
+pub records-same : (w : List ℕ) (s i : ℕ) (xs : List SetState) → Records w s i xs → overRecords w s i xs ≡ w
 unfolding overRecords
 records-same w s i [] h = refl
 records-same w s i (x ∷ xs) h = rw (has-same (h .0)) (records-same w (s + 1) (i + held x) xs (h .1))

@@ -65,11 +65,11 @@ pub changed : {w v : List ℕ} {k : ℕ} {rs : State → List Rule} {f : State �
 changed h = record { answer = h .0; words = h .1 }
 
 module _ (rs : State → List Rule) (f : State → SetState) where
-  refused : (w : List ℕ) (S : State) (k : ℕ) {x : ℕ} → decode w ≡ sound S → changeNo S k (rs S) ≡ x → (x ≡ 0 → ⊥) → Owes w k rs f (x, 0) w
+  pub refused : (w : List ℕ) (S : State) (k : ℕ) {x : ℕ} → decode w ≡ sound S → changeNo S k (rs S) ≡ x → (x ≡ 0 → ⊥) → Owes w k rs f (x, 0) w
   unfolding changeRule wordsAfter
   refused w S k d e ne = owes-refused _ 0 _ w _ d e ne
 
-  seat : (w : List ℕ) (k : ℕ) {x : ℕ} → Refuses (decode w) k x → Owes w k rs f (x, 0) w
+  pub seat : (w : List ℕ) (k : ℕ) {x : ℕ} → Refuses (decode w) k x → Owes w k rs f (x, 0) w
   unfolding changeRule wordsAfter changeRules
   seat w k h = owes-seat _ 0 _ w _ (decode w) k h
 

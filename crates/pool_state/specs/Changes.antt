@@ -5,6 +5,11 @@
 --   changeRules S k rs         3 no such set, then rs;  changeNo: the number, 0 where it is granted
 --   changeRule, wordsAfter     the answer, which has the nodes of x, and the words afterwards: those of the state with x, or no word changed; Changed: both, as a contract
 --
+-- A call that replans the set, which gives it another share x and limit y:
+--
+--   planned s x y      the set s with them
+--   planRules k x y S  13 they do not fit;  Replanned: as a contract
+--
 -- A call that relists the set, which gives it another list l, with the rules a of its arguments:
 --
 --   setWith s l        the set s with the list l
@@ -24,7 +29,7 @@ use Rattle.nets.specs.Lists.{nodesL}
 use Rattle.nets.specs.Refusals.{Rule, firstNo}
 use Rattle.nets.specs.Networks.{refusalOf}
 use Rattle.nets.specs.declared.Net.{Net}
-use Rattle.nets.specs.declared.Refusal.the-variants.{WrongFamily, BadNetwork, Occupied, OverLimit, NoRoom}
+use Rattle.nets.specs.declared.Refusal.the-variants.{WrongFamily, BadNetwork, Occupied, OverLimit, NoRoom, BadShare}
 use Rattle.pool_state.specs.States.{SetState, State, held, claim, roomOf}
 use Rattle.pool_state.specs.Decode.{Decoded, over, decode}
 use Rattle.pool_state.specs.Rules.{answerOn, leftOn, unknown, noSet}
@@ -62,6 +67,16 @@ wordsAfter w d k rs f = leftOn d (λ S. changeRules S k (rs S)) w (λ S. over w 
 pub record Changed (w : List ℕ) (k : ℕ) (rs : State → List Rule) (f : State → SetState) (r : ℕ × ℕ) (v : List ℕ) : Type 0 where
   pub answer : r ≡ changeRule (decode w) k rs f
   pub words : v ≡ wordsAfter w (decode w) k rs f
+
+-- another share and limit
+abbrev pub planned : SetState → ℕ → ℕ → SetState
+planned s x y = record { share = x; limit = y; list = s .list }
+
+unfoldable pub planRules : ℕ → ℕ → ℕ → State → List Rule
+planRules k x y S = (not (fits S k (planned (setAt S k) x y)), BadShare) ∷ []
+
+abbrev pub Replanned : List ℕ → ℕ → ℕ → ℕ → ℕ × ℕ → List ℕ → Type 0
+Replanned w k x y r v = Changed w k (planRules k x y) (λ S. planned (setAt S k) x y) r v
 
 -- another list
 abbrev pub setWith : SetState → List Bits → SetState

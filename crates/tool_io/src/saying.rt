@@ -14,7 +14,8 @@ fn name(no: u8) -> bool {
         8 => io::write_all(STDERR_FILENO, b"Occupied"),
         9 => io::write_all(STDERR_FILENO, b"OverLimit"),
         10 => io::write_all(STDERR_FILENO, b"NoRoom"),
-        _ => io::write_all(STDERR_FILENO, b"ShortBuffer"),
+        11 => io::write_all(STDERR_FILENO, b"ShortBuffer"),
+        _ => io::write_all(STDERR_FILENO, b"BadShare"),
     }
 }
 

@@ -18,17 +18,26 @@ fn told(a: Told) -> Got {
     }
 }
 
-// The call that the row begins with, by its first letter.
-fn call(pool: &mut [u32], row: &[u8]) -> Got {
+// The call with three numbers that the row begins with; compare takes two.
+fn on_sets(pool: &mut [u32], row: &[u8], letter: u8) -> Got {
     let a = taken(row, 1);
     let b = taken(row, 2);
     let c = taken(row, 3);
-    match calls::letter(row) {
+    match letter {
         b'm' => calls::answer(combine::merge(pool, a, b, c)),
         b'i' => calls::answer(combine::intersect(pool, a, b, c)),
         b'e' => calls::answer(combine::exclude(pool, a, b, c)),
         b'k' => calls::answer(combine::exclude_apart(pool, a, b, c)),
-        b'c' => told(compare::equal(pool, a, b)),
+        b'g' => calls::answer(replan::replan(pool, a, b, c)),
+        _ => told(compare::equal(pool, a, b)),
+    }
+}
+
+// The call that the row begins with, by its first letter.
+fn call(pool: &mut [u32], row: &[u8]) -> Got {
+    let letter = calls::letter(row);
+    match letter {
+        b'm' | b'i' | b'e' | b'k' | b'g' | b'c' => on_sets(pool, row, letter),
         _ => calls::call(pool, row),
     }
 }

@@ -1,0 +1,3 @@
+-- The returns of `replan`, and what it comes to.
+pub mod Plans
+pub mod Outcomes
