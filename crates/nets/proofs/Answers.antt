@@ -10,7 +10,7 @@ use borrow.Author.Tests.{ne-eqb}
 use Rattle.nets.specs.Refusals.{number, answered}
 use Rattle.nets.specs.Networks.{isFamily, inRange, refusalOf, noNet, takenAs, judged, withLen, withLenNo, enteredAs, noBits, startOf, prefixAs, nextAs, nextOf}
 use Rattle.nets.specs.declared.Refusal.{Refusal}
-use Rattle.nets.specs.declared.Refusal.the-variants.{BadSetup, Damaged, NoSet, BadText, BadFile, WrongFamily, BadNetwork, Occupied, OverLimit, NoRoom, ShortBuffer, BadShare}
+use Rattle.nets.specs.declared.Refusal.the-variants.{BadSetup, Damaged, NoSet, BadText, BadFile, WrongFamily, BadNetwork, Occupied, OverLimit, NoRoom, ShortBuffer, BadRange, BadShare, NotPublic}
 use Rattle.nets.specs.declared.Net.{Net}
 use Rattle.nets.specs.declared.Taken.{Taken}
 use Rattle.nets.specs.declared.Taken.the-variants as taken
@@ -26,7 +26,7 @@ use Rattle.nets.specs.declared.Prefix.the-variants as prefix
 named : ℕ → Option Refusal
 named n =
     getD
-    (none ∷ some BadSetup ∷ some Damaged ∷ some NoSet ∷ some BadText ∷ some BadFile ∷ some WrongFamily ∷ some BadNetwork ∷ some Occupied ∷ some OverLimit ∷ some NoRoom ∷ some ShortBuffer ∷ none ∷ some BadShare ∷ [])
+    (none ∷ some BadSetup ∷ some Damaged ∷ some NoSet ∷ some BadText ∷ some BadFile ∷ some WrongFamily ∷ some BadNetwork ∷ some Occupied ∷ some OverLimit ∷ some NoRoom ∷ some ShortBuffer ∷ some BadRange ∷ some BadShare ∷ some NotPublic ∷ [])
     n
     none
 
@@ -43,7 +43,9 @@ named-number Occupied = refl
 named-number OverLimit = refl
 named-number NoRoom = refl
 named-number ShortBuffer = refl
+named-number BadRange = refl
 named-number BadShare = refl
+named-number NotPublic = refl
 
 pub number-one : (r s : Refusal) → number r ≡ number s → r ≡ s
 number-one r s e = let h = named-number r in let k = named-number s in cc

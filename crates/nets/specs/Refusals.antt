@@ -4,7 +4,7 @@ use mathlib.Core.List.{List, [], _∷_}
 use Prim.Native.Nat.{ℕ}
 use lib.Dec.{eqb}
 use Rattle.nets.specs.declared.Refusal.{Refusal}
-use Rattle.nets.specs.declared.Refusal.the-variants.{BadSetup, Damaged, NoSet, BadText, BadFile, WrongFamily, BadNetwork, Occupied, OverLimit, NoRoom, ShortBuffer, BadShare}
+use Rattle.nets.specs.declared.Refusal.the-variants.{BadSetup, Damaged, NoSet, BadText, BadFile, WrongFamily, BadNetwork, Occupied, OverLimit, NoRoom, ShortBuffer, BadRange, BadShare, NotPublic}
 
 abbrev pub number : Refusal → ℕ
 number BadSetup = 1
@@ -18,7 +18,9 @@ number Occupied = 8
 number OverLimit = 9
 number NoRoom = 10
 number ShortBuffer = 11
+number BadRange = 12
 number BadShare = 13
+number NotPublic = 14
 
 -- an answer by the table: its number, 0 where it is granted, and its value v, which is z where it is refused
 abbrev pub answered : {A : Type 0} → ℕ → A → A → ℕ × A

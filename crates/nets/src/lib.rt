@@ -23,7 +23,9 @@ pub enum Refusal {
     OverLimit,
     NoRoom,
     ShortBuffer,
+    BadRange,
     BadShare,
+    NotPublic,
 }
 
 impl Refusal {
@@ -43,7 +45,9 @@ impl Refusal {
             Refusal::OverLimit => 9,
             Refusal::NoRoom => 10,
             Refusal::ShortBuffer => 11,
+            Refusal::BadRange => 12,
             Refusal::BadShare => 13,
+            Refusal::NotPublic => 14,
         }
     }
 }

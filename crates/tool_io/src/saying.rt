@@ -15,7 +15,9 @@ fn name(no: u8) -> bool {
         9 => io::write_all(STDERR_FILENO, b"OverLimit"),
         10 => io::write_all(STDERR_FILENO, b"NoRoom"),
         11 => io::write_all(STDERR_FILENO, b"ShortBuffer"),
-        _ => io::write_all(STDERR_FILENO, b"BadShare"),
+        12 => io::write_all(STDERR_FILENO, b"BadRange"),
+        13 => io::write_all(STDERR_FILENO, b"BadShare"),
+        _ => io::write_all(STDERR_FILENO, b"NotPublic"),
     }
 }
 
