@@ -1,2 +1,2 @@
--- The laws of answers in one number.
-pub mod Outcomes
+-- An exported call tells what its call answers.
+pub mod Told

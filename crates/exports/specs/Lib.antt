@@ -1,2 +1,2 @@
--- What a reader must believe of the calls that are exported each for itself.
-pub mod Packed
+-- What the exported calls answer and leave.
+pub mod Exported

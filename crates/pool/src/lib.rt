@@ -3,6 +3,7 @@ use nets::Refusal;
 use nodes::reading::zeros_at;
 use pool_check::HEAD;
 use pool_check::RECORD;
+use pool_check::is_size;
 use pool_check::seats::seat_of;
 use pool_check::survey;
 pub use pool_state::Answer;
@@ -12,8 +13,19 @@ pub use pool_state::Told;
 ghost use mathlib.Core.Path.{_≡_};
 ghost use Rattle.pool_state.specs.Decode.{decode};
 ghost use Rattle.pool_state.specs.Rules.{answerAs, reportAs, setup, Laid, freeRule, heldRule, planRule};
+ghost use Rattle.pool.specs.Words.{wordsRule};
 
 mod laying;
+
+// How many words a pool of so many sets and nodes needs.
+pub fn words(sets: u32, nodes: u32) -> Answer
+    ensures { λ r. ⌜ answerAs r ≡ wordsRule sets nodes ⌝ }
+{
+    if is_size(sets, nodes) {
+        return Answer::Granted(laying::least_words(sets, nodes) as u32);
+    }
+    Answer::Refused(Refusal::BadSetup)
+}
 
 // Lays out a pool of empty sets in the lent words, a share and a limit for each set. A refusal changes no word, and no word past the smallest buffer is touched.
 pub fn layout(

@@ -1,0 +1,2 @@
+-- One number tells every part of an answer.
+pub mod Parts

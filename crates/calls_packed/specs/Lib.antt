@@ -1,0 +1,2 @@
+-- Answers in one number, and the row of a network.
+pub mod Packed

@@ -1,0 +1,2 @@
+-- What the contract of `words` cites.
+pub mod Words
