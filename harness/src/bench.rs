@@ -1,4 +1,5 @@
 //! The library and iprange on the same data in one process, in turns. Reports the least and the median of each, and how many times faster the library is by the least.
+use crate::exports::{contains, list, load, save};
 use crate::files::{file, file_of};
 use crate::layout::{encode, held, Set, State, MARK};
 use crate::lists::{cleared, holds, past, supernet, width, List, Member};
@@ -144,7 +145,7 @@ fn lookups<N: Numbers + Clone>(d: &mut Dice, family: u8, a: &List, p: &[u32], r:
         let q = queries(d, width(family), a, hit);
         let (ours, theirs): (Vec<Net>, Vec<N>) = q.iter().map(|&m| (net(family, m), N::of(m))).unzip();
         let right = |n: usize| assert_eq!(n, if hit { QUERIES } else { 0 });
-        let t = turns(|| seconds(|| right(ours.iter().filter(|n| contains(p, 0, n) % 2 == 1).count())), || seconds(|| right(theirs.iter().filter(|n| r.contains(*n)).count())));
+        let t = turns(|| seconds(|| right(ours.iter().filter(|n| contains(p, 0, n)).count())), || seconds(|| right(theirs.iter().filter(|n| r.contains(*n)).count())));
         row(if hit { "contains, hit" } else { "contains, miss" }, family, a.len(), QUERIES, t);
     }
 }

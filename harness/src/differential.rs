@@ -1,4 +1,5 @@
 //! Runs the same calls through the library, the model and iprange, and compares every answer, every list and every word after every step.
+use crate::exports::{exported, words};
 use crate::files::read_lines;
 use crate::layout::decode;
 use crate::model::{apply, read_line};
@@ -102,27 +103,6 @@ pub fn compare(case: &Case, tally: &mut Tally) -> Option<String> {
         at += 28 + c.answer_tail();
     }
     case.calls.iter().find_map(|c| exported(&pool, c))
-}
-
-/// The calls that are exported each for itself, on the words that a case leaves.
-fn exported(words: &[u32], c: &Call) -> Option<String> {
-    let (mut pool, mut model) = (words.to_vec(), words.to_vec());
-    let (mut rows, mut bytes) = (vec![c.c as u64; if c.code == LIST { c.b as usize } else { 0 }], vec![c.c as u8; if c.code == SAVE { c.b as usize } else { 0 }]);
-    let r = match c.code {
-        CONTAINS => contains(&pool, c.a, &c.net),
-        LIST => list(&pool, c.a, &mut rows),
-        SAVE => save(&pool, c.a, &mut bytes),
-        LOAD => load(&mut pool, c.a, &c.tail),
-        EXCLUDE => exclude(&mut pool, c.a, c.b, c.c),
-        EXCLUDE_APART => exclude_apart(&mut pool, c.a, c.b, c.c),
-        REPLAN => replan(&mut pool, c.a, c.b, c.c),
-        _ => return None,
-    };
-    bytes.extend(rows.iter().flat_map(|x| x.to_le_bytes()));
-    let a = apply(&mut model, c);
-    let value = if c.code == CONTAINS { 512 * a.y + 2 * a.x + a.flag as u32 } else { a.x };
-    let expected = (a.no as u64) << 32 | value as u64;
-    ((r, &bytes, &pool) != (expected, &a.tail, &model)).then(|| format!("exported {c:?}: answered {r:x} {bytes:?}, expected {a:?}"))
 }
 
 /// A shortest case that still differs, by leaving out one call after the other.
@@ -232,6 +212,10 @@ pub fn main(calls: u64, seed: u64) -> bool {
     let mut d = Dice(seed);
     let mut tally = Tally::new();
     let (mut done, mut wrong, mut round) = (0u64, 0u64, 0u64);
+    if let Some(what) = words() {
+        wrong += 1;
+        println!("{what}");
+    }
     while done < calls {
         round += 1;
         let case = match round {

@@ -1,6 +1,7 @@
 //! The library beside the Rust crate iprange and an independent model. See `run` in this folder.
 mod bench;
 mod differential;
+mod exports;
 mod files;
 mod layout;
 mod lists;

@@ -135,44 +135,9 @@ impl Answer {
 
 extern "C" {
     fn marlbrace_run(pool: *mut u32, pool_len: usize, rows: *mut u64, rows_len: usize, calls: *const u8, calls_len: usize, out: *mut u8, out_len: usize) -> u64;
-    fn marlbrace_contains(pool: *const u32, pool_len: usize, set: u32, family: u8, hi: u64, lo: u64, len: u8) -> u64;
-    fn marlbrace_list(pool: *const u32, pool_len: usize, set: u32, rows: *mut u64, rows_len: usize) -> u64;
-    fn marlbrace_save(pool: *const u32, pool_len: usize, set: u32, out: *mut u8, out_len: usize) -> u64;
-    fn marlbrace_load(pool: *mut u32, pool_len: usize, set: u32, file: *const u8, file_len: usize) -> u64;
-    fn marlbrace_exclude(pool: *mut u32, pool_len: usize, to: u32, first: u32, second: u32) -> u64;
-    fn marlbrace_exclude_apart(pool: *mut u32, pool_len: usize, to: u32, first: u32, second: u32) -> u64;
-    fn marlbrace_replan(pool: *mut u32, pool_len: usize, set: u32, share: u32, limit: u32) -> u64;
 }
 
 /// Runs a list of calls; gives what `marlbrace_run` answers, and the bytes of the answers.
 pub fn run(pool: &mut [u32], rows: &mut [u64], calls: &[u8], out: &mut [u8]) -> u64 {
     unsafe { marlbrace_run(pool.as_mut_ptr(), pool.len(), rows.as_mut_ptr(), rows.len(), calls.as_ptr(), calls.len(), out.as_mut_ptr(), out.len()) }
-}
-
-/// The calls that have an exported function of their own. Each gives 2^32 times the number of the refusal, plus its value.
-pub fn contains(pool: &[u32], set: u32, n: &Net) -> u64 {
-    unsafe { marlbrace_contains(pool.as_ptr(), pool.len(), set, n.family, n.hi, n.lo, n.len) }
-}
-
-pub fn list(pool: &[u32], set: u32, rows: &mut [u64]) -> u64 {
-    unsafe { marlbrace_list(pool.as_ptr(), pool.len(), set, rows.as_mut_ptr(), rows.len()) }
-}
-
-pub fn save(pool: &[u32], set: u32, out: &mut [u8]) -> u64 {
-    unsafe { marlbrace_save(pool.as_ptr(), pool.len(), set, out.as_mut_ptr(), out.len()) }
-}
-
-pub fn load(pool: &mut [u32], set: u32, file: &[u8]) -> u64 {
-    unsafe { marlbrace_load(pool.as_mut_ptr(), pool.len(), set, file.as_ptr(), file.len()) }
-}
-pub fn exclude(pool: &mut [u32], to: u32, first: u32, second: u32) -> u64 {
-    unsafe { marlbrace_exclude(pool.as_mut_ptr(), pool.len(), to, first, second) }
-}
-
-pub fn exclude_apart(pool: &mut [u32], to: u32, first: u32, second: u32) -> u64 {
-    unsafe { marlbrace_exclude_apart(pool.as_mut_ptr(), pool.len(), to, first, second) }
-}
-
-pub fn replan(pool: &mut [u32], set: u32, share: u32, limit: u32) -> u64 {
-    unsafe { marlbrace_replan(pool.as_mut_ptr(), pool.len(), set, share, limit) }
 }

@@ -1,0 +1,141 @@
+//! The calls that are exported each for itself, as include/marlbrace.h declares them, on the words that a case leaves, beside the model.
+use crate::model::apply;
+use crate::wire::*;
+
+extern "C" {
+    fn marlbrace_words(sets: u32, nodes: u32) -> u64;
+    fn marlbrace_layout(pool: *mut u32, pool_len: usize, family: u8, sets: u32, nodes: u32, shares: *const u32, shares_len: usize, limits: *const u32, limits_len: usize) -> u64;
+    fn marlbrace_free(pool: *const u32, pool_len: usize) -> u64;
+    fn marlbrace_held(pool: *const u32, pool_len: usize, set: u32) -> u64;
+    fn marlbrace_networks(pool: *const u32, pool_len: usize, set: u32) -> u64;
+    fn marlbrace_share(pool: *const u32, pool_len: usize, set: u32) -> u64;
+    fn marlbrace_limit(pool: *const u32, pool_len: usize, set: u32) -> u64;
+    fn marlbrace_add(pool: *mut u32, pool_len: usize, set: u32, family: u8, hi: u64, lo: u64, len: u8) -> u64;
+    fn marlbrace_remove(pool: *mut u32, pool_len: usize, set: u32, family: u8, hi: u64, lo: u64, len: u8) -> u64;
+    fn marlbrace_simplify(pool: *mut u32, pool_len: usize, set: u32) -> u64;
+    fn marlbrace_merge(pool: *mut u32, pool_len: usize, to: u32, first: u32, second: u32) -> u64;
+    fn marlbrace_intersect(pool: *mut u32, pool_len: usize, to: u32, first: u32, second: u32) -> u64;
+    fn marlbrace_exclude(pool: *mut u32, pool_len: usize, to: u32, first: u32, second: u32) -> u64;
+    fn marlbrace_exclude_apart(pool: *mut u32, pool_len: usize, to: u32, first: u32, second: u32) -> u64;
+    fn marlbrace_replan(pool: *mut u32, pool_len: usize, set: u32, share: u32, limit: u32) -> u64;
+    fn marlbrace_load(pool: *mut u32, pool_len: usize, set: u32, file: *const u8, file_len: usize) -> u64;
+    fn marlbrace_lines(pool: *mut u32, pool_len: usize, text: *const u8, text_len: usize, counts: *mut [u64; 2]) -> u64;
+    fn marlbrace_contains(pool: *const u32, pool_len: usize, set: u32, family: u8, hi: u64, lo: u64, len: u8) -> u64;
+    fn marlbrace_supernet(pool: *const u32, pool_len: usize, set: u32, family: u8, hi: u64, lo: u64, len: u8, row: *mut [u64; 3]) -> u64;
+    fn marlbrace_is_empty(pool: *const u32, pool_len: usize, set: u32) -> u64;
+    fn marlbrace_equal(pool: *const u32, pool_len: usize, first: u32, second: u32) -> u64;
+    fn marlbrace_first(pool: *const u32, pool_len: usize, set: u32, row: *mut [u64; 3]) -> u64;
+    fn marlbrace_next(pool: *const u32, pool_len: usize, set: u32, family: u8, hi: u64, lo: u64, len: u8, row: *mut [u64; 3]) -> u64;
+    fn marlbrace_nth(pool: *const u32, pool_len: usize, set: u32, place: u32, row: *mut [u64; 3]) -> u64;
+    fn marlbrace_last(pool: *const u32, pool_len: usize, set: u32, row: *mut [u64; 3]) -> u64;
+    fn marlbrace_list(pool: *const u32, pool_len: usize, set: u32, rows: *mut u64, rows_len: usize) -> u64;
+    fn marlbrace_save(pool: *const u32, pool_len: usize, set: u32, out: *mut u8, out_len: usize) -> u64;
+    fn marlbrace_read_line(line: *const u8, line_len: usize, row: *mut [u64; 3]) -> u64;
+    fn marlbrace_write_line(family: u8, hi: u64, lo: u64, len: u8, out: *mut u8, out_len: usize) -> u64;
+}
+
+/// Whether a member contains the network, where the call is granted.
+pub fn contains(pool: &[u32], set: u32, n: &Net) -> bool {
+    unsafe { marlbrace_contains(pool.as_ptr(), pool.len(), set, n.family, n.hi, n.lo, n.len) >> 48 & 1 == 1 }
+}
+
+pub fn list(pool: &[u32], set: u32, rows: &mut [u64]) -> u64 {
+    unsafe { marlbrace_list(pool.as_ptr(), pool.len(), set, rows.as_mut_ptr(), rows.len()) }
+}
+
+pub fn save(pool: &[u32], set: u32, out: &mut [u8]) -> u64 {
+    unsafe { marlbrace_save(pool.as_ptr(), pool.len(), set, out.as_mut_ptr(), out.len()) }
+}
+
+pub fn load(pool: &mut [u32], set: u32, file: &[u8]) -> u64 {
+    unsafe { marlbrace_load(pool.as_mut_ptr(), pool.len(), set, file.as_ptr(), file.len()) }
+}
+
+/// What the exported call answers: its number, and the row, the numbers or the bytes that were lent, as bytes.
+fn answered(pool: &mut [u32], c: &Call) -> Option<(u64, Vec<u8>)> {
+    let (w, m, n) = (pool.as_mut_ptr(), pool.len(), &c.net);
+    let (mut row, mut counts) = ([7u64; 3], [7u64; 2]);
+    let mut rows = vec![c.c as u64; if c.code == LIST { c.b as usize } else { 0 }];
+    let mut bytes = vec![c.c as u8; if c.code == SAVE || c.code == WRITE_LINE { c.b as usize } else { 0 }];
+    let number = unsafe {
+        match c.code {
+            LAYOUT => {
+                let (words, more) = (c.net.len as usize, (c.c % 256) as usize);
+                let at = |k: usize| (0..4).map(|j| (*c.tail.get(4 * k + j).unwrap_or(&0) as u32) << (8 * j)).sum::<u32>();
+                let (shares, limits): (Vec<u32>, Vec<u32>) = ((0..words).map(at).collect(), (words..words + more).map(at).collect());
+                marlbrace_layout(w, m, n.family, c.a, c.b, shares.as_ptr(), shares.len(), limits.as_ptr(), limits.len())
+            }
+            FREE => marlbrace_free(w, m),
+            HELD => marlbrace_held(w, m, c.a),
+            PLAN => marlbrace_share(w, m, c.a),
+            SUPERNET => marlbrace_supernet(w, m, c.a, n.family, n.hi, n.lo, n.len, &mut row),
+            CONTAINS => marlbrace_contains(w, m, c.a, n.family, n.hi, n.lo, n.len),
+            IS_EMPTY => marlbrace_is_empty(w, m, c.a),
+            ADD => marlbrace_add(w, m, c.a, n.family, n.hi, n.lo, n.len),
+            REMOVE => marlbrace_remove(w, m, c.a, n.family, n.hi, n.lo, n.len),
+            SIMPLIFY => marlbrace_simplify(w, m, c.a),
+            MERGE => marlbrace_merge(w, m, c.a, c.b, c.c),
+            INTERSECT => marlbrace_intersect(w, m, c.a, c.b, c.c),
+            EXCLUDE => marlbrace_exclude(w, m, c.a, c.b, c.c),
+            EXCLUDE_APART => marlbrace_exclude_apart(w, m, c.a, c.b, c.c),
+            REPLAN => marlbrace_replan(w, m, c.a, c.b, c.c),
+            EQUAL => marlbrace_equal(w, m, c.a, c.b),
+            LIST => marlbrace_list(w, m, c.a, rows.as_mut_ptr(), rows.len()),
+            NEXT if c.b == 0 => marlbrace_first(w, m, c.a, &mut row),
+            NEXT => marlbrace_next(w, m, c.a, n.family, n.hi, n.lo, n.len, &mut row),
+            NTH => marlbrace_nth(w, m, c.a, c.b, &mut row),
+            LAST => marlbrace_last(w, m, c.a, &mut row),
+            SAVE => marlbrace_save(w, m, c.a, bytes.as_mut_ptr(), bytes.len()),
+            LOAD => marlbrace_load(w, m, c.a, c.tail.as_ptr(), c.tail.len()),
+            LINES => marlbrace_lines(w, m, c.tail.as_ptr(), c.tail.len(), &mut counts),
+            READ_LINE => marlbrace_read_line(c.tail.as_ptr(), c.tail.len(), &mut row),
+            WRITE_LINE => marlbrace_write_line(n.family, n.hi, n.lo, n.len, bytes.as_mut_ptr(), bytes.len()),
+            _ => return None,
+        }
+    };
+    bytes.extend(rows.iter().chain(&row).chain(&counts).flat_map(|x| x.to_le_bytes()));
+    Some((number, bytes))
+}
+
+/// The second value of a report, by its own function.
+fn second(pool: &[u32], c: &Call) -> Option<u64> {
+    match c.code {
+        HELD => Some(unsafe { marlbrace_networks(pool.as_ptr(), pool.len(), c.a) }),
+        PLAN => Some(unsafe { marlbrace_limit(pool.as_ptr(), pool.len(), c.a) }),
+        _ => None,
+    }
+}
+
+/// The number of an answer: its value, its refusal, its flag and its report.
+fn packed(no: u8, x: u32, flag: bool, cut: bool) -> u64 {
+    x as u64 | (no as u64) << 32 | (flag as u64) << 48 | (cut as u64) << 49
+}
+
+/// What is wrong with the exported call, if anything is.
+pub fn exported(words: &[u32], c: &Call) -> Option<String> {
+    let (mut pool, mut model) = (words.to_vec(), words.to_vec());
+    let (number, bytes) = answered(&mut pool, c)?;
+    let a = apply(&mut model, c);
+    let reports = matches!(c.code, SUPERNET | CONTAINS | ADD | REMOVE | READ_LINE | WRITE_LINE);
+    let (flag, x) = match c.code {
+        READ_LINE => (a.no == 0, a.net.family as u32),
+        LINES => (false, 0),
+        _ => (a.flag == 1, a.x),
+    };
+    let row = if flag && matches!(c.code, SUPERNET | NEXT | NTH | LAST | READ_LINE) { [a.net.hi, a.net.lo, a.net.len as u64] } else { [7; 3] };
+    let counts = if c.code == LINES { [a.x as u64, a.net.lo] } else { [7; 2] };
+    let mut lent = a.tail.clone();
+    lent.extend(row.iter().chain(&counts).flat_map(|x| x.to_le_bytes()));
+    let right = number == packed(a.no, x, flag, reports && a.y == 1) && bytes == lent && pool == model && second(words, c).map_or(true, |n| n == packed(a.no, a.y, false, false));
+    (!right).then(|| format!("exported {c:?}: answered {number:x} {bytes:?}, expected {a:?}"))
+}
+
+/// The words that pools need, at the ends of what there may be.
+pub fn words() -> Option<String> {
+    let sizes = [0u32, 1, 2, 63, 64, 65, 4_194_303, 4_194_304, 4_194_305, u32::MAX];
+    sizes.iter().flat_map(|&m| sizes.iter().map(move |&n| (m, n))).find_map(|(m, n)| {
+        let expected = if (1..=64).contains(&m) && (1..=4_194_304).contains(&n) { packed(0, 64 + 8 * m + 8 * n, false, false) } else { packed(1, 0, false, false) };
+        let number = unsafe { marlbrace_words(m, n) };
+        (number != expected).then(|| format!("words of {m} sets and {n} nodes: {number:x}, expected {expected:x}"))
+    })
+}
