@@ -2,12 +2,14 @@
 use mathlib.Core.Bool.{Bool, true, false, cond, and-false}
 use mathlib.Core.List.{List, [], _∷_}
 use mathlib.Core.Path.{_≡_, refl, ap, sym, _∙_}
-use Prim.Native.Nat.{ℕ, _+_, _/_, _%_, _≤_, _<_}
+use Prim.Native.Nat.{ℕ, _+_, _-_, _/_, _%_, _≤_, _<_}
 use native.Mathlib.Decide.{ℕ-discrete}
 use native.Mathlib.Omega.{arith}
 use lib.Dec.{eqb, leb}
+use lib.ListN.{getD}
 use borrow.Author.Tests.{le-leb, lt-leb, eq-eqb, ne-eqb}
 use Rattle.nets.specs.Bits.{Bits}
+use Rattle.nets.specs.Tries.{side}
 use Rattle.nets.specs.Networks.{bitsLeft, nextAs, nextOf, handed}
 use Rattle.nets.specs.declared.PrefixBits.{PrefixBits}
 use Rattle.nets.specs.declared.NextBit.the-variants.{Bit, End}
@@ -15,6 +17,7 @@ use Rattle.nets.specs.declared.Refusal.the-variants.{Damaged}
 use Rattle.nets.proofs.Handing.{len-next}
 use Rattle.nets.proofs.Numbers.{bitsLeft-next}
 use Rattle.nodes.specs.Words.{wordAt}
+use Rattle.nodes.specs.Parse.{Room}
 use Rattle.lookup.specs.Walks.{childAt, areNodes, toward, shows, walk, walkFrom}
 use Rattle.lookup.specs.declared.walking.Shown.{Shown}
 use Rattle.lookup.specs.declared.walking.Shown.the-variants.{Member, Nothing, Refused}
@@ -57,58 +60,58 @@ unfolding walk
 walk-shows w b n d i [] = refl
 walk-shows w b n d i (c ∷ q) = refl
 
--- the loop stands at node i, d bits down, and the walk from here shows what the whole walk shows
-pub record Down (w : List ℕ) (b n root : ℕ) (bits : PrefixBits) (i d : ℕ) (left : PrefixBits) : Type 0 where
+-- the walk stands at node i, d bits down, and from here shows s
+pub record Down (w : List ℕ) (b n : ℕ) (s : Shown) (i d : ℕ) (left : PrefixBits) : Type 0 where
   pub one : 1 ≤ i
   pub within : i ≤ n
   pub few : left .len + d ≤ 128
-  pub rest : walk w b n d i (bitsLeft left) ≡ walkFrom w b n (bitsLeft bits) root
+  pub rest : walk w b n d i (bitsLeft left) ≡ s
 
-module _ {w : List ℕ} {b n root : ℕ} {bits : PrefixBits} {i d : ℕ} {left : PrefixBits} (g : Down w b n root bits i d left) {x : ℕ} (is : x ≡ wordAt w b i) where
-  here : shows n d i x (onward w b n d i (bitsLeft left)) ≡ walkFrom w b n (bitsLeft bits) root
+module _ {w : List ℕ} {b n : ℕ} {s : Shown} {i d : ℕ} {left : PrefixBits} (g : Down w b n s i d left) {x : ℕ} (is : x ≡ wordAt w b i) where
+  here : shows n d i x (onward w b n d i (bitsLeft left)) ≡ s
   here = rw is (sym (walk-shows w b n d i (bitsLeft left)) ∙ g .rest)
 
-  pub down-leaf : x ≡ 0 → Member d ≡ walkFrom w b n (bitsLeft bits) root
+  pub down-leaf : x ≡ 0 → Member d ≡ s
   down-leaf z = rw (eq-eqb x 0 z) at here
 
-  pub down-first : (x ≡ 0 → ⊥) → n < i + x % 2 → Refused Damaged ≡ walkFrom w b n (bitsLeft bits) root
+  pub down-first : (x ≡ 0 → ⊥) → n < i + x % 2 → Refused Damaged ≡ s
   down-first nz lt = rw (ne-eqb x 0 nz, childAt-out n i (x % 2) (g .within) lt) at here
 
-  pub down-second : (x ≡ 0 → ⊥) → n < i + x / 2 → Refused Damaged ≡ walkFrom w b n (bitsLeft bits) root
+  pub down-second : (x ≡ 0 → ⊥) → n < i + x / 2 → Refused Damaged ≡ s
   down-second nz lt = rw (ne-eqb x 0 nz, childAt-out n i (x / 2) (g .within) lt, and-false) at here
 
 -- the node is no leaf, and its children's numbers are 0 or nodes'; and the next bit leads c nodes on
-pub record Inner (w : List ℕ) (b n root : ℕ) (bits : PrefixBits) (i d : ℕ) (left : PrefixBits) (x : ℕ) : Type 0 where
-  pub down : Down w b n root bits i d left
+pub record Inner (w : List ℕ) (b n : ℕ) (s : Shown) (i d : ℕ) (left : PrefixBits) (x : ℕ) : Type 0 where
+  pub down : Down w b n s i d left
   pub is : x ≡ wordAt w b i
   pub no-leaf : x ≡ 0 → ⊥
   pub first : i + x % 2 ≤ n
   pub second : i + x / 2 ≤ n
 
-pub record Turned (w : List ℕ) (b n root : ℕ) (bits : PrefixBits) (i d : ℕ) (left : PrefixBits) (x c : ℕ) (bit : Bool) (later : PrefixBits) : Type 0 where
-  pub inner : Inner w b n root bits i d left x
+pub record Turned (w : List ℕ) (b n : ℕ) (s : Shown) (i d : ℕ) (left : PrefixBits) (x c : ℕ) (bit : Bool) (later : PrefixBits) : Type 0 where
+  pub inner : Inner w b n s i d left x
   pub next : nextOf left ≡ nextAs (Bit bit later)
   pub by : c ≡ toward bit x
 
-module _ {w : List ℕ} {b n root : ℕ} {bits : PrefixBits} {i d : ℕ} {left : PrefixBits} {x : ℕ} (g : Inner w b n root bits i d left x) where
-  on : onward w b n d i (bitsLeft left) ≡ walkFrom w b n (bitsLeft bits) root
+module _ {w : List ℕ} {b n : ℕ} {s : Shown} {i d : ℕ} {left : PrefixBits} {x : ℕ} (g : Inner w b n s i d left x) where
+  on : onward w b n d i (bitsLeft left) ≡ s
   on = rw (ne-eqb x 0 (g .no-leaf), areNodes-in n i x (g .first) (g .second)) at (here (g .down) (g .is))
 
   handed-next : bitsLeft left ≡ handed (nextOf left)
   handed-next = bitsLeft-next left (omega (arith, g .down .few))
 
-  pub inner-end : nextOf left ≡ nextAs End → Nothing (d + 1) ≡ walkFrom w b n (bitsLeft bits) root
+  pub inner-end : nextOf left ≡ nextAs End → Nothing (d + 1) ≡ s
   inner-end e =
       let h : bitsLeft left ≡ [] = handed-next ∙ ap handed e in
       rw h at on
 
-module _ {w : List ℕ} {b n root : ℕ} {bits : PrefixBits} {i d : ℕ} {left : PrefixBits} {x c : ℕ} {bit : Bool} {later : PrefixBits} (g : Turned w b n root bits i d left x c bit later) where
-  by-bit : cond (eqb c 0) (Nothing (d + 1)) (walk w b n (d + 1) (i + c) (bitsLeft later)) ≡ walkFrom w b n (bitsLeft bits) root
+module _ {w : List ℕ} {b n : ℕ} {s : Shown} {i d : ℕ} {left : PrefixBits} {x c : ℕ} {bit : Bool} {later : PrefixBits} (g : Turned w b n s i d left x c bit later) where
+  by-bit : cond (eqb c 0) (Nothing (d + 1)) (walk w b n (d + 1) (i + c) (bitsLeft later)) ≡ s
   by-bit =
       let h : bitsLeft left ≡ bit ∷ bitsLeft later = handed-next (g .inner) ∙ ap handed (g .next) in
       rw (g .by, g .inner .is) (rw h at (on (g .inner)))
 
-  pub turned-none : c ≡ 0 → Nothing (d + 1) ≡ walkFrom w b n (bitsLeft bits) root
+  pub turned-none : c ≡ 0 → Nothing (d + 1) ≡ s
   turned-none z = rw (eq-eqb c 0 z) at by-bit
 
   pub turned-less : left .len ≡ later .len + 1
@@ -121,10 +124,94 @@ module _ {w : List ℕ} {b n root : ℕ} {bits : PrefixBits} {i d : ℕ} {left :
       go true f = omega (arith, g .inner .second)
       go false f = omega (arith, g .inner .first)
 
-  pub turned-on : (c ≡ 0 → ⊥) → Down w b n root bits (i + c) (d + 1) later
+  pub turned-on : (c ≡ 0 → ⊥) → Down w b n s (i + c) (d + 1) later
   turned-on nc = record {
     one = omega (arith, g .inner .down .one);
     within = turned-within;
     few = omega (arith, g .inner .down .few, turned-less);
     rest = rw (ne-eqb c 0 nc) at by-bit;
   }
+
+-- The walk by places: it stands at place p, and of all bits those in left are still to come.
+pub record Placed (w : List ℕ) (b n : ℕ) (s : Shown) (all p : ℕ) (left : PrefixBits) : Type 0 where
+  pub low : b ≤ p
+  pub behind : left .len ≤ all
+  pub down : Down w b n s (p + 1 - b) (all - left .len) left
+
+pub placed-asks : {w : List ℕ} {b n : ℕ} {s : Shown} {all p : ℕ} {left : PrefixBits} → Room w b n → Placed w b n s all p left → Room w b n × (b ≤ p) × (p < b + n) × (left .len + (all - left .len) ≤ 128)
+placed-asks room g = (room, g .low, omega (arith, g .low, g .down .within), g .down .few)
+
+-- at the place stands x, its second child's place is before the last node's, and a bit is next
+pub record Seen (w : List ℕ) (b n : ℕ) (s : Shown) (all p : ℕ) (left : PrefixBits) (x : ℕ) (bit : Bool) (later : PrefixBits) : Type 0 where
+  pub placed : Placed w b n s all p left
+  pub is : x ≡ getD w p 0
+  pub before : p + x / 2 < b + (n - 1)
+  pub next : nextOf left ≡ nextAs (Bit bit later)
+
+-- the root's place
+pub placed-start : {w : List ℕ} {b n root : ℕ} {bits : PrefixBits} → 1 ≤ root → root ≤ n → bits .len ≤ 128 → Placed w b n (walk w b n 0 root (bitsLeft bits)) (bits .len) (b + (root - 1)) bits
+placed-start {w} {b} {n} {root} {bits} one le few =
+    let i : b + (root - 1) + 1 - b ≡ root = omega arith in
+    let d : bits .len - bits .len ≡ 0 = omega arith in
+    record { low = omega arith; behind = omega arith; down = rw (i, d) (record { one = one; within = le; few = omega arith; rest = refl }) }
+
+placed-word : {w : List ℕ} {b n : ℕ} {s : Shown} {all p : ℕ} {left : PrefixBits} → Placed w b n s all p left → getD w p 0 ≡ wordAt w b (p + 1 - b)
+placed-word {w} {b} {p = p} g = ap (λ k. getD w k 0) (let e : p ≡ b + (p + 1 - b - 1) = omega (arith, g .low) in e)
+
+module _ {w : List ℕ} {b n : ℕ} {s : Shown} {all p : ℕ} {left : PrefixBits} {x : ℕ} {bit : Bool} {later : PrefixBits} (g : Seen w b n s all p left x bit later) where
+  pub seen-less : later .len < left .len
+  seen-less = omega (arith, len-next left later bit (g .next))
+
+  pub seen-leaf : x ≡ 0 → Member (all - left .len) ≡ s
+  seen-leaf z = down-leaf (g .placed .down) (g .is ∙ placed-word (g .placed)) z
+
+  module _ (nz : x ≡ 0 → ⊥) where
+    seen-turned : Turned w b n s (p + 1 - b) (all - left .len) left x (toward bit x) bit later
+    seen-turned = record {
+      inner = record {
+        down = g .placed .down;
+        is = g .is ∙ placed-word (g .placed);
+        no-leaf = nz;
+        first = omega (arith, g .before, g .placed .low);
+        second = omega (arith, g .before, g .placed .low);
+      };
+      next = g .next;
+      by = refl;
+    }
+
+    seen-none : toward bit x ≡ 0 → Nothing (all - left .len + 1) ≡ s
+    seen-none z = turned-none seen-turned z
+
+    seen-on : (r : ℕ) → r ≡ p + toward bit x → (toward bit x ≡ 0 → ⊥) → Placed w b n s all r later
+    seen-on r e nc =
+        let l = turned-less seen-turned in
+        let i : p + 1 - b + toward bit x ≡ r + 1 - b = omega (arith, g .placed .low) in
+        let d : all - left .len + 1 ≡ all - later .len = omega (arith, g .placed .behind) in
+        record { low = omega (arith, g .placed .low); behind = omega (arith, g .placed .behind); down = rw (i, d) at (turned-on seen-turned nc) }
+
+  -- one child, on the side of the bit or on the other
+  pub seen-lone : (x ≡ 0 → ⊥) → x < 3 → (x ≡ side bit 1 2 → ⊥) → Nothing (all - left .len + 1) ≡ s
+  seen-lone nz lt ne = seen-none nz (go bit ne)
+    where
+      go : (t : Bool) → (x ≡ side t 1 2 → ⊥) → toward t x ≡ 0
+      go true f = omega arith
+      go false f = omega arith
+
+  pub seen-chain : (x ≡ 0 → ⊥) → x ≡ side bit 1 2 → Placed w b n s all (p + 1) later
+  seen-chain nz e =
+      let c : toward bit x ≡ 1 = go bit e in
+      seen-on nz (p + 1) (omega arith) (λ z. omega arith)
+    where
+      go : (t : Bool) → x ≡ side t 1 2 → toward t x ≡ 1
+      go true f = omega arith
+      go false f = omega arith
+
+  -- two children
+  pub seen-fork : {r : ℕ} → 3 ≤ x → (x % 2 ≡ 0 → ⊥) → r ≡ side bit (p + 1) (p + x / 2) → Placed w b n s all r later
+  seen-fork {r} le odd e =
+      let c = go bit e in
+      seen-on (λ z. omega arith) r (c .0) (c .1)
+    where
+      go : (t : Bool) → r ≡ side t (p + 1) (p + x / 2) → (r ≡ p + toward t x) × (toward t x ≡ 0 → ⊥)
+      go true f = (f, λ z. omega arith)
+      go false f = (omega arith, odd)

@@ -1,16 +1,16 @@
 -- A turn of the check, by the flags of the code, and what its stack says: the entries below the stack pointer count, whatever stands at and above it. Assumes nothing.
 use mathlib.Core.Path.{_≡_, refl, sym, ap, _∙_}
 use mathlib.Core.List.{List}
-use Prim.Native.Nat.{ℕ, zero, suc, _+_, _-_, _/_, _%_, _≤_, _<_}
+use Prim.Native.Nat.{ℕ, zero, suc, _+_, _-_, _*_, _/_, _%_, _≤_, _<_}
 use native.Mathlib.Omega.{arith}
 use native.Mathlib.Numerals.{sub-one}
 use native.Mathlib.Decide.{ℕ-discrete}
 use lib.Dec.{eqb, ltb}
 use lib.ListN.{length, getD, set, length-set}
-use lib.Seq.{getD-set-same, getD-set-other, lt-length-set}
-use borrow.Author.Tests.{le-leb, lt-leb, le-ltb, eq-eqb, ne-eqb, ltb-true, ltb-false, eqb-true, eqb-false, not-true, not-false}
+use lib.Seq.{getD-set-same, getD-set-other}
+use borrow.Author.Tests.{le-leb, lt-leb, le-ltb, eq-eqb, ne-eqb, ltb-true, ltb-false}
 use Rattle.nets.specs.Tries.{Trie, none, node, size}
-use mathlib.Core.Bool.{Bool, true, false, cond, not}
+use mathlib.Core.Bool.{Bool, true, false, cond}
 use Rattle.nodes.specs.Words.{wordAt}
 use Rattle.nodes.specs.Parse.{Read, bad, ok, bind, first, second, parse, after}
 
@@ -41,50 +41,39 @@ pub record Known (w : List ℕ) (b n f i x : ℕ) : Type 0 where
   pub here : x ≡ wordAt w b i
 
 -- the number after all, where the part now read ends at e and the entries 1..k of the stack are the second children still to come: each starts where what is before it ends
-unfoldable pub unwind : List ℕ → ℕ → ℕ → List ℕ → List ℕ → ℕ → ℕ → ℕ
-unwind w b n ats fuels zero e = e
-unwind w b n ats fuels (suc k) e = cond (eqb e 0) 0 (cond (eqb e (getD ats (suc k) 0)) (unwind w b n ats fuels k (after e (parse w b n (getD fuels (suc k) 0) e))) 0)
+unfoldable pub unwind : List ℕ → ℕ → ℕ → ℕ → List ℕ → ℕ → ℕ → ℕ
+unwind w b n fuel st zero e = e
+unwind w b n fuel st (suc k) e =
+    cond (eqb e 0) 0
+    (cond (eqb (getD st (suc k) 0 / 256) (2 * e)) (unwind w b n fuel st k (after e (parse w b n (fuel - getD st (suc k) 0 % 256) e))) 0)
 
-module _ (w : List ℕ) (b n : ℕ) (ats fuels : List ℕ) where
-  unwind-lost : (k : ℕ) → unwind w b n ats fuels k 0 ≡ 0
+module _ (w : List ℕ) (b n fuel : ℕ) (st : List ℕ) where
+  unwind-lost : (k : ℕ) → unwind w b n fuel st k 0 ≡ 0
   unfolding unwind
   unwind-lost zero = refl
   unwind-lost (suc k) = refl
 
   -- the top comes next, or is elsewhere
-  unwind-top : (k e : ℕ) → (k ≡ 0 → ⊥) → (e ≡ 0 → ⊥) → e ≡ getD ats k 0
-      → unwind w b n ats fuels k e ≡ unwind w b n ats fuels (k - 1) (after e (parse w b n (getD fuels k 0) e))
+  unwind-top : (k e : ℕ) → (k ≡ 0 → ⊥) → (e ≡ 0 → ⊥) → getD st k 0 / 256 ≡ 2 * e
+      → unwind w b n fuel st k e ≡ unwind w b n fuel st (k - 1) (after e (parse w b n (fuel - getD st k 0 % 256) e))
   unfolding unwind
   unwind-top zero e nz ne at = absurd (nz refl)
-  unwind-top (suc k) e nz ne at = rw (sub-one (suc k), ne-eqb e 0 ne, eq-eqb e (getD ats (suc k) 0) at)
+  unwind-top (suc k) e nz ne at = rw (sub-one (suc k), ne-eqb e 0 ne, eq-eqb (getD st (suc k) 0 / 256) (2 * e) at)
 
-  unwind-off : (k e : ℕ) → (k ≡ 0 → ⊥) → (e ≡ 0 → ⊥) → (e ≡ getD ats k 0 → ⊥) → unwind w b n ats fuels k e ≡ 0
+  unwind-off : (k e : ℕ) → (k ≡ 0 → ⊥) → (e ≡ 0 → ⊥) → (getD st k 0 / 256 ≡ 2 * e → ⊥) → unwind w b n fuel st k e ≡ 0
   unfolding unwind
   unwind-off zero e nz ne off = absurd (nz refl)
-  unwind-off (suc k) e nz ne off = rw (ne-eqb e 0 ne, ne-eqb e (getD ats (suc k) 0) off)
+  unwind-off (suc k) e nz ne off = rw (ne-eqb e 0 ne, ne-eqb (getD st (suc k) 0 / 256) (2 * e) off)
 
--- a turn's stores: a at the stack pointer, which a push makes the top, and the fuel g of the node's children there and above, wherever the stack pointer moves
-abbrev fuelsIn : List ℕ → ℕ → ℕ → List ℕ
-fuelsIn fuels sp g = set (set fuels sp g) (sp + 1) g
+-- a turn's store is at the stack pointer, which a push makes the top
+module _ (st : List ℕ) (sp v : ℕ) where
+  stack-below : (j : ℕ) → j < sp → getD (set st sp v) j 0 ≡ getD st j 0
+  stack-below j lt = getD-set-other st sp j v 0 (omega arith)
 
-module _ (ats fuels : List ℕ) (sp a g : ℕ) where
-  ats-below : (j : ℕ) → j < sp → getD (set ats sp a) j 0 ≡ getD ats j 0
-  ats-below j lt = getD-set-other ats sp j a 0 (omega arith)
-
-  fuels-below : (j : ℕ) → j < sp → getD (fuelsIn fuels sp g) j 0 ≡ getD fuels j 0
-  fuels-below j lt = getD-set-other (set fuels sp g) (sp + 1) j g 0 (omega arith) ∙ getD-set-other fuels sp j g 0 (omega arith)
-
-  fuels-at : sp < length fuels → getD (fuelsIn fuels sp g) sp 0 ≡ g
-  fuels-at lt = getD-set-other (set fuels sp g) (sp + 1) sp g 0 (omega arith) ∙ getD-set-same fuels sp g 0 lt
-
-  fuels-above : sp + 1 < length fuels → getD (fuelsIn fuels sp g) (sp + 1) 0 ≡ g
-  fuels-above lt = getD-set-same (set fuels sp g) (sp + 1) g 0 (lt-length-set fuels sp g lt)
-
-  unwind-below : (w : List ℕ) (b n k e : ℕ) → k < sp → unwind w b n (set ats sp a) (fuelsIn fuels sp g) k e ≡ unwind w b n ats fuels k e
+  unwind-below : (w : List ℕ) (b n fuel k e : ℕ) → k < sp → unwind w b n fuel (set st sp v) k e ≡ unwind w b n fuel st k e
   unfolding unwind
-  unwind-below w b n zero e lt = refl
-  unwind-below w b n (suc k) e lt =
-      rw (ats-below (suc k) lt, fuels-below (suc k) lt, unwind-below w b n k (after e (parse w b n (getD fuels (suc k) 0) e)) (omega arith))
+  unwind-below w b n fuel zero e lt = refl
+  unwind-below w b n fuel (suc k) e lt = rw (stack-below (suc k) lt, unwind-below w b n fuel k (after e (parse w b n (fuel - getD st (suc k) 0 % 256) e)) (omega arith))
 
 module _ {w : List ℕ} {b n f i x : ℕ} (k : Known w b n f i x) where
   -- the node's second child, once the first is read
@@ -131,129 +120,162 @@ module _ {w : List ℕ} {b n f i x : ℕ} (k : Known w b n f i x) where
   unfolding after size
   even-end lt e = rw (opened, eq-eqb (x % 2) 0 e, ne-eqb (x / 2) 0 (omega arith), ne-eqb (x / 2) (1 + 0) (omega arith))
 
-  -- two children: the second goes on the stack
-  module _ (ats fuels : List ℕ) (sp : ℕ) (pos : 1 ≤ sp) (lt : 2 < x) (la : sp < length ats) (lf : sp < length fuels) where
+  -- two children: the second goes on the stack, as v
+  module _ (st : List ℕ) (fuel sp v : ℕ) (pos : 1 ≤ sp) (lt : 2 < x) (la : sp < length st) (where-v : v / 256 ≡ 2 * i + x - 1) (fuel-v : fuel - v % 256 ≡ f - 1) where
     abbrev more : ℕ → ℕ
-    more e = unwind w b n (set ats sp (i + x / 2)) (fuelsIn fuels sp (f - 1)) sp e
+    more e = unwind w b n fuel (set st sp v) sp e
 
-    pushed-lost : (l : Trie) → (x / 2 ≡ 1 + size l → ⊥) → unwind w b n ats fuels (sp - 1) (after i (rest l)) ≡ 0
+    stored : getD (set st sp v) sp 0 ≡ v
+    stored = getD-set-same st sp v 0 la
+
+    pushed-off : (e : ℕ) → (e ≡ 0 → ⊥) → (2 * i + x - 1 ≡ 2 * e → ⊥) → more e ≡ 0
+    pushed-off e ne off = unwind-off w b n fuel (set st sp v) sp e (omega arith) ne (λ h. off (sym where-v ∙ ap (λ (y : ℕ). y / 256) (sym stored) ∙ h))
+
+    pushed-lost : (l : Trie) → (x / 2 ≡ 1 + size l → ⊥) → unwind w b n fuel st (sp - 1) (after i (rest l)) ≡ 0
     unfolding after
-    pushed-lost l e = rw (ne-eqb (x / 2) 0 (omega arith), ne-eqb (x / 2) (1 + size l) e) (unwind-lost w b n ats fuels (sp - 1))
+    pushed-lost l e = rw (ne-eqb (x / 2) 0 (omega arith), ne-eqb (x / 2) (1 + size l) e) (unwind-lost w b n fuel st (sp - 1))
 
-    pushed-ok : (l : Trie) → Dec (x / 2 ≡ 1 + size l) → more (i + 1 + size l) ≡ unwind w b n ats fuels (sp - 1) (after i (rest l))
-    pushed-ok l (yes e) =
-        unwind-top w b n (set ats sp (i + x / 2)) (fuelsIn fuels sp (f - 1)) sp (i + 1 + size l) (omega arith) (omega arith) (omega (arith, getD-set-same ats sp (i + x / 2) 0 la))
+    pushed-ok : (l : Trie) → (x % 2 ≡ 0 → ⊥) → Dec (x / 2 ≡ 1 + size l) → more (i + 1 + size l) ≡ unwind w b n fuel st (sp - 1) (after i (rest l))
+    pushed-ok l odd (yes e) =
+        unwind-top w b n fuel (set st sp v) sp (i + 1 + size l) (omega arith) (omega arith) (ap (λ (y : ℕ). y / 256) stored ∙ omega (arith, where-v))
         ∙ rw (
-          fuels-at ats fuels sp (i + x / 2) (f - 1) lf,
-          unwind-below ats fuels sp (i + x / 2) (f - 1) w b n (sp - 1) (after (i + 1 + size l) (parse w b n (f - 1) (i + 1 + size l))) (omega arith),
+          stored,
+          fuel-v,
+          unwind-below st sp v w b n fuel (sp - 1) (after (i + 1 + size l) (parse w b n (f - 1) (i + 1 + size l))) (omega arith),
           ne-eqb (x / 2) 0 (omega arith),
           eq-eqb (x / 2) (1 + size l) e,
           after-second i (i + 1 + size l) l (parse w b n (f - 1) (i + 1 + size l)) refl,
         )
-    pushed-ok l (no e) =
-        unwind-off w b n (set ats sp (i + x / 2)) (fuelsIn fuels sp (f - 1)) sp (i + 1 + size l) (omega arith) (omega arith) (λ h. e (omega (arith, getD-set-same ats sp (i + x / 2) 0 la)))
-        ∙ sym (pushed-lost l e)
+    pushed-ok l odd (no e) = pushed-off (i + 1 + size l) (omega arith) (λ h. e (omega (arith, odd))) ∙ sym (pushed-lost l e)
 
-    pushed-read : (q : Read) → more (after (i + 1) q) ≡ unwind w b n ats fuels (sp - 1) (after i (bind q rest))
+    pushed-read : (q : Read) → (x % 2 ≡ 0 → ⊥) → more (after (i + 1) q) ≡ unwind w b n fuel st (sp - 1) (after i (bind q rest))
     unfolding after
-    pushed-read bad = unwind-lost w b n (set ats sp (i + x / 2)) (fuelsIn fuels sp (f - 1)) sp ∙ sym (unwind-lost w b n ats fuels (sp - 1))
-    pushed-read (ok l) = pushed-ok l (ℕ-discrete (x / 2) (1 + size l))
+    pushed-read bad odd = unwind-lost w b n fuel (set st sp v) sp ∙ sym (unwind-lost w b n fuel st (sp - 1))
+    pushed-read (ok l) odd = pushed-ok l odd (ℕ-discrete (x / 2) (1 + size l))
 
-    pushed-end : (x % 2 ≡ 0 → ⊥) → more (after (i + 1) (parse w b n (f - 1) (i + 1))) ≡ unwind w b n ats fuels (sp - 1) (after i (parse w b n f i))
-    pushed-end odd = rw (opened, ne-eqb (x % 2) 0 odd) (pushed-read (parse w b n (f - 1) (i + 1)))
+    -- an even word's entry is never next
+    pushed-even : (q : Read) → x % 2 ≡ 0 → more (after (i + 1) q) ≡ 0
+    unfolding after
+    pushed-even bad even = unwind-lost w b n fuel (set st sp v) sp
+    pushed-even (ok l) even = pushed-off (i + 1 + size l) (omega arith) (λ h. omega arith)
 
--- what holds at the head of the loop
-pub record Loop (w : List ℕ) (b n fuel root : ℕ) (ats fuels : List ℕ) (sp i f : ℕ) : Type 0 where
+    pushed-end : more (after (i + 1) (parse w b n (f - 1) (i + 1))) ≡ unwind w b n fuel st (sp - 1) (after i (parse w b n f i))
+    pushed-end = go (ℕ-discrete (x % 2) 0)
+      where
+        go : Dec (x % 2 ≡ 0) → more (after (i + 1) (parse w b n (f - 1) (i + 1))) ≡ unwind w b n fuel st (sp - 1) (after i (parse w b n f i))
+        go (yes e) = pushed-even (parse w b n (f - 1) (i + 1)) e ∙ sym (unwind-lost w b n fuel st (sp - 1)) ∙ ap (unwind w b n fuel st (sp - 1)) (even-end lt e)
+        go (no odd) = rw (opened, ne-eqb (x % 2) 0 odd) (pushed-read (parse w b n (f - 1) (i + 1)) odd)
+
+-- what holds at the head of the loop: at is 512 times the number of the next node, plus its depth
+pub record Loop (w : List ℕ) (b n fuel root : ℕ) (st : List ℕ) (sp i at : ℕ) : Type 0 where
   pub pos : 1 ≤ i
-  pub wide : length ats ≡ 131
-  pub deep : length fuels ≡ 131
+  pub here : at / 256 ≡ 2 * i
+  pub deep : length st ≡ 131
   pub up : 1 ≤ sp
-  pub room : sp + f ≤ fuel + 1
-  pub each : (j : ℕ) → 1 ≤ j → j < sp → j + getD fuels j 0 ≤ fuel
-  pub is : unwind w b n ats fuels (sp - 1) (after i (parse w b n f i)) ≡ after root (parse w b n fuel root)
+  pub room : sp ≤ at % 256 + 1
+  pub each : (j : ℕ) → 1 ≤ j → j < sp → j ≤ getD st j 0 % 256
+  pub is : unwind w b n fuel st (sp - 1) (after i (parse w b n (fuel - at % 256) i)) ≡ after root (parse w b n fuel root)
 
-module _ {w : List ℕ} {b n fuel root : ℕ} {ats fuels : List ℕ} {sp i f : ℕ} (o : Loop w b n fuel root ats fuels sp i f) where
-  pub gone : 0 ≡ after i (parse w b n f i) → 0 ≡ after root (parse w b n fuel root)
-  gone q = sym (unwind-lost w b n ats fuels (sp - 1)) ∙ ap (unwind w b n ats fuels (sp - 1)) q ∙ o .is
+pub loop-start : {w : List ℕ} {b n fuel root : ℕ} {st : List ℕ} → 1 ≤ root → length st ≡ 131 → Loop w b n fuel root st 1 root (512 * root)
+unfolding unwind
+loop-start {fuel = fuel} {root = root} pos deep =
+    let d : fuel - 512 * root % 256 ≡ fuel = omega arith in
+    record { pos = pos; here = omega arith; deep = deep; up = omega arith; room = omega arith; each = λ j p l. absurd (omega arith); is = rw d }
 
-  -- a turn's stores leave the entries
-  kept : (a g : ℕ) → Loop w b n fuel root (set ats sp a) (fuelsIn fuels sp g) sp i f
-  kept a g = record {
+module _ {w : List ℕ} {b n fuel root : ℕ} {st : List ℕ} {sp i at : ℕ} (o : Loop w b n fuel root st sp i at) where
+  pub gone : 0 ≡ after i (parse w b n (fuel - at % 256) i) → 0 ≡ after root (parse w b n fuel root)
+  gone q = sym (unwind-lost w b n fuel st (sp - 1)) ∙ ap (unwind w b n fuel st (sp - 1)) q ∙ o .is
+
+  -- a turn's store leaves the entries
+  kept : (v : ℕ) → Loop w b n fuel root (set st sp v) sp i at
+  kept v = record {
     pos = o .pos;
-    wide = length-set ats sp a ∙ o .wide;
-    deep = length-set (set fuels sp g) (sp + 1) g ∙ length-set fuels sp g ∙ o .deep;
+    here = o .here;
+    deep = length-set st sp v ∙ o .deep;
     up = o .up;
     room = o .room;
-    each = λ j pos lt. rw (fuels-below ats fuels sp a g j lt) (o .each j pos lt);
-    is = unwind-below ats fuels sp a g w b n (sp - 1) (after i (parse w b n f i)) (omega (arith, o .up)) ∙ o .is;
+    each = λ j pos lt. rw (stack-below st sp v j lt) (o .each j pos lt);
+    is = unwind-below st sp v w b n fuel (sp - 1) (after i (parse w b n (fuel - at % 256) i)) (omega (arith, o .up)) ∙ o .is;
   }
 
-  ended : sp - 1 ≡ 0 → i + 1 ≡ after i (parse w b n f i) → i + 1 ≡ after root (parse w b n fuel root)
+  ended : sp - 1 ≡ 0 → i + 1 ≡ after i (parse w b n (fuel - at % 256) i) → i + 1 ≡ after root (parse w b n fuel root)
   unfolding unwind
   ended z q = q ∙ (rw z at (o .is))
 
-  elsewhere : (sp - 1 ≡ 0 → ⊥) → i + 1 ≡ after i (parse w b n f i) → (getD ats (sp - 1) 0 ≡ i + 1 → ⊥) → 0 ≡ after root (parse w b n fuel root)
-  elsewhere nz q off =
-      sym (unwind-off w b n ats fuels (sp - 1) (i + 1) nz (omega arith) (λ e. off (sym e))) ∙ ap (unwind w b n ats fuels (sp - 1)) q ∙ o .is
+  elsewhere : (sp - 1 ≡ 0 → ⊥) → i + 1 ≡ after i (parse w b n (fuel - at % 256) i) → (getD st (sp - 1) 0 / 256 ≡ 2 * (i + 1) → ⊥) → 0 ≡ after root (parse w b n fuel root)
+  elsewhere nz q off = sym (unwind-off w b n fuel st (sp - 1) (i + 1) nz (omega arith) off) ∙ ap (unwind w b n fuel st (sp - 1)) q ∙ o .is
 
-  popped : (sp - 1 ≡ 0 → ⊥) → i + 1 ≡ after i (parse w b n f i) → getD ats (sp - 1) 0 ≡ i + 1 → Loop w b n fuel root ats fuels (sp - 1) (i + 1) (getD fuels (sp - 1) 0)
-  popped nz q at = record {
+  popped : (sp - 1 ≡ 0 → ⊥) → i + 1 ≡ after i (parse w b n (fuel - at % 256) i) → getD st (sp - 1) 0 / 256 ≡ 2 * (i + 1)
+      → Loop w b n fuel root st (sp - 1) (i + 1) (getD st (sp - 1) 0)
+  popped nz q next = record {
     pos = omega arith;
-    wide = o .wide;
+    here = next;
     deep = o .deep;
     up = omega arith;
     room = omega (arith, o .each (sp - 1) (omega arith) (omega arith));
     each = λ j pos lt. o .each j pos (omega arith);
-    is = sym (unwind-top w b n ats fuels (sp - 1) (i + 1) nz (omega arith) (sym at)) ∙ ap (unwind w b n ats fuels (sp - 1)) q ∙ o .is;
+    is = sym (unwind-top w b n fuel st (sp - 1) (i + 1) nz (omega arith) next) ∙ ap (unwind w b n fuel st (sp - 1)) q ∙ o .is;
   }
 
-  single : (f ≡ 0 → ⊥) → after (i + 1) (parse w b n (f - 1) (i + 1)) ≡ after i (parse w b n f i) → Loop w b n fuel root ats fuels sp (i + 1) (f - 1)
-  single nz q = record {
-    pos = omega arith;
-    wide = o .wide;
-    deep = o .deep;
-    up = o .up;
-    room = omega arith;
-    each = o .each;
-    is = ap (unwind w b n ats fuels (sp - 1)) q ∙ o .is;
-  }
+  -- one level down
+  module _ (small : fuel ≤ 129) (shallow : at % 256 < fuel) where
+    down-depth : (at + 513) % 256 ≡ at % 256 + 1
+    down-depth = omega arith
 
-  each-pushed : (a g : ℕ) → sp < length fuels → sp + g ≤ fuel → (j : ℕ) → 1 ≤ j → j < sp + 1 → j + getD (fuelsIn fuels sp g) j 0 ≤ fuel
-  each-pushed a g lf le j pos lt = go (ℕ-discrete j sp)
-    where
-      go : Dec (j ≡ sp) → j + getD (fuelsIn fuels sp g) j 0 ≤ fuel
-      go (yes e) = omega (arith, ap (λ (m : ℕ). getD (fuelsIn fuels sp g) m 0) e ∙ fuels-at ats fuels sp a g lf)
-      go (no ne) = rw (fuels-below ats fuels sp a g j (omega arith)) (o .each j pos (omega arith))
+    down-fuel : fuel - (at + 513) % 256 ≡ fuel - at % 256 - 1
+    down-fuel = omega arith
 
-  pushed : {x : ℕ} → Known w b n f i x → fuel ≤ 129 → 2 < x → (x % 2 ≡ 0 → ⊥) → Loop w b n fuel root (set ats sp (i + x / 2)) (fuelsIn fuels sp (f - 1)) (sp + 1) (i + 1) (f - 1)
-  pushed {x} k small lt odd =
-      let nz = k .fuel in
-      let la : sp < length ats = omega (arith, nz) in
-      let lf : sp < length fuels = omega (arith, nz) in
-      let top : sp + 1 - 1 ≡ sp = omega arith in
-      let s = kept (i + x / 2) (f - 1) in
-      record {
-        pos = omega arith;
-        wide = s .wide;
-        deep = s .deep;
-        up = omega arith;
-        room = omega (arith, nz);
-        each = each-pushed (i + x / 2) (f - 1) lf (omega (arith, nz));
-        is = rw top (pushed-end k ats fuels sp (o .up) lt la lf odd ∙ o .is);
-      }
+    down-here : (at + 513) / 256 ≡ 2 * (i + 1)
+    down-here = omega (arith, o .here)
+
+    single : after (i + 1) (parse w b n (fuel - at % 256 - 1) (i + 1)) ≡ after i (parse w b n (fuel - at % 256) i) → Loop w b n fuel root st sp (i + 1) (at + 513)
+    single q = record {
+      pos = omega arith;
+      here = down-here;
+      deep = o .deep;
+      up = o .up;
+      room = omega (arith, down-depth, o .room);
+      each = o .each;
+      is = rw down-fuel (ap (unwind w b n fuel st (sp - 1)) q ∙ o .is);
+    }
+
+    module _ {x : ℕ} (k : Known w b n (fuel - at % 256) i x) where
+      abbrev entry : ℕ
+      entry = at + 256 * x - 255
+
+      entry-place : entry / 256 ≡ 2 * i + x - 1
+      entry-place = omega (arith, o .here, o .pos)
+
+      entry-depth : entry % 256 ≡ at % 256 + 1
+      entry-depth = omega (arith, o .here, o .pos)
+
+      inside : sp < length st
+      inside = omega (arith, o .room, o .deep)
+
+      each-pushed : (j : ℕ) → 1 ≤ j → j < sp + 1 → j ≤ getD (set st sp entry) j 0 % 256
+      each-pushed j pos lt = go (ℕ-discrete j sp)
+        where
+          go : Dec (j ≡ sp) → j ≤ getD (set st sp entry) j 0 % 256
+          go (yes e) = rw (e, getD-set-same st sp entry 0 inside) (omega (arith, entry-depth, o .room))
+          go (no ne) = rw (stack-below st sp entry j (omega arith)) (o .each j pos (omega arith))
+
+      pushed : 2 < x → Loop w b n fuel root (set st sp entry) (sp + 1) (i + 1) (at + 513)
+      pushed lt =
+          let top : sp + 1 - 1 ≡ sp = omega arith in
+          record {
+            pos = omega arith;
+            here = down-here;
+            deep = length-set st sp entry ∙ o .deep;
+            up = omega arith;
+            room = omega (arith, down-depth, o .room);
+            each = each-pushed;
+            is = rw (top, down-fuel) (pushed-end k st fuel sp entry (o .up) lt inside entry-place (omega (arith, entry-depth)) ∙ o .is);
+          }
 
 -- a number picked by a test
 picked-le : (t : Bool) {y r : ℕ} → r ≡ cond t y 0 → r ≤ y
 picked-le true e = omega arith
 picked-le false e = omega arith
-
-picked-true : (t : Bool) (y : ℕ) {r : ℕ} → r ≡ cond t y 0 → (r ≡ 0 → ⊥) → t ≡ true
-picked-true true y e nz = refl
-picked-true false y e nz = absurd (nz e)
-
-picked-false : (t : Bool) {y r : ℕ} → r ≡ cond t y 0 → y ≡ 1 → r ≡ 0 → t ≡ false
-picked-false true e one z = absurd (omega arith)
-picked-false false e one z = refl
 
 -- the flags of the word x: it is a leaf's, it is of two children (or of no node)
 pub record Flags (x leaf two : ℕ) : Type 0 where
@@ -262,14 +284,6 @@ pub record Flags (x leaf two : ℕ) : Type 0 where
 
 pub flags-small : {x leaf two : ℕ} → Flags x leaf two → (leaf ≤ 1) × (two ≤ 1)
 flags-small {x} g = (picked-le (eqb x 0) (g .none), picked-le (ltb 2 x) (g .both))
-
--- the faults of a node with these flags: its word is even and of two children; it is a leaf, and i, which is next, is not where the top of the stack starts, a
-pub record Faults (x leaf two a i even off : ℕ) : Type 0 where
-  pub evens : even ≡ cond (eqb (x % 2) 0) two 0
-  pub apart : off ≡ cond (not (eqb a i)) leaf 0
-
-pub faults-small : {x leaf two a i even off : ℕ} → Faults x leaf two a i even off → (even ≤ two) × (off ≤ leaf)
-faults-small {x} {a = a} {i = i} h = (picked-le (eqb (x % 2) 0) (h .evens), picked-le (not (eqb a i)) (h .apart))
 
 -- the word of a leaf, of one child, of two
 data Kind (x leaf two : ℕ) : Type 0 where
@@ -288,8 +302,8 @@ kind {x} {leaf} {two} g = go (ℕ-discrete x 0)
     go (yes e) = of-none e (rw (eq-eqb x 0 e) at (g .none)) (rw (le-ltb 2 x (omega arith)) at (g .both))
     go (no ne) = more ne (rw (ne-eqb x 0 ne) at (g .none)) (ltb 2 x) refl (g .both)
 
--- the end of a turn, whose stores are made
-module _ {w : List ℕ} {b n fuel root : ℕ} {ats fuels : List ℕ} {sp i f x leaf two : ℕ} (o : Loop w b n fuel root ats fuels sp i f) (k : Known w b n f i x) (g : Flags x leaf two) where
+-- the end of a turn, whose store is made
+module _ {w : List ℕ} {b n fuel root : ℕ} {st : List ℕ} {sp i at x leaf two : ℕ} (o : Loop w b n fuel root st sp i at) (k : Known w b n (fuel - at % 256) i x) (g : Flags x leaf two) where
   pub done : sp + two - leaf ≡ 0 → i + 1 ≡ after root (parse w b n fuel root)
   done z = go (kind g)
     where
@@ -298,45 +312,42 @@ module _ {w : List ℕ} {b n fuel root : ℕ} {ats fuels : List ℕ} {sp i f x l
       go (of-one nz le l t) = absurd (omega (arith, o .up))
       go (of-two lt l t) = absurd (omega arith)
 
-  stored : Loop w b n fuel root (set ats sp (i + x / 2)) (fuelsIn fuels sp (f - 1)) sp i f
-  stored = kept o (i + x / 2) (f - 1)
+  -- the next node is the top of the stack behind a leaf, and else the first child
+  module _ {next : ℕ} (small : fuel ≤ 129) (shallow : at % 256 < fuel) (nz : sp + two - leaf ≡ 0 → ⊥) (by : next ≡ cond (eqb x 0) (getD st (sp - 1) 0) (at + 513)) where
+    next-top : x ≡ 0 → next ≡ getD st (sp - 1) 0
+    next-top e = rw (eq-eqb x 0 e) at by
 
-  module _ {even off : ℕ} (nz : sp + two - leaf ≡ 0 → ⊥) (h : Faults x leaf two (getD (set ats sp (i + x / 2)) (sp + two - leaf) 0) (i + 1) even off) where
-    top-off : (even + off ≡ 0 → ⊥) → two ≡ 0 → getD (set ats sp (i + x / 2)) (sp + two - leaf) 0 ≡ i + 1 → ⊥
-    top-off wrong z = eqb-false _ (i + 1) (not-true _ (picked-true _ leaf (h .apart) (λ e. wrong (omega (arith, faults-small h)))))
-
-    top-next : even + off ≡ 0 → leaf ≡ 1 → getD (set ats sp (i + x / 2)) (sp + two - leaf) 0 ≡ i + 1
-    top-next fine one = eqb-true _ (i + 1) (not-false _ (picked-false _ (h .apart) one (omega arith)))
-
-    is-even : (even + off ≡ 0 → ⊥) → leaf ≡ 0 → x % 2 ≡ 0
-    is-even wrong z = eqb-true (x % 2) 0 (picked-true (eqb (x % 2) 0) two (h .evens) (λ e. wrong (omega (arith, faults-small h))))
-
-    is-odd : even + off ≡ 0 → two ≡ 1 → x % 2 ≡ 0 → ⊥
-    is-odd fine one = eqb-false (x % 2) 0 (picked-false (eqb (x % 2) 0) (h .evens) one (omega arith))
-
-    pub refused : (even + off ≡ 0 → ⊥) → 0 ≡ after root (parse w b n fuel root)
-    refused wrong = go (kind g)
+    top-some : x ≡ 0 → sp - 1 ≡ 0 → ⊥
+    top-some e z = go (kind g)
       where
-        go : Kind x leaf two → 0 ≡ after root (parse w b n fuel root)
+        go : Kind x leaf two → ⊥
+        go (of-none h l t) = nz (omega arith)
+        go (of-one ne le l t) = ne e
+        go (of-two lt l t) = omega arith
+
+    next-down : (x ≡ 0 → ⊥) → next ≡ at + 513
+    next-down ne = rw (ne-eqb x 0 ne) at by
+
+    pub refused : (next / 256 ≡ (at + 513) / 256 → ⊥) → 0 ≡ after root (parse w b n fuel root)
+    refused wrong = go (ℕ-discrete x 0)
+      where
+        go : Dec (x ≡ 0) → 0 ≡ after root (parse w b n fuel root)
+        go (yes e) =
+            elsewhere o (top-some e) (leaf-end k e) (λ h. wrong (ap (λ (y : ℕ). y / 256) (next-top e) ∙ h ∙ sym (down-here o small shallow)))
+        go (no ne) = absurd (wrong (ap (λ (y : ℕ). y / 256) (next-down ne)))
+
+    pub onward : next / 256 ≡ (at + 513) / 256 → Loop w b n fuel root (set st sp (at + 256 * x - 255)) (sp + two - leaf) (i + 1) next
+    onward fine = go (kind g)
+      where
+        go : Kind x leaf two → Loop w b n fuel root (set st sp (at + 256 * x - 255)) (sp + two - leaf) (i + 1) next
         go (of-none e l t) =
             let top : sp + two - leaf ≡ sp - 1 = omega arith in
-            elsewhere stored (λ z. nz (omega arith)) (leaf-end k e) (rw top at (top-off wrong t))
-        go (of-one ne le l t) = absurd (wrong (omega (arith, faults-small h)))
-        go (of-two lt l t) = gone o (even-end k lt (is-even wrong l))
-
-    abbrev Onward : Type 0
-    Onward = Loop w b n fuel root (set ats sp (i + x / 2)) (fuelsIn fuels sp (f - 1)) (sp + two - leaf) (i + 1) (getD (fuelsIn fuels sp (f - 1)) (sp + two - leaf) 0)
-
-    pub onward : fuel ≤ 129 → even + off ≡ 0 → Onward
-    onward small fine = go (kind g)
-      where
-        go : Kind x leaf two → Onward
-        go (of-none e l t) =
-            let top : sp + two - leaf ≡ sp - 1 = omega arith in
-            rw top (popped stored (λ z. nz (omega arith)) (leaf-end k e) (rw top at (top-next fine l)))
+            let s = kept o (at + 256 * x - 255) in
+            let same = stack-below st sp (at + 256 * x - 255) (sp - 1) (omega (arith, o .up)) in
+            rw (top, next-top e, ← same) (popped s (top-some e) (leaf-end k e) (ap (λ (y : ℕ). y / 256) (same ∙ sym (next-top e)) ∙ fine ∙ down-here o small shallow))
         go (of-one ne le l t) =
             let top : sp + two - leaf ≡ sp = omega arith in
-            rw (top, fuels-at ats fuels sp (i + x / 2) (f - 1) (omega (arith, k .fuel))) (single stored (k .fuel) (single-end k ne le))
+            rw (top, next-down ne) (single (kept o (at + 256 * x - 255)) small shallow (single-end k ne le))
         go (of-two lt l t) =
             let top : sp + two - leaf ≡ sp + 1 = omega arith in
-            rw (top, fuels-above ats fuels sp (i + x / 2) (f - 1) (omega (arith, k .fuel))) (pushed o k small lt (is-odd fine t))
+            rw (top, next-down (λ z. omega arith)) (pushed o small shallow k lt)

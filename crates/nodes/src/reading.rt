@@ -27,43 +27,53 @@ fn when(test: bool, y: usize) -> usize
     0
 }
 
-// The number after the trie that starts at node root, at most fuel deep and within n nodes, or 0 where there is none. The second children still to come are on a stack, the entries from 1 to
-// below sp, each with the fuel that it is to be read with. A processor cannot predict which kind of node comes next, so every turn makes the same stores and loads, as if for two children,
-// and only sp tells the kinds apart: two children move it up, a leaf moves it down, and at 0 all is read. The next node's fuel then stands at sp.
+// y where the test holds, else z.
+fn either(test: bool, y: u64, z: u64) -> u64
+    ensures { λ r. ⌜ r ≡ cond test y z ⌝ }
+{
+    if test {
+        return y;
+    }
+    z
+}
+
+// The number after the trie that starts at node root, at most fuel deep and within n nodes, or 0 where there is none. A processor cannot predict which kind of node
+// comes next, so no branch asks for it: every turn stores a second child as if there were one, and only sp tells the kinds apart. Two children move it up, a leaf
+// moves it down, and at 0 all is read. The second children still to come are on a stack, the entries from 1 to below sp, each as 512 times its number plus its
+// depth; that of an even word falls between two numbers, so that it never comes next. The entry that a leaf would take is read before the turn's own is stored, which
+// a load right behind the store would wait for.
 pub fn trie_end(w: &[u32], b: usize, n: u32, fuel: u32, root: u32) -> u32
     requires { ⌜ Room (now w) b n ⌝ }
     requires { ⌜ (1 ≤ root) × (fuel ≤ 129) ⌝ }
     ensures { λ r. ⌜ r ≡ after root (parse (now (w .entry)) b n fuel root) ⌝ }
 {
-    let mut ats = [0u32; 131];
-    let mut fuels = [0u32; 131];
+    let mut stack = [0u64; 131];
+    let limit = fuel as u64;
     let mut sp: usize = 1;
     let mut i = root;
-    let mut f = fuel;
+    let mut at = 512 * (root as u64);
     loop {
-        if f == 0 {
+        if limit <= at % 256 {
             return 0;
         }
         if n < i {
             return 0;
         }
         let x = word_at(w, b, n, i);
-        ats[sp] = i + x / 2;
-        fuels[sp] = f - 1;
-        fuels[sp + 1] = f - 1;
+        let top = stack[sp - 1];
+        stack[sp] = at + 256 * (x as u64) - 255;
         i += 1;
-        let leaf = when(x == 0, 1);
         let two = when(2 < x, 1);
+        let leaf = when(x == 0, 1);
         sp = sp + two - leaf;
         if sp == 0 {
             return i;
         }
-        let off = when(ats[sp] != i, leaf);
-        let even = when(x % 2 == 0, two);
-        if even + off != 0 {
+        let down = at + 513;
+        at = either(x == 0, top, down);
+        if at / 256 != down / 256 {
             return 0;
         }
-        f = fuels[sp];
     }
 }
 

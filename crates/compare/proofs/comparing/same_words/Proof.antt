@@ -1,15 +1,18 @@
 -- `comparing::same_words` meets its contract. The loop's invariant: the words before the k-th agree. Assumes nothing.
-use mathlib.Core.Path.{_≡_}
-use Prim.Native.Nat.{ℕ, _+_, _-_, _≤_, _<_}
+use denote.Ref.{now}
+use mathlib.Core.Bool.{true}
+use Prim.Native.Nat.{_-_, _≤_}
 use native.Mathlib.Omega.{arith}
-use borrow.Author.Count.{below-more}
+use lib.Dec.{eqb}
 use borrow.Author.Needs.{needs}
-use lib.ListN.{getD}
+use borrow.Author.Tests.{eq-eqb, ne-eqb}
+use Rattle.compare.specs.Rules.{Agree}
+use Rattle.compare.proofs.Blocks.{joined, apart, whole}
 use Rattle.compare.proofs.comparing.same_words.Statement.{statement}
 use Rattle.compare.proofs.comparing.same_words.Tie as tie
 
 abbrev Inv-loop : tie.InvT-loop
-Inv-loop w p q n k₀ k = (k ≤ n) × ((j : ℕ) → j < k → getD w (p + j) 0 ≡ getD w (q + j) 0)
+Inv-loop w p q n k₀ k = (k ≤ n) × Agree w p q k true
 
 abbrev μ-loop : tie.MeasureT-loop
 μ-loop w p q n k₀ k = n - k
@@ -24,11 +27,22 @@ same-words-spec =
     (λ c. search needs)
     (λ c. search needs)
     (λ c. search needs)
+    (λ c κs. search needs)
+    (λ c.
+    let o = c .before .before .before in
+    let a = o .before .before .args in
+    apart (now (a .w)) (a .p) (a .q) (o .loop .k) 64 (a .n) (omega arith) (rw (ne-eqb (c .before .others .result) 0 (c .if1 .taken)) at (c .before .others .ensures)))
+    (λ c. search needs)
+    (λ c. search needs)
+    (λ c.
+    let o = c .before .before .before in
+    let a = o .before .before .args in
+    (omega arith, joined (now (a .w)) (a .p) (a .q) (o .loop .k) 64 (o .loop .inv .1) (rw (eq-eqb (c .before .others .result) 0 (c .if1 .left)) at (c .before .others .ensures))))
     (λ c. search needs)
     (λ c. search needs)
     (λ c. search needs)
-    (λ c. (_, c .before .before .before .loop-test .taken, c .if1 .taken))
-    (λ c. search needs)
-    (λ c. search needs)
-    (λ c. (search needs, below-more _ _ (c .before .before .before .before .loop .inv .1) (c .if1 .left)))
-    (λ c. λ j l. c .before .loop .inv .1 j (omega arith)))
+    (λ c κs. search needs)
+    (λ c.
+    let o = c .before .before in
+    let a = o .before .before .args in
+    whole (now (a .w)) (a .p) (a .q) (o .loop .k) (a .n) (o .loop .inv .0) (o .loop .inv .1) (eqb (c .others2 .result) 0) (c .others2 .ensures)))
