@@ -1,4 +1,5 @@
--- Why: the numbers of the cursors, by words; the entries as networks, and lined up.
+-- Why: the numbers of the cursors, by words; the entries as networks, and lined up; the lanes in the order of their next entries.
 pub mod Cursors
 pub mod Read
 pub mod Lines
+pub mod Sorting

@@ -34,8 +34,16 @@ lens-rise {d} {f} {n} o i h =
     let b = before-length (networkAt f d i) (networkAt f d (suc i)) (ascending-at f d 0 n i (o .ascends) (omega arith) (omega arith)) in
     rw (add-one i) (rw (read-length (o .entries) i (omega arith), read-length (o .entries) (suc i) g) at b)
 
+-- one of two numbers is the smaller
+sides : (a b : ℕ) → (a ≡ b → ⊥) → (a < b) ⊎ (b < a)
+sides a b n = go (decLt a b)
+  where
+    go : Dec (a < b) → (a < b) ⊎ (b < a)
+    go (yes l) = inl l
+    go (no l) = inr (omega arith)
+
 -- no lane yet
-pub lined-none : {d : List ℕ} {f n : ℕ} → Lined d f n (replicate 647 0) 0
+pub lined-none : {d : List ℕ} {f n : ℕ} → Lined d f n (replicate 646 0) 0
 unfolding networksIn lanesOf
 lined-none {d} {f} {n} =
     record {
@@ -43,9 +51,10 @@ lined-none {d} {f} {n} =
         wide = refl;
         few = omega arith;
         runs = λ j h. absurd (omega arith);
-        order = λ i j h g. absurd (omega arith);
+        apart = λ i j n h. absurd (omega arith);
         known = λ q m. absurd (false≢true m);
       };
+      order = λ i j h g. absurd (omega arith);
       full = λ j h. absurd (omega arith);
       high = λ j h. absurd (omega arith);
       below = λ j h. absurd (omega arith);
@@ -68,7 +77,7 @@ module _ {d : List ℕ} {f n : ℕ} {c : List ℕ} {i : ℕ} {x : Net} (s : Adds
   rest-this k e = let z : k ≡ length (networkAt f d i) = e ∙ sym this-length in rw (all-last, z) (ofLength-last (networkAt f d i) (networksIn f d 0 i))
 
   record Next (j : ℕ) (y : Lane) (c′ : List ℕ) : Type 0 where
-    wide : length c′ ≡ 647
+    wide : length c′ ≡ 646
     count : lanesOf c′ ≡ suc j
     own : laneAt c′ j ≡ y
     other : (k : ℕ) → k < j → laneAt c′ k ≡ laneAt c k
@@ -116,7 +125,7 @@ module _ {d : List ℕ} {f n : ℕ} {c : List ℕ} {i : ℕ} {x : Net} (s : Adds
       where
         go : Dec (b ≡ j) → laneAt c a .len < laneAt c′ b .len
         go (yes e) = rw (e, o .own) (omega (arith, o .long, o .shorter a (omega arith)))
-        go (no ne) = let l : b < j = omega (arith, o .count) in rw (o .other b l) (s .lined .lanes .order a b h (omega (arith, o .fewer)))
+        go (no ne) = let l : b < j = omega (arith, o .count) in rw (o .other b l) (s .lined .order a b h (omega (arith, o .fewer)))
 
     lined-next : Lined d f n c′ (i + 1)
     lined-next =
@@ -126,9 +135,10 @@ module _ {d : List ℕ} {f n : ℕ} {c : List ℕ} {i : ℕ} {x : Net} (s : Adds
             wide = o .wide;
             few = omega (arith, o .count, o .high, o .long, read-within e i (s .more), width-le f);
             runs = each (λ _ z. Runs d f (i + 1) (networksIn f d 0 (i + 1)) z) (o .run) old-run;
-            order = next-order;
+            apart = λ a b n h g z. ⊎-elim (λ l. omega (arith, next-order a b l g)) (λ l. omega (arith, next-order b a l h)) (sides a b n);
             known = next-known;
           };
+          order = next-order;
           full = each (λ _ z. Live z) (o .live) (λ k h. s .lined .full k (omega (arith, o .fewer)));
           high = each (λ k z. k ≤ z .len) (o .high) (λ k h. s .lined .high k (omega (arith, o .fewer)));
           below = λ k h g. each (λ _ z. z .len ≤ entryNet f d (i + 1) .len) (omega (arith, o .long, lens-rise (s .file) i g)) (λ k h. omega (arith, o .shorter k h, lens-rise (s .file) i g)) k h;
@@ -181,7 +191,7 @@ module _ {d : List ℕ} {f n : ℕ} {c : List ℕ} {i : ℕ} {x : Net} (s : Adds
             other = λ k h. laneAt-putLane c k j y (omega arith);
             old = λ k h. last-or k h (decLt k j);
             fewer = omega arith;
-            shorter = λ k h. omega (arith, last-length, o .order k j h (omega (arith, some-lane)));
+            shorter = λ k h. omega (arith, last-length, s .lined .order k j h (omega (arith, some-lane)));
             run = longer-run;
             long = long;
             live = rw u (omega (arith, s .lined .full j (omega (arith, some-lane)), s .lined .last j (omega (arith, some-lane))));
@@ -206,7 +216,7 @@ module _ {d : List ℕ} {f n : ℕ} {c : List ℕ} {i : ℕ} {x : Net} (s : Adds
       where
         go : Dec (k ≡ lanesOf c - 1) → laneAt c (lanesOf c - 1) .len < entryNet f d i .len → laneAt c k .len < entryNet f d i .len
         go (yes e) l = rw e l
-        go (no ne) l = omega (arith, s .lined .lanes .order k (lanesOf c - 1) (omega arith) (omega arith))
+        go (no ne) l = omega (arith, s .lined .order k (lanesOf c - 1) (omega arith) (omega arith))
 
     none-yet : ofLength (entryNet f d i .len) (networksIn f d 0 i) ≡ []
     none-yet =
@@ -243,7 +253,7 @@ module _ {d : List ℕ} {f n : ℕ} {c : List ℕ} {i : ℕ} {x : Net} (s : Adds
         let o = s .lined .lanes in
         let e : x .len ≡ entryNet f d i .len = ap (λ (z : Net). z .len) (s .net) in
         let few = begun-few in
-        let w : length (putLane c m y) ≡ 647 = length-putLane c m y ∙ o .wide in
+        let w : length (putLane c m y) ≡ 646 = length-putLane c m y ∙ o .wide in
         lined-next
         (record {
           wide = length-set (putLane c m y) 645 (m + 1) ∙ w;

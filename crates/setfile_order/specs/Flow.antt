@@ -3,9 +3,8 @@
 --   checkedOf x      what `check` answers of what a file reads as: its family and the nodes of its list, or that it is broken
 --   headAs f q ms    the first of the networks ms, behind the network q: deep is one more than the leading bits that it shares with q, or 0 where there is none
 --   surveyed f ms    what `survey` answers of the networks ms in address order: their nodes, unless one lies inside another
---   Stream d f c ms  the lanes c have the networks ms of the file d of the family f, which rise
+--   Flow d f c ms    the cursors c have the networks ms of the file d of the family f still to give, in this order: the lanes have them, and stand in the order of their next ones
 --   Behind d f c last q ms   so, and last is the network q, behind which they come
---   Flow d f c ms    the cursors c have the networks ms of the file d of the family f still to give, in this order
 use mathlib.Core.Bool.{true, cond}
 use mathlib.Core.List.{List, [], _∷_}
 use mathlib.Core.Path.{_≡_}
@@ -17,7 +16,7 @@ use Rattle.nets.specs.Networks.{width, netFrom, noNet}
 use Rattle.nets.specs.declared.Net.{Net}
 use Rattle.setfile_format.specs.Files.{File, broken, file}
 use Rattle.address_order.specs.Streams.{shared, rising, loose, pathNodes}
-use Rattle.setfile_lanes.specs.Lanes.{laneAt, lanesOf, hereOf, Entries, Lanes}
+use Rattle.setfile_lanes.specs.Lanes.{laneAt, lanesOf, Live, Sorted, Entries, Lanes}
 use Rattle.setfile_order.specs.declared.Head.{Head}
 use Rattle.setfile_order.specs.declared.Checked.{Checked}
 use Rattle.setfile_order.specs.declared.Checked.the-variants as checked
@@ -33,23 +32,16 @@ headAs f q (m ∷ ms) = record { deep = suc (shared q m); net = netFrom f m }
 unfoldable pub surveyed : ℕ → List Bits → Checked
 surveyed f ms = cond (loose ms) (checked.File f (pathNodes ms)) checked.Broken
 
--- the lane of the first network
-abbrev pub Here : List ℕ → List Bits → Type 0
-Here c [] = Unit
-Here c (q ∷ ms) = (hereOf c < lanesOf c) × (laneAt c (hereOf c) .len ≡ length q)
-
-pub record Stream (d : List ℕ) (f : ℕ) (c : List ℕ) (ms : List Bits) : Type 0 where
+pub record Flow (d : List ℕ) (f : ℕ) (c : List ℕ) (ms : List Bits) : Type 0 where
   pub n : ℕ
   pub entries : Entries d f n
   pub lanes : Lanes d f n c ms
+  pub live : (j : ℕ) → j < lanesOf c → Live (laneAt c j)
+  pub sorted : Sorted c 0
   pub rises : rising ms ≡ true
-
-pub record Flow (d : List ℕ) (f : ℕ) (c : List ℕ) (ms : List Bits) : Type 0 where
-  pub stream : Stream d f c ms
-  pub here : Here c ms
 
 -- and the network last is q, behind which they come
 pub record Behind (d : List ℕ) (f : ℕ) (c : List ℕ) (last : Net) (q : Bits) (ms : List Bits) : Type 0 where
-  pub stream : Stream d f c ms
+  pub flow : Flow d f c ms
   pub net : last ≡ netFrom f q
   pub short : length q ≤ width f

@@ -6,19 +6,18 @@ ghost use lib.ListN.{length};
 ghost use Rattle.nets.specs.Bits.{Bits};
 ghost use Rattle.setfile_format.specs.Files.{fileBytes, networksIn};
 ghost use Rattle.address_order.specs.Streams.{inAddressOrder};
-ghost use Rattle.setfile_lanes.specs.Lanes.{lanesOf, Least, Onward, Ordered};
-ghost use Rattle.setfile_order.specs.Flow.{headAs, Stream, Behind, Flow};
+ghost use Rattle.setfile_lanes.specs.Lanes.{Onward, Ordered};
+ghost use Rattle.setfile_order.specs.Flow.{headAs, Behind, Flow};
 use crate::Head;
 use address_order::sharing::shared;
 use nets::Net;
 use setfile_entries::reading;
 use setfile_lanes::lanes::CURSORS;
-use setfile_lanes::lanes::HERE;
 use setfile_lanes::lanes::LANES;
 use setfile_lanes::lanes::Lane;
 use setfile_lanes::lanes::lane_at;
-use setfile_lanes::lanes::least;
-use setfile_lanes::lanes::put_lane;
+use setfile_lanes::lanes::rank;
+use setfile_lanes::lanes::sink;
 use setfile_lanes::lining::line_up;
 
 // The lane behind its next entry.
@@ -46,23 +45,25 @@ fn onward(bytes: &[u8], family: u8, x: Lane) -> Lane
     }
 }
 
-// The lane of the head goes on behind it.
+// The lane of the head, which is the first, goes on behind it and to where it then belongs; without entries it comes last, and is left out.
 pub fn move_on(bytes: &[u8], family: u8, cursors: &mut [u64; CURSORS])
     requires { ⌜ ((q : Bits) × (ms : List Bits) × Flow (now bytes) family (now cursors) (q ∷ ms)) ⌝ }
-    ensures { λ _. ⌜ ((q : Bits) (ms : List Bits) → Flow (now (bytes .entry)) family (now (cursors .entry)) (q ∷ ms) → Stream (now (bytes .entry)) family (now (cursors .exit)) ms) ⌝ }
+    ensures { λ _. ⌜ ((q : Bits) (ms : List Bits) → Flow (now (bytes .entry)) family (now (cursors .entry)) (q ∷ ms) → Flow (now (bytes .entry)) family (now (cursors .exit)) ms) ⌝ }
 {
-    let j = cursors[HERE] as usize;
-    let x = onward(bytes, family, lane_at(cursors, j));
-    put_lane(cursors, j, x);
+    let x = onward(bytes, family, lane_at(cursors, 0));
+    sink(cursors, 0, x);
+    if x.next < x.end {
+        return;
+    }
+    cursors[LANES] = cursors[LANES] - 1;
 }
 
-// The network of lane k, the least, which comes behind the network `last`; or that there is none.
-fn found(family: u8, cursors: &[u64; CURSORS], k: usize, last: Net) -> Head
+// The head, the next network of the first lane, which comes behind the network `last`; or that there is none.
+pub fn head(family: u8, cursors: &[u64; CURSORS], last: Net) -> Head
     requires { ⌜ ((d : List ℕ) × (q : Bits) × (ms : List Bits) × Behind d family (now cursors) last q ms) ⌝ }
-    requires { ⌜ Least (now cursors) (lanesOf (now cursors)) (lanesOf (now cursors)) k ⌝ }
     ensures { λ r. ⌜ ((d : List ℕ) (q : Bits) (ms : List Bits) → Behind d family (now (cursors .entry)) last q ms → r ≡ headAs family q ms) ⌝ }
 {
-    if k as u64 == cursors[LANES] {
+    if cursors[LANES] == 0 {
         return Head {
             deep: 0,
             net: Net {
@@ -73,7 +74,7 @@ fn found(family: u8, cursors: &[u64; CURSORS], k: usize, last: Net) -> Head
             },
         };
     }
-    let x = lane_at(cursors, k);
+    let x = lane_at(cursors, 0);
     let net = Net {
         family,
         hi: x.hi,
@@ -86,25 +87,14 @@ fn found(family: u8, cursors: &[u64; CURSORS], k: usize, last: Net) -> Head
     }
 }
 
-// Finds the head, which comes behind the network `last`.
-pub fn head(family: u8, cursors: &mut [u64; CURSORS], last: Net) -> Head
-    requires { ⌜ ((d : List ℕ) × (q : Bits) × (ms : List Bits) × Behind d family (now cursors) last q ms) ⌝ }
-    ensures { λ r. ⌜ ((d : List ℕ) (q : Bits) (ms : List Bits) → Behind d family (now (cursors .entry)) last q ms
-        → Flow d family (now (cursors .exit)) ms × (r ≡ headAs family q ms)) ⌝ }
-{
-    let k = least(cursors);
-    let h = found(family, cursors, k, last);
-    cursors[HERE] = k as u64;
-    h
-}
-
-// Lines the first n entries up, and gives the head.
+// Lines the first n entries up, sorts the lanes, and gives the head.
 pub fn begin(bytes: &[u8], family: u8, n: usize, cursors: &mut [u64; CURSORS]) -> Head
     requires { ⌜ Ordered (now bytes) family n ⌝ }
     ensures { λ r. ⌜ Flow (now (bytes .entry)) family (now (cursors .exit)) (inAddressOrder (networksIn family (now (bytes .entry)) 0 n))
         × (r ≡ headAs family [] (inAddressOrder (networksIn family (now (bytes .entry)) 0 n))) ⌝ }
 {
     line_up(bytes, family, n, cursors);
+    rank(cursors);
     let all = Net {
         family,
         hi: 0,

@@ -12,4 +12,4 @@ advance-spec =
     (λ c κs.
     let p = c .before .before .before .before .pre in
     (_, _, _, behind-head (p .2) (p .3) (c .before .move-on .ensures (p .0) (p .1) (p .2))))
-    (λ c q ms o e. c .head .ensures _ q ms (behind-head o e (c .before .before .move-on .ensures q ms o))))
+    (λ c q ms o e. let s = c .before .before .move-on .ensures q ms o in (s, c .head .ensures _ q ms (behind-head o e s))))
