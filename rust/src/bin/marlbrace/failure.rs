@@ -1,0 +1,41 @@
+//! What ends the command without its work done.
+use marlbrace::Refusal;
+use std::io;
+use std::process::ExitCode;
+
+pub enum Failure {
+    /// Words that it does not take.
+    Usage(String),
+    /// What went wrong, and where.
+    Wrong(String),
+    /// Nobody reads what is written, as in a pipe to head.
+    Unread,
+}
+
+impl Failure {
+    pub fn refused(place: &str, no: Refusal) -> Failure {
+        let hint = match no {
+            Refusal::OverLimit | Refusal::NoRoom => "; there are 4,194,304 nodes",
+            Refusal::WrongFamily => "; all inputs have to be of one",
+            _ => "",
+        };
+        Failure::Wrong(format!("{place} refused: {no}{hint} ({no:?}, {} in docs/REFUSALS.md)", no.number()))
+    }
+
+    pub fn system(place: &str, error: io::Error) -> Failure {
+        Failure::Wrong(format!("{place}: {error}"))
+    }
+
+    /// Says it on standard error, in one line. Where that cannot be written the status is all that is left.
+    pub fn say(self) -> ExitCode {
+        use io::Write;
+        let mut out = io::stderr();
+        let (line, status) = match self {
+            Failure::Usage(what) => (format!("{what}; --help prints what it takes"), 2),
+            Failure::Wrong(what) => (what, 1),
+            Failure::Unread => return ExitCode::from(1),
+        };
+        let _ = writeln!(out, "marlbrace: {line}");
+        ExitCode::from(status)
+    }
+}

@@ -1,0 +1,141 @@
+//! What an input has: a set file or lines, told by the first byte, which is 0 in a set file and in no line.
+use crate::failure::Failure;
+use crate::progress::Progress;
+use marlbrace::{IpNet, IpRange, Refusal};
+use std::ffi::OsStr;
+use std::fs::File;
+use std::io::{stdin, BufRead, BufReader, Error, Read};
+use std::os::fd::AsFd;
+
+/// The bytes of the longest set file, 4,194,304 entries of IPv6, and one more.
+const FILE: u64 = 16 + 17 * 4_194_304 + 1;
+
+/// No line is longer, its comment included.
+const LONGEST: u64 = 65_536;
+
+/// Lines between two looks at the clock.
+const STEP: u64 = 1024;
+
+pub struct Input {
+    pub name: String,
+    content: Content,
+}
+
+enum Content {
+    Set(IpRange),
+    Lines { nets: Vec<IpNet>, trimmed: u64 },
+}
+
+impl Input {
+    /// Its networks in a set; what is inside another is left out.
+    pub fn set(self) -> Result<IpRange, Refusal> {
+        match self.content {
+            Content::Set(set) => Ok(set),
+            Content::Lines { nets, .. } => {
+                let mut set = IpRange::new();
+                set.try_extend(nets)?;
+                Ok(set)
+            }
+        }
+    }
+
+    /// Its networks as they stand.
+    pub fn nets(self) -> std::vec::IntoIter<IpNet> {
+        match self.content {
+            Content::Set(set) => set.iter(),
+            Content::Lines { nets, .. } => nets.into_iter(),
+        }
+    }
+
+    /// What kind of input it is.
+    pub fn report(&self) -> String {
+        match &self.content {
+            Content::Set(set) => format!("IPv{} set file", set.family()),
+            Content::Lines { nets, trimmed } => match nets.first() {
+                Some(net) => format!("IPv{} lines, {} read, {trimmed} trimmed", net.family(), nets.len()),
+                None => "no lines".to_string(),
+            },
+        }
+    }
+}
+
+/// Reads inputs that are all of one family: that of the first network or set file.
+pub struct Reader<'a> {
+    lenient: bool,
+    family: Option<u8>,
+    progress: &'a mut Progress,
+}
+
+impl Reader<'_> {
+    pub fn new(lenient: bool, progress: &mut Progress) -> Reader<'_> {
+        Reader { lenient, family: None, progress }
+    }
+
+    pub fn read(&mut self, word: &OsStr) -> Result<Input, Failure> {
+        let name = if word == "-" { "standard input".to_string() } else { word.to_string_lossy().into_owned() };
+        if let Ok((net, trimmed)) = IpNet::read_line(word.as_encoded_bytes()) {
+            self.same_family(net.family()).map_err(|no| Failure::refused(&format!("{name}:"), no))?;
+            return Ok(Input { name, content: Content::Lines { nets: vec![net], trimmed: trimmed as u64 } });
+        }
+        let mut bytes = BufReader::with_capacity(1 << 16, open(word).map_err(|e| Failure::system(&name, e))?);
+        let first = bytes.fill_buf().map_err(|e| Failure::system(&name, e))?.first().copied();
+        let content = if first == Some(0) { self.set_file(&name, bytes)? } else { self.lines(&name, bytes)? };
+        Ok(Input { name, content })
+    }
+
+    fn set_file(&mut self, name: &str, bytes: impl Read) -> Result<Content, Failure> {
+        let mut file = Vec::new();
+        bytes.take(FILE).read_to_end(&mut file).map_err(|e| Failure::system(name, e))?;
+        let set = IpRange::from_bytes(&file).and_then(|set| self.same_family(set.family()).map(|()| set));
+        Ok(Content::Set(set.map_err(|no| Failure::refused(&format!("{name}:"), no))?))
+    }
+
+    fn lines(&mut self, name: &str, mut bytes: impl BufRead) -> Result<Content, Failure> {
+        let (mut nets, mut trimmed, mut number, mut line) = (Vec::new(), 0, 0u64, Vec::new());
+        while bytes.by_ref().take(LONGEST).read_until(b'\n', &mut line).map_err(|e| Failure::system(name, e))? > 0 {
+            number += 1;
+            if number % STEP == 0 {
+                self.progress.say(|| format!("{name}: {number} lines"));
+            }
+            if let Some((net, cut)) = self.line(&line).map_err(|no| Failure::refused(&format!("{name}: line {number}"), no))? {
+                nets.push(net);
+                trimmed += cut as u64;
+            }
+            line.clear();
+        }
+        Ok(Content::Lines { nets, trimmed })
+    }
+
+    /// The network of a line and whether it was trimmed; nothing for a line that a lenient reading passes over.
+    fn line(&mut self, line: &[u8]) -> Result<Option<(IpNet, bool)>, Refusal> {
+        let text = line.strip_suffix(b"\n").unwrap_or(line);
+        let text = if self.lenient { bare(text) } else { text };
+        if self.lenient && text.is_empty() {
+            return Ok(None);
+        }
+        let (net, cut) = IpNet::read_line(text)?;
+        self.same_family(net.family())?;
+        Ok(Some((net, cut)))
+    }
+
+    fn same_family(&mut self, family: u8) -> Result<(), Refusal> {
+        match self.family.replace(family) {
+            Some(other) if other != family => Err(Refusal::WrongFamily),
+            _ => Ok(()),
+        }
+    }
+}
+
+/// A line without its comment and the blanks around it, a carriage return included.
+fn bare(line: &[u8]) -> &[u8] {
+    line.split(|&byte| byte == b'#').next().unwrap_or(line).trim_ascii()
+}
+
+/// A closed standard input has to fail: `Stdin` would take it for an empty one.
+fn open(word: &OsStr) -> Result<File, Error> {
+    if word == "-" {
+        stdin().as_fd().try_clone_to_owned().map(File::from)
+    } else {
+        File::open(word)
+    }
+}

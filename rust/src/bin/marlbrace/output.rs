@@ -1,0 +1,94 @@
+//! Where the result goes: standard output, or a file that is replaced when the new one is whole.
+use crate::failure::Failure;
+use marlbrace::{IpNet, IpRange, LINE};
+use std::ffi::{OsStr, OsString};
+use std::fs::{self, File};
+use std::io::{self, stdout, BufWriter, ErrorKind, Write};
+use std::os::fd::AsFd;
+use std::path::{Path, PathBuf};
+
+pub struct Output {
+    name: String,
+    file: Option<PathBuf>,
+}
+
+impl Output {
+    pub fn standard() -> Output {
+        Output { name: "standard output".to_string(), file: None }
+    }
+
+    pub fn to(word: Option<&OsStr>) -> Output {
+        match word {
+            Some(word) if word != "-" => Output { name: word.to_string_lossy().into_owned(), file: Some(word.into()) },
+            _ => Output::standard(),
+        }
+    }
+
+    /// A set, as a set file or as lines.
+    pub fn set(&self, set: &IpRange, as_file: bool) -> Result<(), Failure> {
+        if as_file {
+            self.write(|out| out.write_all(&set.to_vec()))
+        } else {
+            self.lines(set.iter())
+        }
+    }
+
+    pub fn lines(&self, nets: impl Iterator<Item = IpNet>) -> Result<(), Failure> {
+        let mut no = None;
+        let written = self.write(|out| {
+            let mut line = [0; LINE];
+            for net in nets {
+                let text = net.write_line(&mut line).map_err(|refusal| {
+                    no = Some(refusal);
+                    io::Error::from(ErrorKind::InvalidData)
+                })?;
+                out.write_all(text)?;
+                out.write_all(b"\n")?;
+            }
+            Ok(())
+        });
+        match no {
+            Some(refusal) => Err(Failure::refused(&format!("{}:", self.name), refusal)),
+            None => written,
+        }
+    }
+
+    pub fn write(&self, work: impl FnOnce(&mut dyn Write) -> io::Result<()>) -> Result<(), Failure> {
+        let done = match &self.file {
+            None => to_standard(work),
+            Some(file) => replace(file, work),
+        };
+        done.map_err(|error| match (&self.file, error.kind()) {
+            (None, ErrorKind::BrokenPipe) => Failure::Unread,
+            _ => Failure::system(&self.name, error),
+        })
+    }
+}
+
+/// A closed standard output has to fail: `Stdout` would lose what is written.
+fn to_standard(work: impl FnOnce(&mut dyn Write) -> io::Result<()>) -> io::Result<()> {
+    fill(File::from(stdout().as_fd().try_clone_to_owned()?), work).map(|_| ())
+}
+
+fn fill(file: File, work: impl FnOnce(&mut dyn Write) -> io::Result<()>) -> io::Result<File> {
+    let mut out = BufWriter::with_capacity(1 << 16, file);
+    work(&mut out)?;
+    out.into_inner().map_err(|error| error.into_error())
+}
+
+/// Writes beside the file that the name leads to, and renames. What is no regular file, as a device or a pipe, is written to where it stands, and so is a link
+/// to nothing.
+fn replace(name: &Path, work: impl FnOnce(&mut dyn Write) -> io::Result<()>) -> io::Result<()> {
+    if fs::metadata(name).is_ok_and(|found| !found.is_file()) {
+        return fill(File::options().write(true).open(name)?, work).map(|_| ());
+    }
+    let target = match fs::canonicalize(name) {
+        Ok(target) => target,
+        Err(_) if name.is_symlink() => return fill(File::create(name)?, work).map(|_| ()),
+        Err(_) => name.to_path_buf(),
+    };
+    let mut beside = OsString::from(&target);
+    beside.push(format!(".new-{}", std::process::id()));
+    let whole = fill(File::create_new(&beside)?, work).and_then(|new| new.sync_all()).and_then(|()| fs::rename(&beside, &target));
+    whole.inspect_err(|_| drop(fs::remove_file(&beside)))
+}

@@ -1,0 +1,112 @@
+//! Set files of networks that come in any order: their entries one behind the other, which [`right`] makes a right file of.
+use crate::net::Row;
+use crate::{IpNet, Refusal};
+
+/// The most networks that a set can have: a list of m networks has at least 2m - 1 nodes, and a pool at most 4,194,304. A file has room for twice as many, so
+/// for a set's networks and as many others.
+const MOST: usize = 2_097_152;
+
+const HEADER: usize = 16;
+
+/// The right file of the networks of a file and of others, in any order: what is inside another is left out, so the list is that of adding them one by one.
+pub(crate) fn with_others(mut file: Vec<u8>, others: impl Iterator<Item = IpNet>) -> Result<Vec<u8>, Refusal> {
+    let family = file[3];
+    let mut fresh = 0;
+    for net in others {
+        if net.family() != family {
+            return Err(Refusal::WrongFamily);
+        }
+        if fresh == MOST {
+            file = right(&file)?;
+            fresh = 0;
+        }
+        push(&mut file, &net.row());
+        fresh += 1;
+    }
+    right(&file)
+}
+
+/// The file of no network.
+pub(crate) fn none(family: u8) -> Vec<u8> {
+    [family as u32, 0, HEADER as u32, HEADER as u32].iter().flat_map(|number| number.to_be_bytes()).collect()
+}
+
+/// How many whole entries the bytes of a file have.
+pub(crate) fn count(family: u8, file: &[u8]) -> usize {
+    file.len().saturating_sub(HEADER) / size(family)
+}
+
+/// How many bytes an entry has: the address and the length.
+fn size(family: u8) -> usize {
+    if family == 4 {
+        5
+    } else {
+        17
+    }
+}
+
+/// How many bytes a file of so many entries has.
+pub(crate) fn bytes(family: u8, entries: usize) -> usize {
+    HEADER + size(family) * entries
+}
+
+fn push(file: &mut Vec<u8>, n: &Row) {
+    let address = n.address().to_be_bytes();
+    file.extend_from_slice(&address[17 - size(n.family)..]);
+    file.push(n.len);
+}
+
+/// The right file of entries in any order. Beyond what any set can have it is refused as the set would be.
+fn right(file: &[u8]) -> Result<Vec<u8>, Refusal> {
+    let family = file[3];
+    let mut nets: Vec<(u128, u8)> = file[HEADER..].chunks_exact(size(family)).map(entry).collect();
+    nets.sort_unstable();
+    // in the order of addresses what is inside a network follows it
+    let mut last: Option<IpNet> = None;
+    nets.retain(|&(address, len)| {
+        let net = Row::at(family, address, len).net();
+        let apart = last.is_none_or(|outer| !outer.contains(net));
+        if apart {
+            last = Some(net);
+        }
+        apart
+    });
+    if nets.len() > MOST {
+        return Err(Refusal::OverLimit);
+    }
+    nets.sort_unstable_by_key(|&(address, len)| (len, address));
+    let mut out = none(family);
+    nets.iter().for_each(|&(address, len)| push(&mut out, &Row::at(family, address, len)));
+    let total = out.len() as u32;
+    out[4..8].copy_from_slice(&(nets.len() as u32).to_be_bytes());
+    out[12..16].copy_from_slice(&total.to_be_bytes());
+    Ok(out)
+}
+
+fn entry(bytes: &[u8]) -> (u128, u8) {
+    let (address, len) = bytes.split_at(bytes.len() - 1);
+    (address.iter().fold(0, |number, &byte| number << 8 | byte as u128), len[0])
+}
+
+#[cfg(test)]
+mod tests {
+    use super::*;
+
+    #[test]
+    fn disorder_and_networks_inside_others() {
+        let nets = ["10.1.0.0/16", "192.168.0.0/24", "10.0.0.0/8", "10.0.0.0/9", "9.0.0.0/8", "10.0.0.0/8"].map(|line| line.parse().unwrap());
+        let file = with_others(none(4), nets.into_iter()).unwrap();
+        assert_eq!(file, [0, 0, 0, 4, 0, 0, 0, 3, 0, 0, 0, 16, 0, 0, 0, 31, 9, 0, 0, 0, 8, 10, 0, 0, 0, 8, 192, 168, 0, 0, 24]);
+        assert_eq!((count(4, &file), bytes(4, 3)), (3, 31));
+        assert_eq!(with_others(file.clone(), std::iter::empty()), Ok(file));
+    }
+
+    #[test]
+    fn the_whole_space_alone() {
+        let all = IpNet::new(std::net::Ipv6Addr::UNSPECIFIED, 0).unwrap();
+        let last = IpNet::from(std::net::Ipv6Addr::from(u128::MAX));
+        let file = with_others(none(6), [last, all].into_iter()).unwrap();
+        assert_eq!((count(6, &file), file.len(), file[32]), (1, 33, 0));
+        assert_eq!(with_others(none(4), [all].into_iter()), Err(Refusal::WrongFamily));
+    }
+}

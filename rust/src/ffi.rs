@@ -1,0 +1,171 @@
+//! The calls of include/marlbrace.h. This file alone has unsafe code; every call is safe for any memory, so a wrapper hands over a slice as pointer and
+//! length.
+use crate::net::Row;
+use crate::{entries, IpNet, Refusal};
+
+#[link(name = "marlbrace", kind = "static")]
+extern "C" {
+    fn marlbrace_words(sets: u32, nodes: u32) -> u64;
+    fn marlbrace_layout(
+        pool: *mut u32,
+        pool_len: usize,
+        family: u8,
+        sets: u32,
+        nodes: u32,
+        shares: *const u32,
+        shares_len: usize,
+        limits: *const u32,
+        limits_len: usize,
+    ) -> u64;
+    fn marlbrace_free(pool: *const u32, pool_len: usize) -> u64;
+    fn marlbrace_held(pool: *const u32, pool_len: usize, set: u32) -> u64;
+    fn marlbrace_networks(pool: *const u32, pool_len: usize, set: u32) -> u64;
+    fn marlbrace_share(pool: *const u32, pool_len: usize, set: u32) -> u64;
+    fn marlbrace_limit(pool: *const u32, pool_len: usize, set: u32) -> u64;
+    fn marlbrace_add(pool: *mut u32, pool_len: usize, set: u32, family: u8, hi: u64, lo: u64, len: u8) -> u64;
+    fn marlbrace_remove(pool: *mut u32, pool_len: usize, set: u32, family: u8, hi: u64, lo: u64, len: u8) -> u64;
+    fn marlbrace_simplify(pool: *mut u32, pool_len: usize, set: u32) -> u64;
+    fn marlbrace_merge(pool: *mut u32, pool_len: usize, to: u32, first: u32, second: u32) -> u64;
+    fn marlbrace_intersect(pool: *mut u32, pool_len: usize, to: u32, first: u32, second: u32) -> u64;
+    fn marlbrace_exclude(pool: *mut u32, pool_len: usize, to: u32, first: u32, second: u32) -> u64;
+    fn marlbrace_exclude_apart(pool: *mut u32, pool_len: usize, to: u32, first: u32, second: u32) -> u64;
+    fn marlbrace_replan(pool: *mut u32, pool_len: usize, set: u32, share: u32, limit: u32) -> u64;
+    fn marlbrace_load(pool: *mut u32, pool_len: usize, set: u32, file: *const u8, file_len: usize) -> u64;
+    fn marlbrace_contains(pool: *const u32, pool_len: usize, set: u32, family: u8, hi: u64, lo: u64, len: u8) -> u64;
+    fn marlbrace_supernet(pool: *const u32, pool_len: usize, set: u32, family: u8, hi: u64, lo: u64, len: u8, row: *mut [u64; 3]) -> u64;
+    fn marlbrace_is_empty(pool: *const u32, pool_len: usize, set: u32) -> u64;
+    fn marlbrace_equal(pool: *const u32, pool_len: usize, first: u32, second: u32) -> u64;
+    fn marlbrace_list(pool: *const u32, pool_len: usize, set: u32, rows: *mut u64, rows_len: usize) -> u64;
+    fn marlbrace_save(pool: *const u32, pool_len: usize, set: u32, out: *mut u8, out_len: usize) -> u64;
+    fn marlbrace_read_line(line: *const u8, line_len: usize, row: *mut [u64; 3]) -> u64;
+    fn marlbrace_write_line(family: u8, hi: u64, lo: u64, len: u8, out: *mut u8, out_len: usize) -> u64;
+}
+
+/// A granted answer by its parts.
+#[derive(Clone, Copy)]
+pub(crate) struct Granted(u64);
+
+impl Granted {
+    pub fn value(self) -> u32 {
+        self.0 as u32
+    }
+
+    pub fn yes(self) -> bool {
+        self.0 >> 48 & 1 == 1
+    }
+
+    pub fn trimmed(self) -> bool {
+        self.0 >> 49 & 1 == 1
+    }
+}
+
+fn granted(answer: u64) -> Result<Granted, Refusal> {
+    match answer >> 32 & 0xffff {
+        0 => Ok(Granted(answer)),
+        number => Err(Refusal::of(number)),
+    }
+}
+
+type Answer = Result<Granted, Refusal>;
+
+pub(crate) fn words(sets: u32, nodes: u32) -> Result<usize, Refusal> {
+    granted(unsafe { marlbrace_words(sets, nodes) }).map(|a| a.value() as usize)
+}
+
+pub(crate) fn layout(pool: &mut [u32], family: u8, nodes: u32, shares: &[u32], limits: &[u32]) -> Answer {
+    let sets = u32::try_from(shares.len()).unwrap_or(u32::MAX);
+    granted(unsafe { marlbrace_layout(pool.as_mut_ptr(), pool.len(), family, sets, nodes, shares.as_ptr(), shares.len(), limits.as_ptr(), limits.len()) })
+}
+
+macro_rules! reads {
+    ($($name:ident = $call:ident($($arg:ident: $type:ty),*);)*) => { $(
+        pub(crate) fn $name(pool: &[u32] $(, $arg: $type)*) -> Answer {
+            granted(unsafe { $call(pool.as_ptr(), pool.len() $(, $arg)*) })
+        }
+    )* };
+}
+
+reads! {
+    free = marlbrace_free();
+    held = marlbrace_held(set: u32);
+    networks = marlbrace_networks(set: u32);
+    share = marlbrace_share(set: u32);
+    limit = marlbrace_limit(set: u32);
+    is_empty = marlbrace_is_empty(set: u32);
+    equal = marlbrace_equal(first: u32, second: u32);
+}
+
+macro_rules! changes {
+    ($($name:ident = $call:ident($($arg:ident: $type:ty),*);)*) => { $(
+        pub(crate) fn $name(pool: &mut [u32] $(, $arg: $type)*) -> Answer {
+            granted(unsafe { $call(pool.as_mut_ptr(), pool.len() $(, $arg)*) })
+        }
+    )* };
+}
+
+changes! {
+    simplify = marlbrace_simplify(set: u32);
+    merge = marlbrace_merge(to: u32, first: u32, second: u32);
+    intersect = marlbrace_intersect(to: u32, first: u32, second: u32);
+    exclude = marlbrace_exclude(to: u32, first: u32, second: u32);
+    exclude_apart = marlbrace_exclude_apart(to: u32, first: u32, second: u32);
+    replan = marlbrace_replan(set: u32, share: u32, limit: u32);
+}
+
+pub(crate) fn add(pool: &mut [u32], set: u32, n: &Row) -> Answer {
+    granted(unsafe { marlbrace_add(pool.as_mut_ptr(), pool.len(), set, n.family, n.hi, n.lo, n.len) })
+}
+
+pub(crate) fn remove(pool: &mut [u32], set: u32, n: &Row) -> Answer {
+    granted(unsafe { marlbrace_remove(pool.as_mut_ptr(), pool.len(), set, n.family, n.hi, n.lo, n.len) })
+}
+
+pub(crate) fn load(pool: &mut [u32], set: u32, file: &[u8]) -> Answer {
+    granted(unsafe { marlbrace_load(pool.as_mut_ptr(), pool.len(), set, file.as_ptr(), file.len()) })
+}
+
+pub(crate) fn contains(pool: &[u32], set: u32, n: &Row) -> Answer {
+    granted(unsafe { marlbrace_contains(pool.as_ptr(), pool.len(), set, n.family, n.hi, n.lo, n.len) })
+}
+
+pub(crate) fn supernet(pool: &[u32], set: u32, n: &Row) -> Result<Option<Row>, Refusal> {
+    let mut row = [0; 3];
+    let a = granted(unsafe { marlbrace_supernet(pool.as_ptr(), pool.len(), set, n.family, n.hi, n.lo, n.len, &mut row) })?;
+    Ok(a.yes().then(|| row_of(n.family, &row)))
+}
+
+fn row_of(family: u8, row: &[u64]) -> Row {
+    Row { family, hi: row[0], lo: row[1], len: row[2] as u8 }
+}
+
+/// The networks of a set: how many there are is asked first.
+pub(crate) fn list(pool: &[u32], set: u32) -> Result<Vec<IpNet>, Refusal> {
+    let mut rows = vec![0u64; 3 * networks(pool, set)?.value() as usize];
+    granted(unsafe { marlbrace_list(pool.as_ptr(), pool.len(), set, rows.as_mut_ptr(), rows.len()) })?;
+    Ok(rows.chunks_exact(3).map(|row| row_of(family(pool), row).net()).collect())
+}
+
+/// The family of a pool, a word of its header (docs/LAYOUT.md).
+pub(crate) fn family(pool: &[u32]) -> u8 {
+    pool.get(1).map_or(0, |&family| family as u8)
+}
+
+/// The file of a set.
+pub(crate) fn save(pool: &[u32], set: u32) -> Result<Vec<u8>, Refusal> {
+    let mut out = vec![0u8; entries::bytes(family(pool), networks(pool, set)?.value() as usize)];
+    granted(unsafe { marlbrace_save(pool.as_ptr(), pool.len(), set, out.as_mut_ptr(), out.len()) })?;
+    Ok(out)
+}
+
+/// The network of a line, and whether a bit was cut.
+pub(crate) fn read_line(line: &[u8]) -> Result<(Row, bool), Refusal> {
+    let mut row = [0; 3];
+    let a = granted(unsafe { marlbrace_read_line(line.as_ptr(), line.len(), &mut row) })?;
+    Ok((row_of(a.value() as u8, &row), a.trimmed()))
+}
+
+/// Writes the line of a network in front of `out`; answers how many bytes it has.
+pub(crate) fn write_line(n: &Row, out: &mut [u8]) -> Result<usize, Refusal> {
+    let a = granted(unsafe { marlbrace_write_line(n.family, n.hi, n.lo, n.len, out.as_mut_ptr(), out.len()) })?;
+    Ok(a.value() as usize)
+}

@@ -1,0 +1,186 @@
+use crate::{ffi, IpNet, Refusal};
+
+/// The share and the limit of a set, in nodes: what it is sure of, and what it may not pass.
+#[derive(Clone, Copy, Debug, PartialEq, Eq)]
+pub struct Plan {
+    pub share: u32,
+    pub limit: u32,
+}
+
+impl Plan {
+    /// A share and a limit.
+    pub fn new(share: u32, limit: u32) -> Plan {
+        Plan { share, limit }
+    }
+}
+
+/// A pool of sets over words that it owns (`Vec<u32>`) or borrows (`&mut [u32]`).
+#[derive(Clone, Debug)]
+pub struct Pool<W = Vec<u32>> {
+    words: W,
+}
+
+impl Pool<Vec<u32>> {
+    /// A pool of empty sets in words of its own.
+    pub fn new(family: u8, nodes: u32, plans: &[Plan]) -> Result<Pool, Refusal> {
+        let sets = u32::try_from(plans.len()).map_err(|_| Refusal::BadSetup)?;
+        Pool::layout(vec![0; ffi::words(sets, nodes)?], family, nodes, plans)
+    }
+
+    /// How many words a pool of so many sets and nodes needs.
+    pub fn words_needed(sets: u32, nodes: u32) -> Result<usize, Refusal> {
+        ffi::words(sets, nodes)
+    }
+}
+
+impl<W: AsMut<[u32]> + AsRef<[u32]>> Pool<W> {
+    /// Lays out a pool of empty sets in these words; those that it does not need stay as they are.
+    pub fn layout(mut words: W, family: u8, nodes: u32, plans: &[Plan]) -> Result<Pool<W>, Refusal> {
+        let shares: Vec<u32> = plans.iter().map(|p| p.share).collect();
+        let limits: Vec<u32> = plans.iter().map(|p| p.limit).collect();
+        ffi::layout(words.as_mut(), family, nodes, &shares, &limits)?;
+        Ok(Pool { words })
+    }
+
+    /// The pool that stands in these words, which may come from anywhere: refused where it is no sound one.
+    pub fn open(words: W) -> Result<Pool<W>, Refusal> {
+        ffi::free(words.as_ref())?;
+        Ok(Pool { words })
+    }
+
+    /// The words, to be stored or sent.
+    pub fn into_words(self) -> W {
+        self.words
+    }
+
+    /// The family of all its sets, 4 or 6.
+    pub fn family(&self) -> u8 {
+        ffi::family(self.words.as_ref())
+    }
+
+    /// The free nodes.
+    pub fn free(&self) -> Result<u32, Refusal> {
+        ffi::free(self.words.as_ref()).map(|a| a.value())
+    }
+
+    /// A set to read. That there is one shows when it is asked.
+    pub fn set(&self, number: u32) -> Set<'_> {
+        Set { words: self.words.as_ref(), number }
+    }
+
+    /// A set to change.
+    pub fn set_mut(&mut self, number: u32) -> SetMut<'_> {
+        SetMut { words: self.words.as_mut(), number }
+    }
+
+    /// Whether two sets have the same list.
+    pub fn equal(&self, first: u32, second: u32) -> Result<bool, Refusal> {
+        ffi::equal(self.words.as_ref(), first, second).map(|a| a.yes())
+    }
+
+    /// Writes what either set has, simplified, into the empty set `to`; answers its nodes.
+    pub fn merge(&mut self, to: u32, first: u32, second: u32) -> Result<u32, Refusal> {
+        ffi::merge(self.words.as_mut(), to, first, second).map(|a| a.value())
+    }
+
+    /// Writes what both sets have, simplified, into the empty set `to`; answers its nodes.
+    pub fn intersect(&mut self, to: u32, first: u32, second: u32) -> Result<u32, Refusal> {
+        ffi::intersect(self.words.as_mut(), to, first, second).map(|a| a.value())
+    }
+
+    /// Writes what the first set has and the second has not, simplified, into the empty set `to`; answers its nodes.
+    pub fn exclude(&mut self, to: u32, first: u32, second: u32) -> Result<u32, Refusal> {
+        ffi::exclude(self.words.as_mut(), to, first, second).map(|a| a.value())
+    }
+
+    /// The same with the members left apart, as iprange's `exclude` does. With an empty second set it copies the first.
+    pub fn exclude_apart(&mut self, to: u32, first: u32, second: u32) -> Result<u32, Refusal> {
+        ffi::exclude_apart(self.words.as_mut(), to, first, second).map(|a| a.value())
+    }
+}
+
+/// A set of a pool, to be read. A lookup reads its own path alone; the other calls check the whole pool first.
+#[derive(Clone, Copy)]
+pub struct Set<'a> {
+    words: &'a [u32],
+    number: u32,
+}
+
+impl<'a> Set<'a> {
+    /// Whether a member contains the whole network.
+    pub fn contains(&self, net: IpNet) -> Result<bool, Refusal> {
+        ffi::contains(self.words, self.number, &net.row()).map(|a| a.yes())
+    }
+
+    /// The member that contains the whole network.
+    pub fn supernet(&self, net: IpNet) -> Result<Option<IpNet>, Refusal> {
+        Ok(ffi::supernet(self.words, self.number, &net.row())?.map(|row| row.net()))
+    }
+
+    pub fn is_empty(&self) -> Result<bool, Refusal> {
+        ffi::is_empty(self.words, self.number).map(|a| a.yes())
+    }
+
+    /// How many networks it has.
+    pub fn len(&self) -> Result<u32, Refusal> {
+        ffi::networks(self.words, self.number).map(|a| a.value())
+    }
+
+    /// How many nodes its list takes.
+    pub fn nodes(&self) -> Result<u32, Refusal> {
+        ffi::held(self.words, self.number).map(|a| a.value())
+    }
+
+    /// Its share and its limit.
+    pub fn plan(&self) -> Result<Plan, Refusal> {
+        Ok(Plan { share: ffi::share(self.words, self.number)?.value(), limit: ffi::limit(self.words, self.number)?.value() })
+    }
+
+    /// Its networks, the shorter lengths first, then by address. They are listed in one pass, so the iterator is cheap.
+    pub fn iter(&self) -> Result<std::vec::IntoIter<IpNet>, Refusal> {
+        Ok(ffi::list(self.words, self.number)?.into_iter())
+    }
+
+    /// Its set file.
+    pub fn to_vec(&self) -> Result<Vec<u8>, Refusal> {
+        ffi::save(self.words, self.number)
+    }
+}
+
+/// A set of a pool, to be changed. Each change answers the nodes of the set.
+pub struct SetMut<'a> {
+    words: &'a mut [u32],
+    number: u32,
+}
+
+impl SetMut<'_> {
+    /// The same set, to be read.
+    pub fn as_set(&self) -> Set<'_> {
+        Set { words: self.words, number: self.number }
+    }
+
+    /// Adds a network: where no member contains it, the members inside it go and it joins.
+    pub fn add(&mut self, net: IpNet) -> Result<u32, Refusal> {
+        ffi::add(self.words, self.number, &net.row()).map(|a| a.value())
+    }
+
+    /// Removes a network: the members inside it go, and one that contains it gives way to the blocks beside it.
+    pub fn remove(&mut self, net: IpNet) -> Result<u32, Refusal> {
+        ffi::remove(self.words, self.number, &net.row()).map(|a| a.value())
+    }
+
+    /// Joins the halves of each block: afterwards the set has the shortest list of the same addresses.
+    pub fn simplify(&mut self) -> Result<u32, Refusal> {
+        ffi::simplify(self.words, self.number).map(|a| a.value())
+    }
+
+    /// Gives the set, which must be empty, the list of a set file.
+    pub fn from_bytes(&mut self, file: &[u8]) -> Result<u32, Refusal> {
+        ffi::load(self.words, self.number, file).map(|a| a.value())
+    }
+
+    /// Another share and limit, in place.
+    pub fn replan(&mut self, plan: Plan) -> Result<u32, Refusal> {
+        ffi::replan(self.words, self.number, plan.share, plan.limit).map(|a| a.value())
+    }
+}

@@ -1,0 +1,329 @@
+use crate::{entries, IpNet, Plan, Pool, Refusal};
+use std::fmt;
+
+/// The most nodes that a pool has; few for the tests of this file, so that sets soon have to be combined in parts.
+const MOST: u32 = if cfg!(test) { 4096 } else { 4_194_304 };
+
+/// The nodes of a new set.
+const FEW: u32 = 64;
+
+/// One set of networks of one family, in a pool of its own that grows as it needs to, with the names of the crate iprange.
+///
+/// ```
+/// use marlbrace::{IpNet, IpRange};
+///
+/// # fn main() -> Result<(), marlbrace::Refusal> {
+/// let guests: IpRange = ["192.168.1.0/24", "10.9.8.7/8", "192.168.0.0/24"].iter().map(|line| line.parse::<IpNet>()).collect::<Result<_, _>>()?;
+/// let closed: IpRange = ["10.0.0.0/9".parse::<IpNet>()?].into_iter().collect();
+/// let open = guests.exclude(&closed)?;
+/// let lines: Vec<String> = open.iter().map(|net| net.to_string()).collect();
+/// assert_eq!(lines, ["10.128.0.0/9", "192.168.0.0/23"]);
+/// assert!(open.contains("192.168.1.7/32".parse()?));
+/// # Ok(())
+/// # }
+/// ```
+///
+/// A set has at most 4,194,304 nodes ([`IpRange::nodes`]): that is 2,097,152 networks side by side, or about 280,000 single addresses far apart. What would
+/// have more is refused with [`Refusal::OverLimit`] or [`Refusal::NoRoom`], and nothing has changed. `collect` and `extend` have no way to say so and panic;
+/// [`IpRange::try_from_iter`] and [`IpRange::try_extend`] answer it.
+///
+/// An empty set has either family: it takes that of the first network. Where two families meet the call is refused with [`Refusal::WrongFamily`].
+#[derive(Clone)]
+pub struct IpRange {
+    pool: Pool,
+}
+
+impl IpRange {
+    /// An empty set.
+    pub fn new() -> IpRange {
+        IpRange { pool: one_set(4, FEW).expect("a layout within the rules") }
+    }
+
+    /// Adds a network: where no member contains it, the members inside it go and it joins. Each call checks the whole set; many networks are better added by
+    /// [`IpRange::try_extend`], all at once.
+    pub fn add(&mut self, net: IpNet) -> Result<(), Refusal> {
+        if net.family() != self.family() && self.is_empty() {
+            self.pool = one_set(net.family(), FEW)?;
+        }
+        self.change(|pool| pool.set_mut(0).add(net))
+    }
+
+    /// Removes a network: the members inside it go, and one that contains it gives way to the blocks beside it.
+    ///
+    /// ```
+    /// # use marlbrace::IpRange;
+    /// # fn main() -> Result<(), marlbrace::Refusal> {
+    /// let mut all = IpRange::new();
+    /// all.add("0.0.0.0/0".parse()?)?;
+    /// all.remove("0.0.0.0/1".parse()?)?;
+    /// assert_eq!(all.iter().next(), Some("128.0.0.0/1".parse()?));
+    /// # Ok(())
+    /// # }
+    /// ```
+    pub fn remove(&mut self, net: IpNet) -> Result<(), Refusal> {
+        if net.family() != self.family() && self.is_empty() {
+            return Ok(());
+        }
+        self.change(|pool| pool.set_mut(0).remove(net))
+    }
+
+    /// Joins the halves of each block: afterwards the set has the shortest list of the same addresses.
+    pub fn simplify(&mut self) {
+        self.pool.set_mut(0).simplify().expect(SOUND);
+    }
+
+    /// Whether a member contains the whole network. Two halves do not contain their block until they are simplified.
+    pub fn contains(&self, net: IpNet) -> bool {
+        net.family() == self.family() && self.pool.set(0).contains(net).expect(SOUND)
+    }
+
+    /// The member that contains the whole network.
+    pub fn supernet(&self, net: IpNet) -> Option<IpNet> {
+        if net.family() != self.family() {
+            return None;
+        }
+        self.pool.set(0).supernet(net).expect(SOUND)
+    }
+
+    /// What either set has, simplified.
+    pub fn merge(&self, other: &IpRange) -> Result<IpRange, Refusal> {
+        let mut both = self.clone();
+        both.try_extend(other)?;
+        both.simplify();
+        Ok(both)
+    }
+
+    /// What both sets have, simplified.
+    pub fn intersect(&self, other: &IpRange) -> Result<IpRange, Refusal> {
+        self.combine_parts(other, IpNet::all(self.family()), |pool| pool.intersect(0, 1, 2))
+    }
+
+    /// What this set has and the other has not, simplified.
+    pub fn exclude(&self, other: &IpRange) -> Result<IpRange, Refusal> {
+        self.combine_parts(other, IpNet::all(self.family()), |pool| pool.exclude(0, 1, 2))
+    }
+
+    /// The same with the members left apart, as iprange's `exclude` does. Here the nodes of the two sets and of the result are together at most 4,194,304.
+    pub fn exclude_apart(&self, other: &IpRange) -> Result<IpRange, Refusal> {
+        self.combine(other, |pool| pool.exclude_apart(0, 1, 2))
+    }
+
+    /// Its networks, the shorter lengths first, then by address.
+    pub fn iter(&self) -> std::vec::IntoIter<IpNet> {
+        self.pool.set(0).iter().expect(SOUND)
+    }
+
+    pub fn is_empty(&self) -> bool {
+        self.pool.set(0).is_empty().expect(SOUND)
+    }
+
+    /// How many networks it has.
+    pub fn len(&self) -> u32 {
+        self.pool.set(0).len().expect(SOUND)
+    }
+
+    /// How many nodes its list takes: the different strings of leading bits of its networks.
+    pub fn nodes(&self) -> u32 {
+        self.pool.set(0).nodes().expect(SOUND)
+    }
+
+    /// 4 or 6. That of an empty set may change.
+    pub fn family(&self) -> u8 {
+        self.pool.family()
+    }
+
+    /// Its set file.
+    pub fn to_vec(&self) -> Vec<u8> {
+        self.pool.set(0).to_vec().expect(SOUND)
+    }
+
+    /// The set of a set file. The file is judged whole: bytes that break a rule are refused.
+    pub fn from_bytes(file: &[u8]) -> Result<IpRange, Refusal> {
+        let family = if file.get(3) == Some(&6) { 6 } else { 4 };
+        with_room(usual_nodes(family, entries::count(family, file)), |nodes| {
+            let mut pool = one_set(family, nodes)?;
+            pool.set_mut(0).from_bytes(file)?;
+            Ok(IpRange { pool })
+        })
+    }
+
+    /// The set of networks in any order, built at once and simplified, as iprange's `collect` does. An empty set that is extended takes them as they are.
+    pub fn try_from_iter(nets: impl IntoIterator<Item = IpNet>) -> Result<IpRange, Refusal> {
+        let mut set = IpRange::new();
+        set.try_extend(nets)?;
+        set.simplify();
+        Ok(set)
+    }
+
+    /// Adds networks in any order, all or none: the list that adding them one by one gives, built at once.
+    pub fn try_extend(&mut self, nets: impl IntoIterator<Item = IpNet>) -> Result<(), Refusal> {
+        let mut nets = nets.into_iter().peekable();
+        let Some(first) = nets.peek() else { return Ok(()) };
+        let file = if self.is_empty() { entries::none(first.family()) } else { self.to_vec() };
+        *self = IpRange::from_bytes(&entries::with_others(file, nets)?)?;
+        Ok(())
+    }
+
+    /// Does a change, in a larger pool where it is refused for its nodes.
+    fn change(&mut self, call: impl Fn(&mut Pool) -> Result<u32, Refusal>) -> Result<(), Refusal> {
+        match call(&mut self.pool) {
+            Err(Refusal::OverLimit) => {
+                let (family, file) = (self.family(), self.to_vec());
+                self.pool = with_room(2 * self.nodes() as u64, |nodes| {
+                    let mut pool = one_set(family, nodes)?;
+                    pool.set_mut(0).from_bytes(&file)?;
+                    call(&mut pool)?;
+                    Ok(pool)
+                })?;
+                Ok(())
+            }
+            done => done.map(|_| ()),
+        }
+    }
+
+    /// Combines what the sets have in a block. Where that and the result are too much for one pool it is done for the halves of the block, and simplifying joins
+    /// what they give.
+    fn combine_parts(&self, other: &IpRange, block: IpNet, call: Call) -> Result<IpRange, Refusal> {
+        match (self.combine(other, call), block.halves()) {
+            (Err(Refusal::OverLimit | Refusal::NoRoom), Some(halves)) => {
+                let mut nets = Vec::new();
+                for half in halves {
+                    nets.extend(&self.inside(half)?.combine_parts(&other.inside(half)?, half, call)?);
+                }
+                IpRange::try_from_iter(nets)
+            }
+            (done, _) => done,
+        }
+    }
+
+    /// What it has in a block.
+    fn inside(&self, block: IpNet) -> Result<IpRange, Refusal> {
+        let part = |net: IpNet| if net.contains(block) { Some(block) } else { block.contains(net).then_some(net) };
+        let mut set = IpRange::new();
+        set.try_extend(self.iter().filter_map(part))?;
+        Ok(set)
+    }
+
+    /// Combines this set, number 1 of a pool, and the other, number 2, into number 0.
+    fn combine(&self, other: &IpRange, call: Call) -> Result<IpRange, Refusal> {
+        let family = if self.is_empty() { other.family() } else { self.family() };
+        let files = [self, other].map(|set| if set.is_empty() { entries::none(family) } else { set.to_vec() });
+        let nodes = 2 * self.nodes() as u64 + 3 * other.nodes() as u64;
+        let result = with_room(nodes, |nodes| {
+            let mut pool = Pool::new(family, nodes, &[Plan::new(0, nodes); 3])?;
+            pool.set_mut(1).from_bytes(&files[0])?;
+            pool.set_mut(2).from_bytes(&files[1])?;
+            call(&mut pool)?;
+            pool.set(0).to_vec()
+        })?;
+        IpRange::from_bytes(&result)
+    }
+}
+
+/// A call that combines two sets of a pool.
+type Call = fn(&mut Pool) -> Result<u32, Refusal>;
+
+/// Why a call cannot be refused: no one else has the words of the pool.
+const SOUND: &str = "the pool is sound and has this set";
+
+/// A pool of one empty set that may have all nodes.
+fn one_set(family: u8, nodes: u32) -> Result<Pool, Refusal> {
+    Pool::new(family, nodes, &[Plan::new(0, nodes)])
+}
+
+/// The nodes that so many networks of a routing table take (docs/BENCHMARK.md).
+fn usual_nodes(family: u8, networks: usize) -> u64 {
+    networks as u64 * if family == 4 { 3 } else { 8 }
+}
+
+/// Works in pools of more and more nodes until the work is not refused for them, or a pool has no more.
+fn with_room<T>(nodes: u64, work: impl Fn(u32) -> Result<T, Refusal>) -> Result<T, Refusal> {
+    let mut nodes = nodes.clamp(FEW as u64, MOST as u64) as u32;
+    loop {
+        match work(nodes) {
+            Err(Refusal::OverLimit | Refusal::NoRoom) if nodes < MOST => nodes = (2 * nodes).min(MOST),
+            done => return done,
+        }
+    }
+}
+
+impl Default for IpRange {
+    fn default() -> IpRange {
+        IpRange::new()
+    }
+}
+
+/// Two sets are equal where their lists are. Of the same addresses there are several lists, but only one that is simplified.
+impl PartialEq for IpRange {
+    fn eq(&self, other: &IpRange) -> bool {
+        self.is_empty() && other.is_empty() || self.to_vec() == other.to_vec()
+    }
+}
+
+impl Eq for IpRange {}
+
+/// Simplifies, as iprange does. Panics where the networks are of two families or more than fit; see [`IpRange::try_from_iter`].
+impl FromIterator<IpNet> for IpRange {
+    fn from_iter<I: IntoIterator<Item = IpNet>>(nets: I) -> IpRange {
+        IpRange::try_from_iter(nets).unwrap_or_else(|no| panic!("IpRange: {no}"))
+    }
+}
+
+/// Does not simplify. Panics where the networks are of two families or more than fit; see [`IpRange::try_extend`].
+impl Extend<IpNet> for IpRange {
+    fn extend<I: IntoIterator<Item = IpNet>>(&mut self, nets: I) {
+        self.try_extend(nets).unwrap_or_else(|no| panic!("IpRange: {no}"))
+    }
+}
+
+impl IntoIterator for &IpRange {
+    type Item = IpNet;
+    type IntoIter = std::vec::IntoIter<IpNet>;
+    fn into_iter(self) -> Self::IntoIter {
+        self.iter()
+    }
+}
+
+impl fmt::Debug for IpRange {
+    fn fmt(&self, f: &mut fmt::Formatter) -> fmt::Result {
+        f.debug_list().entries(self).finish()
+    }
+}
+
+#[cfg(test)]
+mod tests {
+    use super::*;
+    use std::collections::BTreeSet;
+    use std::net::Ipv4Addr;
+
+    fn set(addresses: &BTreeSet<u32>) -> IpRange {
+        let mut set = IpRange::new();
+        set.extend(addresses.iter().map(|&address| Ipv4Addr::from(address).into()));
+        set
+    }
+
+    /// A fourth of 4,096 addresses: two such sets do not fit in one pool of as many nodes.
+    #[test]
+    fn in_parts_as_by_addresses() {
+        let some = |seed: u32| -> BTreeSet<u32> { (0..4096).filter(|k| (k * k * 7 + k * seed + k / 5) % 1009 < 252).map(|k| 0xc0a8_0000 + k).collect() };
+        let (x, y) = (some(3), some(17));
+        let (a, b) = (set(&x), set(&y));
+        assert!(a.nodes() + b.nodes() > MOST && a.exclude_apart(&b).is_err());
+        assert_eq!(a.intersect(&b), Ok(set(&(&x & &y)).iter().collect()));
+        assert_eq!(a.exclude(&b), Ok(set(&(&x - &y)).iter().collect()));
+        let mut all = IpRange::new();
+        all.add(IpNet::all(4)).unwrap();
+        assert_eq!(all.intersect(&a), Ok(a.iter().collect()));
+        assert_eq!(all.exclude(&a).unwrap().exclude(&all), Ok(IpRange::new()));
+    }
+
+    #[test]
+    fn nothing_changes_where_a_pool_has_no_more_nodes() {
+        let mut full = IpRange::new();
+        let added = (0..4096).map(|k| Ipv4Addr::from(k << 20).into()).take_while(|&net| full.add(net).is_ok()).count();
+        assert_eq!((full.len() as usize, full.nodes() > MOST - 32), (added, true));
+        let before = full.clone();
+        assert_eq!(full.add(Ipv4Addr::from((added as u32) << 20).into()), Err(Refusal::OverLimit));
+        assert_eq!(full, before);
+    }
+}

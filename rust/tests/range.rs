@@ -1,0 +1,138 @@
+//! IpRange: that it grows, that building at once gives what adding one by one gives, and what it does where it cannot go on.
+use marlbrace::{IpNet, IpRange, Refusal};
+use std::collections::BTreeSet;
+use std::net::{Ipv4Addr, Ipv6Addr};
+
+type Done = Result<(), Refusal>;
+
+fn net(line: &str) -> IpNet {
+    line.parse().unwrap()
+}
+
+/// Numbers that look random (SplitMix64).
+struct Random(u64);
+
+impl Random {
+    fn next(&mut self) -> u64 {
+        self.0 = self.0.wrapping_add(0x9e3779b97f4a7c15);
+        let mixed = (self.0 ^ self.0 >> 30).wrapping_mul(0xbf58476d1ce4e5b9);
+        let mixed = (mixed ^ mixed >> 27).wrapping_mul(0x94d049bb133111eb);
+        mixed ^ mixed >> 31
+    }
+
+    /// A network of the family, of any length, most of them close together.
+    fn net(&mut self, family: u8) -> IpNet {
+        let (bits, len) = (self.next(), self.next());
+        match family {
+            4 => IpNet::new(Ipv4Addr::from(bits as u32 & 0xe00000ff), (len % 33) as u8),
+            _ => IpNet::new(Ipv6Addr::from((bits as u128 & 7) << 125 | bits as u128 >> 56), (len % 129) as u8),
+        }
+        .unwrap()
+    }
+}
+
+#[test]
+fn extending_is_adding_one_by_one_and_collecting_simplifies() -> Done {
+    let mut random = Random(1);
+    for (family, count) in [(4, 1), (6, 2), (4, 40), (6, 40), (4, 400), (6, 400)] {
+        let nets: Vec<IpNet> = (0..count).map(|_| random.net(family)).filter(|net| net.prefix_len() > 2).collect();
+        let mut added = IpRange::new();
+        for &net in &nets {
+            added.add(net)?;
+        }
+        let mut extended = IpRange::new();
+        extended.extend(nets.iter().copied().take(count / 3));
+        extended.extend(nets.iter().copied().skip(count / 3));
+        assert_eq!(extended, added);
+        added.simplify();
+        assert_eq!(nets.iter().copied().collect::<IpRange>(), added);
+    }
+    Ok(())
+}
+
+/// By addresses, over the 256 of one block.
+#[test]
+fn combinations_are_those_of_the_addresses() -> Done {
+    let mut random = Random(2);
+    let mut some =
+        || -> Vec<IpNet> { (0..12).map(|_| IpNet::new(Ipv4Addr::from(random.next() as u32 & 255), 26 + (random.next() % 7) as u8).unwrap()).collect() };
+    for _ in 0..50 {
+        let (a, b): (IpRange, IpRange) = (some().into_iter().collect(), some().into_iter().collect());
+        let (x, y) = (addresses(&a), addresses(&b));
+        assert_eq!(addresses(&a.merge(&b)?), &x | &y);
+        assert_eq!(addresses(&a.intersect(&b)?), &x & &y);
+        assert_eq!(addresses(&a.exclude(&b)?), &x - &y);
+        assert_eq!(addresses(&a.exclude_apart(&b)?), &x - &y);
+    }
+    Ok(())
+}
+
+fn addresses(set: &IpRange) -> BTreeSet<u32> {
+    (0..256).filter(|&address| set.contains(Ipv4Addr::from(address).into())).collect()
+}
+
+#[test]
+fn it_grows_as_it_needs_to() -> Done {
+    let mut set = IpRange::new();
+    for k in 0..300u32 {
+        set.add(IpNet::new(Ipv4Addr::from(k << 23), 32)?)?;
+    }
+    assert_eq!(set.len(), 300);
+    let mut all = IpRange::new();
+    all.add(net("0.0.0.0/0"))?;
+    (0..9u32).try_for_each(|k| all.remove(Ipv4Addr::from(k << 28).into()))?;
+    assert_eq!(all.nodes(), all.iter().collect::<IpRange>().nodes());
+    Ok(())
+}
+
+#[test]
+fn beyond_the_most_nodes_it_is_refused_and_stays() -> Done {
+    // 112 nodes of its own for each
+    let many = |count: u128| (0..count).map(|k| Ipv6Addr::from(k << 112 | 1).into());
+    let mut set = IpRange::try_from_iter(many(1))?;
+    let before = set.clone();
+    assert_eq!(set.try_extend(many(40_000)), Err(Refusal::OverLimit));
+    assert_eq!(set, before);
+    Ok(())
+}
+
+#[test]
+fn more_lines_than_a_file_has_are_taken_in_turns() -> Done {
+    let mut set = IpRange::new();
+    set.try_extend((0..2_200_000u32).map(|k| Ipv4Addr::from(k & 0xfff).into()))?;
+    assert_eq!(set.len(), 4096);
+    Ok(())
+}
+
+#[test]
+fn an_empty_set_takes_either_family() -> Done {
+    let mut set = IpRange::new();
+    set.add(Ipv6Addr::LOCALHOST.into())?;
+    assert_eq!((set.family(), set.add(net("10.0.0.0/8"))), (6, Err(Refusal::WrongFamily)));
+    assert!(!set.contains(net("0.0.0.0/32")) && set.supernet(net("0.0.0.0/32")).is_none());
+    set.remove(IpNet::new(Ipv6Addr::UNSPECIFIED, 0)?)?;
+    assert_eq!(set, IpRange::new());
+    set.add(net("10.0.0.0/8"))?;
+    assert_eq!(set.intersect(&IpRange::new())?, IpRange::new());
+    assert_eq!(IpRange::new().merge(&set)?, set);
+    assert_eq!(IpRange::try_from_iter([net("10.0.0.0/8"), Ipv6Addr::LOCALHOST.into()]).err(), Some(Refusal::WrongFamily));
+    Ok(())
+}
+
+#[test]
+fn it_is_walked_like_any_collection() {
+    let set: IpRange = ["10.0.0.0/8", "10.1.0.0/16", "9.0.0.0/8"].into_iter().map(net).collect();
+    let mut seen = Vec::new();
+    for net in &set {
+        seen.push(net.to_string());
+    }
+    assert_eq!(seen, ["9.0.0.0/8", "10.0.0.0/8"]);
+    assert_eq!(format!("{set:?}"), "[9.0.0.0/8, 10.0.0.0/8]");
+    assert_eq!(set.iter().len() as u32, set.len());
+}
+
+#[test]
+#[should_panic(expected = "the family")]
+fn collecting_two_families_panics() {
+    let _: IpRange = [net("10.0.0.0/8"), Ipv6Addr::LOCALHOST.into()].into_iter().collect();
+}

@@ -1,0 +1,168 @@
+//! The worked networks of the scope document, and every refusal that the crate can be given. Expected values are the document's.
+use marlbrace::{IpNet, IpRange, Plan, Pool, Refusal, LINE};
+use std::net::{Ipv4Addr, Ipv6Addr};
+
+type Done = Result<(), Refusal>;
+
+fn net(line: &str) -> IpNet {
+    line.parse().unwrap()
+}
+
+fn nets(lines: &[&str]) -> Vec<IpNet> {
+    lines.iter().map(|line| net(line)).collect()
+}
+
+/// A set of these networks in a pool of 1,000 nodes, number 0 of three.
+fn pool_of(lines: &[&str]) -> Pool {
+    let mut pool = Pool::new(4, 1000, &[Plan::new(300, 1000); 3]).unwrap();
+    for line in lines {
+        pool.set_mut(0).add(net(line)).unwrap();
+    }
+    pool
+}
+
+fn list(pool: &Pool, set: u32) -> Vec<IpNet> {
+    pool.set(set).iter().unwrap().collect()
+}
+
+const HALVES: [&str; 2] = ["192.168.0.0/24", "192.168.1.0/24"];
+
+#[test]
+fn an_empty_set_has_no_supernet() -> Done {
+    assert_eq!(pool_of(&[]).set(0).supernet(net("0.0.0.0/0"))?, None);
+    assert_eq!(IpRange::new().supernet(net("0.0.0.0/0")), None);
+    Ok(())
+}
+
+#[test]
+fn the_whole_space_keeps_others_out() -> Done {
+    let pool = pool_of(&["0.0.0.0/0", "10.0.0.0/8"]);
+    assert_eq!((list(&pool, 0), pool.set(0).nodes()?), (nets(&["0.0.0.0/0"]), 1));
+    Ok(())
+}
+
+#[test]
+fn removing_from_the_whole_space() -> Done {
+    let mut pool = pool_of(&["0.0.0.0/0"]);
+    assert_eq!(pool.set_mut(0).remove(net("0.0.0.0/1")), Ok(2));
+    assert_eq!(list(&pool, 0), nets(&["128.0.0.0/1"]));
+    let mut pool = pool_of(&["0.0.0.0/0"]);
+    assert_eq!(pool.set_mut(0).remove(net("255.255.255.255/32")), Ok(64));
+    assert_eq!(pool.set(0).len(), Ok(32));
+    let mut all = IpRange::new();
+    all.add(IpNet::new(Ipv6Addr::UNSPECIFIED, 0)?)?;
+    all.remove(Ipv6Addr::LOCALHOST.into())?;
+    assert_eq!((all.len(), all.nodes()), (128, 256));
+    Ok(())
+}
+
+#[test]
+fn removing_a_half() -> Done {
+    let mut pool = pool_of(&["192.168.0.0/23"]);
+    assert_eq!(pool.set_mut(0).remove(net("192.168.0.0/24")), Ok(25));
+    assert_eq!(list(&pool, 0), nets(&["192.168.1.0/24"]));
+    Ok(())
+}
+
+#[test]
+fn two_halves_are_no_block_until_simplified() -> Done {
+    let mut pool = pool_of(&HALVES);
+    assert_eq!((pool.set(0).nodes()?, pool.set(0).contains(net("192.168.0.0/23"))?), (26, false));
+    assert_eq!(pool.set_mut(0).simplify(), Ok(24));
+    assert_eq!((list(&pool, 0), pool.set(0).contains(net("192.168.0.0/23"))?), (nets(&["192.168.0.0/23"]), true));
+    Ok(())
+}
+
+#[test]
+fn excluding_nothing() -> Done {
+    let mut pool = pool_of(&HALVES);
+    pool.exclude_apart(2, 0, 1)?;
+    assert_eq!((list(&pool, 2), pool.equal(0, 2)), (nets(&HALVES), Ok(true)));
+    pool.exclude(1, 0, 1)?;
+    assert_eq!(list(&pool, 1), nets(&["192.168.0.0/23"]));
+    let mut halves = IpRange::new();
+    halves.extend(nets(&HALVES));
+    assert_eq!(halves.exclude_apart(&IpRange::new())?, halves);
+    assert_eq!(halves.exclude(&IpRange::new())?.iter().collect::<Vec<_>>(), nets(&["192.168.0.0/23"]));
+    Ok(())
+}
+
+#[test]
+fn combining_the_halves_with_their_block() -> Done {
+    let mut pool = pool_of(&HALVES);
+    pool.set_mut(1).add(net("192.168.0.0/23"))?;
+    assert_eq!(pool.intersect(2, 0, 1), Ok(24));
+    assert_eq!(list(&pool, 2), nets(&["192.168.0.0/23"]));
+    pool.set_mut(2).remove(net("0.0.0.0/0"))?;
+    assert_eq!(pool.merge(2, 0, 1), Ok(24));
+    pool.set_mut(0).remove(net("0.0.0.0/0"))?;
+    assert_eq!((pool.set(0).is_empty(), pool.set(0).nodes(), list(&pool, 0)), (Ok(true), Ok(0), vec![]));
+    Ok(())
+}
+
+#[test]
+fn shares_and_limits() -> Done {
+    let mut words = [0; 880];
+    assert_eq!(Pool::words_needed(2, 100), Ok(words.len()));
+    let mut pool = Pool::layout(&mut words[..], 6, 100, &[Plan::new(40, 60), Plan::new(30, 80)])?;
+    let long = |len| IpNet::new(Ipv6Addr::LOCALHOST, len);
+    assert_eq!(pool.set_mut(1).add(long(60)?), Err(Refusal::NoRoom));
+    assert_eq!(pool.set_mut(1).add(long(79)?), Err(Refusal::NoRoom));
+    assert_eq!(pool.set_mut(1).add(long(80)?), Err(Refusal::OverLimit));
+    assert_eq!(pool.set_mut(1).add(long(59)?), Ok(60));
+    assert_eq!(pool.set_mut(0).add(long(40)?), Err(Refusal::NoRoom));
+    assert_eq!(pool.set_mut(0).add(long(39)?), Ok(40));
+    assert_eq!((pool.free(), pool.set(1).plan()), (Ok(0), Ok(Plan::new(30, 80))));
+    assert_eq!(Pool::open(&mut words[..])?.set(1).nodes(), Ok(60));
+    Ok(())
+}
+
+#[test]
+fn every_refusal() -> Done {
+    let mut pool = pool_of(&HALVES);
+    let file = pool.set(0).to_vec()?;
+    let before = pool.clone().into_words();
+    assert_eq!(Pool::new(5, 100, &[Plan::new(1, 1)]).err(), Some(Refusal::BadSetup));
+    assert_eq!(Pool::new(4, 100, &[]).err(), Some(Refusal::BadSetup));
+    assert_eq!(Pool::open(vec![0; 1000]).err(), Some(Refusal::Damaged));
+    assert_eq!(pool.set_mut(3).add(net("10.0.0.0/8")), Err(Refusal::NoSet));
+    assert_eq!("10.0.0.0".parse::<IpNet>(), Err(Refusal::BadText));
+    assert_eq!(pool.set_mut(1).from_bytes(&file[1..]), Err(Refusal::BadFile));
+    assert_eq!(pool.set(0).contains(Ipv6Addr::LOCALHOST.into()), Err(Refusal::WrongFamily));
+    assert_eq!(IpNet::new(Ipv4Addr::LOCALHOST, 33), Err(Refusal::BadNetwork));
+    assert_eq!(pool.set_mut(0).from_bytes(&file), Err(Refusal::Occupied));
+    assert_eq!(pool.merge(0, 0, 1), Err(Refusal::Occupied));
+    assert_eq!(net("10.0.0.0/8").write_line(&mut [0; 9]), Err(Refusal::ShortBuffer));
+    assert_eq!(pool.set_mut(0).replan(Plan::new(2, 1)), Err(Refusal::BadShare));
+    assert_eq!(pool.into_words(), before);
+    Ok(())
+}
+
+#[test]
+fn set_files_go_back_and_forth() -> Done {
+    let mut pool = pool_of(&["10.0.0.0/8", "192.168.0.0/23"]);
+    let file = pool.set(0).to_vec()?;
+    assert_eq!(file, [0, 0, 0, 4, 0, 0, 0, 2, 0, 0, 0, 16, 0, 0, 0, 26, 10, 0, 0, 0, 8, 192, 168, 0, 0, 23]);
+    assert_eq!(pool.set_mut(1).from_bytes(&file), Ok(32));
+    assert_eq!(IpRange::from_bytes(&file)?.to_vec(), file);
+    Ok(())
+}
+
+#[test]
+fn plans_change_in_place() -> Done {
+    let mut pool = pool_of(&HALVES);
+    assert_eq!(pool.set_mut(0).replan(Plan::new(26, 26)), Ok(26));
+    assert_eq!(pool.set_mut(0).add(net("10.0.0.0/8")), Err(Refusal::OverLimit));
+    assert_eq!(pool.set_mut(0).as_set().plan(), Ok(Plan::new(26, 26)));
+    Ok(())
+}
+
+#[test]
+fn lines_are_read_and_written() -> Done {
+    assert_eq!(IpNet::read_line(b"10.9.8.7/8")?, (net("10.0.0.0/8"), true));
+    assert_eq!(IpNet::read_line(b"10.0.0.0/8")?, (IpNet::new(Ipv4Addr::new(10, 9, 8, 7), 8)?, false));
+    let mut line = [0; LINE];
+    assert_eq!(net("192.168.0.0/23").write_line(&mut line)?, b"192.168.0.0/23");
+    assert_eq!(format!("[{:>12}]", net("10.0.0.0/8")), "[  10.0.0.0/8]");
+    Ok(())
+}
