@@ -51,6 +51,8 @@ pub const EXCLUDE: u8 = 25;
 
 pub const REPLAN: u8 = 26;
 
+pub const MAKE_PUBLIC: u8 = 27;
+
 pub const NEW: u8 = 32;
 
 pub const TO_NETWORK: u8 = 33;

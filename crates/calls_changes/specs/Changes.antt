@@ -1,6 +1,6 @@
 -- What the calls that change the pool answer and leave. w are the pool's words, s the bytes of the call, c its fixed part.
 --
---   changeOf w c        the calls that change a set: 8 to 13, 25 and 26
+--   changeOf w c        the calls that change a set: 8 to 13 and 25 to 27
 --   layoutOf w c s, writeOf w c s     layout, 1, and words written over the pool's, 48
 use mathlib.Core.Bool.{cond}
 use mathlib.Core.List.{List}
@@ -10,7 +10,7 @@ use Rattle.nets.specs.Bits.{Bits}
 use Rattle.nets.specs.Lists.{mergeL, intersectL, differenceL, excludeL}
 use Rattle.nodes.specs.Words.{put}
 use Rattle.pool_state.specs.Rules.{setup, layoutNo, laid}
-use Rattle.pool_state.specs.Changes.{setAt, listAt, planned, planRules}
+use Rattle.pool_state.specs.Changes.{setAt, listAt, planned, planRules, marked, markRules}
 use Rattle.change.specs.Calls.{listWith, listWithout}
 use Rattle.change.specs.Simplified.{listSimple, noArgs}
 use Rattle.combine.specs.Rules.{combineRules}
@@ -32,7 +32,8 @@ changeOf w c =
     (cond (eqb (c .code) 12) (combined intersectL w c)
     (cond (eqb (c .code) 13) (combined excludeL w c)
     (cond (eqb (c .code) 25) (combined differenceL w c)
-    (changed w (c .a) (planRules (c .a) (c .b) (c .c)) (λ S. planned (setAt S (c .a)) (c .b) (c .c)))))))))
+    (cond (eqb (c .code) 26) (changed w (c .a) (planRules (c .a) (c .b) (c .c)) (λ S. planned (setAt S (c .a)) (c .b) (c .c)))
+    (changed w (c .a) (markRules (c .a)) (λ S. marked (setAt S (c .a)))))))))))
 
 -- the shares and the limits that stand in the tail
 abbrev pub sharesOf : Call → List ℕ → List ℕ

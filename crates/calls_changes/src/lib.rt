@@ -13,7 +13,7 @@ use calls_replies::only;
 // A layout has at most 255 shares and 255 limits here.
 const ROW: usize = 255;
 
-// A call that changes a set, by its code; replan is the one that is left.
+// A call that changes a set, by its code; making it public-only is the one that is left.
 pub fn change(pool: &mut [u32], c: Call) -> Reply
     ensures { λ r. ⌜ (r, now (pool .exit)) ≡ changeOf (now (pool .entry)) c ⌝ }
 {
@@ -26,7 +26,8 @@ pub fn change(pool: &mut [u32], c: Call) -> Reply
         table::INTERSECT => of_answer(combine::intersect(pool, c.a, c.b, c.c)),
         table::EXCLUDE_APART => of_answer(combine::exclude_apart(pool, c.a, c.b, c.c)),
         table::EXCLUDE => of_answer(combine::exclude(pool, c.a, c.b, c.c)),
-        _ => of_answer(replan::replan(pool, c.a, c.b, c.c)),
+        table::REPLAN => of_answer(replan::replan(pool, c.a, c.b, c.c)),
+        _ => of_answer(make_public::make_public(pool, c.a)),
     }
 }
 

@@ -38,7 +38,7 @@ table =
     ∷ code 20 kind.Load
     ∷ code 21 kind.Lines
     ∷ codes 22 24 kind.Report
-    ∷ codes 25 26 kind.Change
+    ∷ codes 25 27 kind.Change
     ∷ codes 32 40 kind.Network
     ∷ code 48 kind.WriteWords
     ∷ code 49 kind.ReadWords

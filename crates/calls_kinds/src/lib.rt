@@ -47,7 +47,7 @@ pub fn kind_of(code: u8) -> Kind
         table::LOAD => Kind::Load,
         table::LINES => Kind::Lines,
         table::NTH..=table::PAGE => Kind::Report,
-        table::EXCLUDE..=table::REPLAN => Kind::Change,
+        table::EXCLUDE..=table::MAKE_PUBLIC => Kind::Change,
         table::NEW..=table::WORDS => Kind::Network,
         table::WRITE_WORDS => Kind::WriteWords,
         table::READ_WORDS => Kind::ReadWords,

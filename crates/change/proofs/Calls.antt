@@ -1,8 +1,8 @@
 -- The calls with a network: what `ask` finds, a law for each return, and then the result, counted and written (`Result` of pool's proofs/Returns.antt says what becomes of it).
 -- A change of lists is done on tries (`Works`), so one law serves add and remove. Assumes nothing.
-use mathlib.Core.Path.{_≡_, refl, sym, _∙_}
-use mathlib.Core.Bool.{true}
-use mathlib.Core.List.{List}
+use mathlib.Core.Path.{_≡_, refl, sym, ap, _∙_}
+use mathlib.Core.Bool.{Bool, true}
+use mathlib.Core.List.{List, [], _∷_}
 use Prim.Native.Nat.{ℕ, _+_, _-_, _*_, _≤_, _<_}
 use native.Mathlib.Omega.{arith}
 use lib.ListN.{length, getD}
@@ -25,10 +25,10 @@ use Rattle.nets.proofs.Handing.{length-bitsLeft}
 use Rattle.nets.proofs.Answers.{number-some, prefix-bits, prefix-refused}
 use Rattle.nodes.specs.Segments.{Segment, Spliced}
 use Rattle.nodes.specs.declared.seats.Seat.{Seat}
-use Rattle.pool_state.specs.States.{State, roomOf}
-use Rattle.pool_state.specs.Decode.{decode}
+use Rattle.pool_state.specs.States.{State, roomOf, admits}
+use Rattle.pool_state.specs.Decode.{sound, decode}
 use Rattle.pool_state.specs.Rules.{seatOf}
-use Rattle.pool_state.specs.Changes.{listAt, netRules}
+use Rattle.pool_state.specs.Changes.{setAt, listAt, netRules}
 use Rattle.pool_state.specs.Steps.{Refuses, Surveyed}
 use Rattle.pool_state.specs.declared.Survey.{Survey}
 use Rattle.pool_state.proofs.Claims.{isState-family}
@@ -36,8 +36,9 @@ use Rattle.pool_state.proofs.Decoded.{decode-header, decode-state}
 use Rattle.pool_state.proofs.Seen.{Seen, behind, seen, seen-state, seen-header, seen-figures, trieAt, seen-list, seen-size, seen-segment}
 use Rattle.pool_state.proofs.Changed.{withTrie, gap-asks}
 use Rattle.pool_state.proofs.Returns.{Result, change-seat, change-args, changed, netRules-own, netRules-other}
-use Rattle.change.specs.Steps.{Ready, Asks}
+use Rattle.change.specs.Steps.{Ready, Asks, Admits}
 use Rattle.change.specs.declared.calling.Asked.the-variants.{Go, Refused}
+use Rattle.change.proofs.Admitted.{admits-add, admits-remove}
 use Rattle.trie_insert.proofs.Insertion.{size-insert}
 use Rattle.trie_remove.proofs.Remains.{size-removeT}
 
@@ -79,6 +80,14 @@ works-insert = record { list = listOf-insert; few = λ p t. omega (arith, size-i
 pub works-remove : Works removeT removeL
 works-remove = record { list = listOf-remove; few = λ p t. omega (arith, size-removeT p t) }
 
+-- what is added or removed is clear exactly if the network is, and always
+pub clear-add : {w : List ℕ} {k : ℕ} {n : Net} {v : Survey} {s : PrefixBits} {c : Bool} → Ready w k n v s → Admits w k s c
+    → (S : State) → decode w ≡ sound S → admits (S .family) (setAt S k) (addL (listAt S k) (netBits n)) ≡ c
+clear-add {w} {k} h g S d = admits-add S k (decode-state w S d) _ ∙ ap (λ p. admits (S .family) (setAt S k) (p ∷ [])) (sym (h .bits)) ∙ sym (g S d)
+
+pub clear-remove : (w : List ℕ) (k : ℕ) (n : Net) (S : State) → decode w ≡ sound S → admits (S .family) (setAt S k) (removeL (listAt S k) (netBits n)) ≡ true
+clear-remove w k n S d = admits-remove S k (decode-state w S d) (netBits n)
+
 -- The trie of the set stands in its seat.
 module _ {w : List ℕ} {k : ℕ} {n : Net} {v : Survey} {s : PrefixBits} (h : Ready w k n v s) where
   abbrev pub state : State
@@ -93,14 +102,15 @@ module _ {w : List ℕ} {k : ℕ} {n : Net} {v : Survey} {s : PrefixBits} (h : R
   pub seat-stands : {t : Seat} → t ≡ seatOf w v → Segment w (t .base) (t .first) (t .end) (v .used + 1) trie (behind state k)
   seat-stands q = rw q (seen-segment here)
 
--- what T makes of the trie in the seat t has m nodes
-pub record Counted (T : Bits → Trie → Trie) (L : List Bits → Bits → List Bits) (w : List ℕ) (k : ℕ) (n : Net) (v : Survey) (s : PrefixBits) (t : Seat) (m : ℕ) : Type 0 where
+-- what T makes of the trie in the seat t has m nodes, and c says whether the set may have it as far as its mark goes
+pub record Counted (T : Bits → Trie → Trie) (L : List Bits → Bits → List Bits) (w : List ℕ) (k : ℕ) (n : Net) (v : Survey) (s : PrefixBits) (t : Seat) (c : Bool) (m : ℕ) : Type 0 where
   pub works : Works T L
   pub ready : Ready w k n v s
   pub seat : t ≡ seatOf w v
+  pub clear : (S : State) → decode w ≡ sound S → admits (S .family) (setAt S k) (L (listAt S k) (netBits n)) ≡ c
   pub counts : (x : Trie) (rest : List ℕ) (u : ℕ) → Segment w (t .base) (t .first) (t .end) u x rest → m ≡ size (T (bitsLeft s) x)
 
-module _ {T : Bits → Trie → Trie} {L : List Bits → Bits → List Bits} {w : List ℕ} {k : ℕ} {n : Net} {v : Survey} {s : PrefixBits} {t : Seat} {m : ℕ} (h : Counted T L w k n v s t m) where
+module _ {T : Bits → Trie → Trie} {L : List Bits → Bits → List Bits} {w : List ℕ} {k : ℕ} {n : Net} {v : Survey} {s : PrefixBits} {t : Seat} {c : Bool} {m : ℕ} (h : Counted T L w k n v s t c m) where
   abbrev pub S : State
   S = state (h .ready)
 
@@ -122,9 +132,14 @@ module _ {T : Bits → Trie → Trie} {L : List Bits → Bits → List Bits} {w 
   counted : size new ≡ m
   counted = sym (h .counts old (behind S k) (v .used + 1) result-stands)
 
-  pub result : Result w S k v (netRules n) after new m
-  result =
-      record { seen = sees; right = h .ready .right S (sees .decoded); list = rw (h .works .list (bitsLeft s) old, seen-list sees, h .ready .bits); size = counted }
+  pub result : Result w S k v (netRules n) after new c m
+  result = record {
+    seen = sees;
+    right = h .ready .right S (sees .decoded);
+    list = rw (h .works .list (bitsLeft s) old, seen-list sees, h .ready .bits);
+    public = h .clear S (sees .decoded);
+    size = counted;
+  }
 
   pub result-few : m < 4294967296
   result-few =

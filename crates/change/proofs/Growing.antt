@@ -1,6 +1,7 @@
 -- Adding to a set that is found: what becomes of a result that is counted and judged, and that a pass over the words afterwards finds what is handed back. Assumes
 -- nothing.
 use mathlib.Core.Path.{_≡_, refl}
+use mathlib.Core.Bool.{Bool}
 use mathlib.Core.List.{List}
 use Prim.Native.Nat.{ℕ, _≤_}
 use native.Mathlib.Omega.{arith}
@@ -27,7 +28,7 @@ use Rattle.nodes.specs.declared.seats.Seat.{Seat}
 use Rattle.change.proofs.Calls.{Counted, S, new, sees, result}
 use Rattle.change.proofs.Outcomes.{add-list}
 
-module _ {w : List ℕ} {k : ℕ} {n : Net} {v : Survey} {s : PrefixBits} {t : Seat} {m : ℕ} {r : Verdict} (h : Counted insertT addL w k n v s t m) (j : Judges w k m r) where
+module _ {w : List ℕ} {k : ℕ} {n : Net} {v : Survey} {s : PrefixBits} {t : Seat} {c : Bool} {m : ℕ} {r : Verdict} (h : Counted insertT addL w k n v s t c m) (j : Judges w k c m r) where
   pub grow-refused : (x : Refusal) → r ≡ verdict.No x → Grows w k n (grown.Refused x) w
   grow-refused x e = (result-refused (result h) j x e, refl)
 

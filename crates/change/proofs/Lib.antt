@@ -1,4 +1,5 @@
--- Why: the calls with a network, the report, what their contracts say, adding to a set that is found, and simplifying.
+-- Why: what a public-only set may have, the calls with a network, the report, what their contracts say, adding to a set that is found, and simplifying.
+pub mod Admitted
 pub mod Calls
 pub mod Reported
 pub mod Outcomes

@@ -40,6 +40,7 @@ use Rattle.pool_state.proofs.Judged.{relistNo-known}
 use Rattle.pool_state.proofs.Seen.{Seen, behind, seen-header, seen-figures, trieAt, seen-segment}
 use Rattle.pool_state.proofs.Changed.{withTrie, behind-last, relink-asks, gap-asks}
 use Rattle.pool_state.proofs.Returns.{change-seat, change-granted, changed}
+use Rattle.change.proofs.Admitted.{admits-simplify}
 use Rattle.change.specs.Simplified.{listSimple, noArgs, Simplifies, Shrunk}
 
 -- The trie is simplified where it stands, and a leaf that the emission left is written.
@@ -69,7 +70,7 @@ nodesL-simplify S k = nodesL-listOf (simpleAt S k)
 
 module _ (w : List ℕ) (S : State) (k : ℕ) (d : decode w ≡ sound S) (lt : k < length (S .sets)) where
   trie-size : size (trieAt S k) ≡ held (setAt S k)
-  trie-size = set-size (width (S .family)) (setAt S k) (decode-set w S d k lt .rules)
+  trie-size = set-size (S .family) (setAt S k) (decode-set w S d k lt .rules)
 
   fewer : size (simpleAt S k) ≤ held (setAt S k)
   fewer = omega (arith, size-simplify (trieAt S k), trie-size)
@@ -80,11 +81,11 @@ module _ (w : List ℕ) (S : State) (k : ℕ) (d : decode w ≡ sound S) (lt : k
   in-room : size (simpleAt S k) ≤ roomOf S k
   in-room = omega (arith, fewer, claim-roomOf S k (decode-state w S d) lt)
 
-  -- never refused for the limit or the room
+  -- never refused for the mark, the limit or the room
   grant-simplify : firstNo (grantRules S k (listSimple k S)) ≡ 0
   grant-simplify =
       let n = nodesL-simplify S k in
-      rw (le-ltb (setAt S k .limit) (nodesL (listSimple k S)) (omega (arith, in-limit)), le-ltb (roomOf S k) (nodesL (listSimple k S)) (omega (arith, in-room)))
+      rw (admits-simplify S k (decode-state w S d), le-ltb (setAt S k .limit) (nodesL (listSimple k S)) (omega (arith, in-limit)), le-ltb (roomOf S k) (nodesL (listSimple k S)) (omega (arith, in-room)))
 
   pub relistNo-simplify : relistNo S k [] (simplifyL (listAt S k)) ≡ 0
   relistNo-simplify = relistNo-known S k [] (simplifyL (listAt S k)) lt ∙ grant-simplify

@@ -2,18 +2,20 @@
 --
 --   Ready w k n v s      the call goes on: v is what a pass over the pool found, and s hands out the bits of n
 --   Asks w k n x         it goes on, or x is the refusal of every call with n on set k
+--   Admits w k s c       c says whether set k may have the network with the bits of s, as far as its mark goes
 --   Grows w k n x u      the network n is added to set k of the words w, which leaves u, and x is what a pass over u finds; or x is the refusal, and u is w
 use mathlib.Core.Path.{_≡_}
-use mathlib.Core.List.{List}
+use mathlib.Core.Bool.{Bool}
+use mathlib.Core.List.{List, [], _∷_}
 use Prim.Native.Nat.{ℕ, _≤_}
 use Rattle.nets.specs.Bits.{Bits}
 use Rattle.nets.specs.Networks.{netBits, bitsLeft}
 use Rattle.nets.specs.Refusals.{number, firstNo}
 use Rattle.nets.specs.declared.Net.{Net}
 use Rattle.nets.specs.declared.PrefixBits.{PrefixBits}
-use Rattle.pool_state.specs.States.{State}
+use Rattle.pool_state.specs.States.{State, admits}
 use Rattle.pool_state.specs.Decode.{sound, decode}
-use Rattle.pool_state.specs.Changes.{Relisted, netRules}
+use Rattle.pool_state.specs.Changes.{setAt, Relisted, netRules}
 use Rattle.pool_state.specs.Steps.{Surveyed}
 use Rattle.pool_state.specs.declared.Survey.{Survey}
 use Rattle.change.specs.declared.calling.Asked.{Asked}
@@ -31,6 +33,9 @@ pub record Ready (w : List ℕ) (k : ℕ) (n : Net) (v : Survey) (s : PrefixBits
 abbrev pub Asks : List ℕ → ℕ → Net → Asked → Type 0
 Asks w k n (Go v s) = Ready w k n v s
 Asks w k n (Refused x) = (f : State → List Bits) → Relisted w k (netRules n) f (number x, 0) w
+
+abbrev pub Admits : List ℕ → ℕ → PrefixBits → Bool → Type 0
+Admits w k s c = (S : State) → decode w ≡ sound S → c ≡ admits (S .family) (setAt S k) (bitsLeft s ∷ [])
 
 abbrev pub Grows : List ℕ → ℕ → Net → Grown → List ℕ → Type 0
 Grows w k n (grown.Grew v) u = Added w k n (0, v .held) u × Surveyed u k v

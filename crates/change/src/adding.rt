@@ -1,8 +1,11 @@
 // Adding to a set that a pass over the pool has found. It answers what a pass would find then, so one pass serves any number of networks.
 use crate::calling::Asked;
 use crate::calling::ask_found;
+use inner_nets::walks::is_clear;
 use nets::Net;
+use nets::PrefixBits;
 use nets::Refusal;
+use pool_change::judging::is_public;
 use pool_change::judging::judge;
 use pool_change::relinking::granted;
 use pool_check::claim_at;
@@ -13,7 +16,7 @@ ghost use mathlib.Core.Path.{_≡_};
 ghost use Prim.Native.Nat.{_≤_};
 ghost use Rattle.pool_state.specs.Rules.{shareIn};
 ghost use Rattle.pool_state.specs.Steps.{Surveyed, surveyWith};
-ghost use Rattle.change.specs.Steps.{Grows};
+ghost use Rattle.change.specs.Steps.{Admits, Grows};
 
 // The network is added, with what a pass over the pool finds now; or it is refused, and nothing changed.
 pub enum Grown {
@@ -38,6 +41,17 @@ fn survey_with(pool: &[u32], set: u32, found: Survey, n: u32) -> Survey
     }
 }
 
+// Whether the surveyed set may have the network as far as its mark goes: it is not public-only, or the network overlaps no inner one.
+fn is_admitted(pool: &[u32], set: u32, found: Survey, s: PrefixBits) -> bool
+    requires { ⌜ Surveyed (now pool) set found × (s .len ≤ 128) ⌝ }
+    ensures { λ r. ⌜ Admits (now (pool .entry)) set s r ⌝ }
+{
+    if !is_public(pool, set, found) {
+        return true;
+    }
+    is_clear(s, pool[1])
+}
+
 // Adds a network to the surveyed set. Nothing is read but the network's path, the words of the header and the records.
 pub fn add_found(pool: &mut [u32], set: u32, found: Survey, net: Net) -> Grown
     requires { ⌜ Surveyed (now pool) set found ⌝ }
@@ -47,9 +61,10 @@ pub fn add_found(pool: &mut [u32], set: u32, found: Survey, net: Net) -> Grown
     match asked {
         Asked::Refused(no) => Grown::Refused(no),
         Asked::Go(v, s) => {
+            let clear = is_admitted(pool, set, v, s);
             let at = seat_in(pool, v);
             let n = trie_insert::insert_size(pool, at.base, at.first, at.end, s) as u32;
-            let verdict = judge(pool, set, v, n);
+            let verdict = judge(pool, set, v, clear, n);
             match verdict {
                 Verdict::No(no) => Grown::Refused(no),
                 Verdict::Fits => {

@@ -47,7 +47,8 @@ pub fn add(pool: &mut [u32], set: u32, net: Net) -> Noted
     }
 }
 
-// Removes a network from a set: the members inside it go, and one that contains it gives way to the blocks beside the path. Answers the nodes of the set.
+// Removes a network from a set: the members inside it go, and one that contains it gives way to the blocks beside the path. Answers the nodes of the set. What is left of a public-only set
+// is clear of the inner networks, as it was.
 pub fn remove(pool: &mut [u32], set: u32, net: Net) -> Noted
     ensures { λ r. ⌜ Reports net (Removed (now (pool .entry)) set net) (notedAs r) (now (pool .exit)) ⌝ }
 {
@@ -57,7 +58,7 @@ pub fn remove(pool: &mut [u32], set: u32, net: Net) -> Noted
         Asked::Go(found, s) => {
             let at = seat_in(pool, found);
             let n = trie_remove::remove_size(pool, at.base, at.first, at.end, s) as u32;
-            let verdict = judge(pool, set, found, n);
+            let verdict = judge(pool, set, found, true, n);
             match verdict {
                 Verdict::No(no) => Noted::Refused(no),
                 Verdict::Fits => {

@@ -21,9 +21,9 @@ use Rattle.nets.proofs.Laws.{listOf-difference}
 use Rattle.trie_emit.specs.Combine.{opOf, joined, opOn}
 use Rattle.trie_emit.proofs.Answers.{length-body}
 use Rattle.trie_emit.proofs.Combine.{opOn-union, opOn-common, opOn-difference, opOn-except, size-op}
-use Rattle.pool_state.specs.States.{State, roomOf}
+use Rattle.pool_state.specs.States.{State, roomOf, admits}
 use Rattle.pool_state.specs.Decode.{recordAt, decode}
-use Rattle.pool_state.specs.Changes.{listAt}
+use Rattle.pool_state.specs.Changes.{setAt, listAt}
 use Rattle.pool_state.specs.Steps.{Refuses, Surveyed}
 use Rattle.pool_state.specs.declared.Survey.{Survey}
 use Rattle.pool_state.proofs.Decoded.{decode-header}
@@ -31,7 +31,7 @@ use Rattle.pool_state.proofs.Seen.{Seen, trieAt, seen, seen-figures, seen-empty
 use Rattle.pool_state.proofs.Changed.{withTrie, behind-first, gap-asks}
 use Rattle.pool_state.proofs.Returns.{Result, isEmpty-some, change-seat, change-args, changed}
 use Rattle.combine.specs.Rules.{combineRules}
-use Rattle.combine.specs.Steps.{Operation, merging, intersecting, excluding, excludingApart, combineL, Ready, Asks, sourcesOf, Reads, Writable, written}
+use Rattle.combine.specs.Steps.{Operation, merging, intersecting, excluding, excludingApart, combineL, Ready, Asks, sourcesOf, Reads, Admits, Writable, written}
 use Rattle.combine.specs.declared.asking.Destination.the-variants.{Empty, Refused}
 use Rattle.combine.specs.declared.asking.Sources.{Sources}
 use Rattle.combine.proofs.Sources.{Source, source}
@@ -133,14 +133,18 @@ module _ {w : List ℕ} {to first second : ℕ} {v : Survey} (h : Ready w to fir
         levels = l;
       })
 
--- A combination whose result is counted: it has m nodes.
-pub record Counted (op : ℕ) (w : List ℕ) (to first second : ℕ) (v : Survey) (s : Sources) (m : ℕ) : Type 0 where
+  pub ready-levels : {s : Sources} → s ≡ sourcesOf w first second → width (getD w 1 0) < s .levels
+  ready-levels q = rw q (omega arith)
+
+-- A combination whose result is counted: it has m nodes, and c says whether the destination may have it as far as its mark goes.
+pub record Counted (op : ℕ) (w : List ℕ) (to first second : ℕ) (v : Survey) (s : Sources) (c : Bool) (m : ℕ) : Type 0 where
   pub operation : Operation op
   pub ready : Ready w to first second v
   pub sources : s ≡ sourcesOf w first second
+  pub clear : Admits w op to s v c
   pub count : (t u : Trie) → Reads w s v t u → m ≡ size (opOn op (s .levels) t u)
 
-module _ {op : ℕ} {w : List ℕ} {to first second : ℕ} {v : Survey} {s : Sources} {m : ℕ} (c : Counted op w to first second v s m) where
+module _ {op : ℕ} {w : List ℕ} {to first second : ℕ} {v : Survey} {s : Sources} {b : Bool} {m : ℕ} (c : Counted op w to first second v s b m) where
   abbrev S : State
   S = state (c .ready)
 
@@ -153,16 +157,23 @@ module _ {op : ℕ} {w : List ℕ} {to first second : ℕ} {v : Survey} {s : Sou
   made-size : size made ≡ m
   made-size = sym (rw (c .sources) at (c .count (trieAt S first) (trieAt S second) (ready-reads (c .ready) (c .sources))))
 
-  pub result : Result w S to v (combineRules to first second) after made m
-  result =
-      let a = one (c .ready) in
-      let b = two (c .ready) in
-      record {
-        seen = here (c .ready);
-        right = right (c .ready);
-        list = listOf-op (width (getD w 1 0)) (trieAt S first) (trieAt S second) (c .operation) (a .deep) (b .deep) ∙ rw (a .list, b .list);
-        size = made-size;
-      }
+  made-list : listOf made ≡ after S
+  made-list =
+      let x = one (c .ready) in
+      let y = two (c .ready) in
+      listOf-op (width (getD w 1 0)) (trieAt S first) (trieAt S second) (c .operation) (x .deep) (y .deep) ∙ rw (x .list, y .list)
+
+  made-clear : b ≡ admits (S .family) (setAt S to) (listOf made)
+  made-clear = rw (c .sources) at (c .clear S (trieAt S first) (trieAt S second) (here (c .ready) .decoded) (ready-reads (c .ready) (c .sources)))
+
+  pub result : Result w S to v (combineRules to first second) after made b m
+  result = record {
+    seen = here (c .ready);
+    right = right (c .ready);
+    list = made-list;
+    public = ap (admits (S .family) (setAt S to)) (sym made-list) ∙ sym made-clear;
+    size = made-size;
+  }
 
   pub result-few : m < 4294967296
   result-few = omega (arith, made-size, size-opOn op (suc (width (getD w 1 0))) (trieAt S first) (trieAt S second), one (c .ready) .few, two (c .ready) .few)

@@ -3,6 +3,7 @@
 --   Operation op, combineL op    the numbers of the operations, and what each makes of two lists
 --   Ready w to first second v    a combination can go on: v is what a pass over the pool found for its empty destination;  Asks: that, or its refusal
 --   sourcesOf w first second     what a combination reads;  Reads w s v t u: its sources are the tries t and u
+--   Admits w op to s v c         c says whether the set `to` may have what the operation makes of the sources, as far as its mark goes
 --   isCopy op s                  the operation leaves its first source as it is
 --   movedTo o n i                the number of node i after n nodes were put in before node o
 --   Writable, written            what writing the result asks, and the words that it leaves
@@ -14,15 +15,15 @@ use lib.Dec.{eqb, ltb}
 use lib.ListN.{getD}
 use Rattle.nets.specs.Bits.{Bits}
 use Rattle.nets.specs.Lists.{mergeL, intersectL, differenceL, excludeL}
-use Rattle.nets.specs.Tries.{Trie, size}
+use Rattle.nets.specs.Tries.{Trie, size, listOf}
 use Rattle.nets.specs.Networks.{width}
 use Rattle.nets.specs.Refusals.{number}
 use Rattle.nodes.specs.Words.{put, place, enc}
 use Rattle.nodes.specs.Parse.{Room}
 use Rattle.trie_emit.specs.Combine.{opOn, Inputs}
-use Rattle.pool_state.specs.States.{State}
-use Rattle.pool_state.specs.Decode.{recordAt, base}
-use Rattle.pool_state.specs.Changes.{Relisted}
+use Rattle.pool_state.specs.States.{State, admits}
+use Rattle.pool_state.specs.Decode.{recordAt, base, sound, decode}
+use Rattle.pool_state.specs.Changes.{setAt, Relisted}
 use Rattle.pool_state.specs.Steps.{Surveyed, behindAt, Gap}
 use Rattle.pool_state.specs.declared.Survey.{Survey}
 use Rattle.combine.specs.Rules.{combineRules}
@@ -71,6 +72,9 @@ pub record Reads (w : List ℕ) (s : Sources) (v : Survey) (t u : Trie) : Type 0
   pub whole-u : Whole (v .at) (v .used + 1) (s .second) u
   pub room : Room w (s .base) (v .used)
   pub levels : s .levels ≤ 129
+
+abbrev pub Admits : List ℕ → ℕ → ℕ → Sources → Survey → Bool → Type 0
+Admits w op to s v c = (S : State) (t u : Trie) → decode w ≡ sound S → Reads w s v t u → c ≡ admits (S .family) (setAt S to) (listOf (opOn op (s .levels) t u))
 
 -- nothing is excluded
 abbrev pub isCopy : ℕ → Sources → Bool

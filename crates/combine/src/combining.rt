@@ -6,6 +6,7 @@ use crate::asking::sources_of;
 use crate::copying::copy;
 use crate::copying::copy_size;
 use crate::copying::is_copy;
+use pool_change::judging::is_public;
 use pool_change::judging::judge;
 use pool_change::relinking::granted;
 use pool_change::relinking::shift_behind;
@@ -15,13 +16,17 @@ use pool_state::Verdict;
 use trie_emit::combining::emit;
 use trie_emit::combining::op_size;
 use trie_emit::emitting::settle;
+use trie_meets::combined::op_is_clear;
 ghost use mathlib.Core.Path.{_≡_};
 ghost use Prim.Native.Nat.{_+_, _<_};
+ghost use lib.ListN.{getD};
+ghost use Rattle.nets.specs.Networks.{width};
 ghost use Rattle.nets.specs.Tries.{Trie, size};
 ghost use Rattle.trie_emit.specs.Combine.{opOn};
 ghost use Rattle.pool_state.specs.Rules.{answerAs};
 ghost use Rattle.combine.specs.Rules.{Combined};
-ghost use Rattle.combine.specs.Steps.{Operation, combineL, Reads, movedTo, Writable, written};
+ghost use Rattle.combine.specs.Steps.{Operation, combineL, Reads, Admits, movedTo, Writable, written};
+ghost use Rattle.pool_state.specs.Steps.{Surveyed};
 
 // The number of a node after n nodes were put in before node `at`.
 fn moved(at: usize, n: u32, i: usize) -> usize
@@ -32,6 +37,18 @@ fn moved(at: usize, n: u32, i: usize) -> usize
         return i;
     }
     i + n as usize
+}
+
+// Whether the destination may have the result as far as its mark goes: it is not public-only, or the result overlaps no inner network. The sources tell, and nothing is built.
+fn is_admitted(pool: &[u32], op: usize, to: u32, s: Sources, v: Survey) -> bool
+    requires { ⌜ Surveyed (now pool) to v × (width (getD (now pool) 1 0) < s .levels) ⌝ }
+    requires { ⌜ ((t : Trie) × (u : Trie) × Reads (now pool) s v t u) ⌝ }
+    ensures { λ r. ⌜ Admits (now (pool .entry)) op to s v r ⌝ }
+{
+    if !is_public(pool, to, v) {
+        return true;
+    }
+    op_is_clear(pool, s.base, op, s.first, s.second, s.levels, pool[1])
 }
 
 // The nodes of the result.
@@ -72,8 +89,9 @@ pub fn combine(pool: &mut [u32], op: usize, to: u32, first: u32, second: u32) ->
         Destination::Refused(no) => Answer::Refused(no),
         Destination::Empty(v) => {
             let s = sources_of(pool, first, second);
+            let clear = is_admitted(pool, op, to, s, v);
             let n = count(pool, op, s, v) as u32;
-            let verdict = judge(pool, to, v, n);
+            let verdict = judge(pool, to, v, clear, n);
             match verdict {
                 Verdict::No(no) => Answer::Refused(no),
                 Verdict::Fits => {

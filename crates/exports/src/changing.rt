@@ -2,7 +2,7 @@
 ghost use mathlib.Core.Path.{_≡_};
 ghost use Rattle.nets.specs.Networks.{netWords};
 ghost use Rattle.pool_state.specs.Rules.{setup, Laid};
-ghost use Rattle.pool_state.specs.Changes.{Replanned};
+ghost use Rattle.pool_state.specs.Changes.{Replanned, Marked};
 ghost use Rattle.change.specs.Calls.{Added, Removed, Reports};
 ghost use Rattle.change.specs.Simplified.{Simplifies};
 ghost use Rattle.combine.specs.Rules.{Merged, Intersected, Excluded, ExcludedApart};
@@ -105,6 +105,14 @@ pub extern "C" fn marlbrace_replan(pool: &mut [u32], set: u32, share: u32, limit
     ensures { λ r. ⌜ Tells (Replanned (now (pool .entry)) set share limit) oneReply r (now (pool .exit)) ⌝ }
 {
     packed(of_answer(replan::replan(pool, set, share, limit)))
+}
+
+// Makes an empty set public-only, for good.
+#[no_mangle]
+pub extern "C" fn marlbrace_make_public(pool: &mut [u32], set: u32) -> u64
+    ensures { λ r. ⌜ Tells (Marked (now (pool .entry)) set) oneReply r (now (pool .exit)) ⌝ }
+{
+    packed(of_answer(make_public::make_public(pool, set)))
 }
 
 // Gives an empty set the list of a set file.

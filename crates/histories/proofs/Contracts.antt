@@ -3,12 +3,12 @@ use mathlib.Core.Bool.{Bool}
 use mathlib.Core.List.{List}
 use Prim.Native.Nat.{ℕ}
 use Rattle.nets.specs.declared.Net.{Net}
-use Rattle.pool_state.specs.Changes.{Replanned}
+use Rattle.pool_state.specs.Changes.{Replanned, Marked}
 use Rattle.change.specs.Calls.{Added, Removed, Reports}
 use Rattle.change.specs.Simplified.{Simplifies}
 use Rattle.combine.specs.Rules.{Merged, Intersected, Excluded, ExcludedApart}
 use Rattle.setfile.specs.Loading.{Loaded}
-use Rattle.histories.specs.Calls.{add, remove, simplify, merge, intersect, exclude, excludeApart, load, relist, replan, Outcome}
+use Rattle.histories.specs.Calls.{add, remove, simplify, merge, intersect, exclude, excludeApart, load, relist, replan, makePublic, Outcome}
 
 -- of add and remove, their number and nodes; the report is no part of a history
 module _ {w v : List ℕ} {r : ℕ × (ℕ × Bool)} (k : ℕ) (n : Net) where
@@ -39,3 +39,6 @@ module _ {w v : List ℕ} {r : ℕ × ℕ} (k : ℕ) where
 
   pub replanned : (x y : ℕ) → Replanned w k x y r v → Outcome w (replan k x y) r v
   replanned x y h = h
+
+  pub madePublic : Marked w k r v → Outcome w (makePublic k) r v
+  madePublic h = h

@@ -11,7 +11,7 @@ use Rattle.nets.specs.Bits.{before, bits}
 use Rattle.nets.specs.Lists.{isList, nodesL, addL}
 use Rattle.nets.specs.Networks.{width, netBits, inRange, refusalOf}
 use Rattle.nets.specs.declared.Net.{Net}
-use Rattle.pool_state.specs.States.{SetState, State, held, used, claimed, claimedBut, freeOf, roomOf, isState}
+use Rattle.pool_state.specs.States.{SetState, State, held, used, claimed, claimedBut, freeOf, roomOf, admits, isState}
 use Rattle.pool_state.specs.Decode.{leastWords, sound, decode}
 use Rattle.pool_state.specs.Rules.{answerOn, Setup, setup, emptyState, layoutNo, Laid, freeRule}
 use Rattle.pool_state.specs.Changes.{setAt, listAt, withSet, fits, changeRules, changeRule, wordsAfter, planRules, relistRules, relistSet, netRules}
@@ -20,10 +20,11 @@ use Rattle.pool_state.proofs.Claims.{isList-listAt, held-limit, freeOf-is}
 use Rattle.pool_state.proofs.Decoded.{decode-state, decode-laid}
 use Rattle.pool_state.proofs.Determined.{changed-same}
 use Rattle.pool_state.proofs.Past.{Past, past-refl, past-trans}
+use Rattle.pool_state.proofs.WithSet.{SamePlan}
 use Rattle.replan.proofs.Outcomes.{mayPlan, replan-exactly}
-use Rattle.histories.specs.Calls.{Relist, Call, add, relist, replan, writes, target, argsNo, resultOf, callNo, answerOf, stateAfter, Outcome}
+use Rattle.histories.specs.Calls.{Relist, Call, add, relist, replan, makePublic, writes, target, argsNo, resultOf, callNo, answerOf, stateAfter, Outcome}
 use Rattle.histories.specs.Histories.{stateFrom, answersFrom, History, begin, step}
-use Rattle.histories.proofs.Step.{callNo-share, callNo-room, stateAfter-plan, stateAfter-lists, outcome-answer, stateAfter-numbers, stateAfter-other, outcome-decode, outcome-past}
+use Rattle.histories.proofs.Step.{callNo-share, callNo-room, stateAfter-plan, stateAfter-lists, stateAfter-marked, outcome-answer, stateAfter-numbers, stateAfter-other, outcome-decode, outcome-past}
 
 -- One call from any words.
 
@@ -105,15 +106,16 @@ module _ {w : List ℕ} {S : State} (d : decode w ≡ sound S) where
     module _ {u : List ℕ} {r : ℕ × ℕ} (c : Relist) (o : Outcome v (relist c) r u) where
       -- "the sum over all sets of the larger of share and nodes is at most the pool's": so a result within the share is never refused for room.
       pub share-granted : nodesL (resultOf c (stateFrom S cs)) ≤ setAt (stateFrom S cs) (writes c) .share → r .0 ≡ 10 → ⊥
-      share-granted le e = omega (arith, number-is (relist c) o, callNo-share (stateFrom S cs) c history-state le)
+      share-granted le e = callNo-share (stateFrom S cs) c history-state le (sym (number-is (relist c) o) ∙ e)
 
       -- "Room for a set is the pool's nodes less, for every other set, the larger of its share and the nodes of its list. A changing call is judged by the nodes of its result alone".
       pub room-exact : writes c < length (stateFrom S cs .sets) → argsNo c (stateFrom S cs) ≡ 0
+          → admits (stateFrom S cs .family) (setAt (stateFrom S cs) (writes c)) (resultOf c (stateFrom S cs)) ≡ true
           → nodesL (resultOf c (stateFrom S cs)) ≤ setAt (stateFrom S cs) (writes c) .limit
           → (nodesL (resultOf c (stateFrom S cs)) ≤ roomOf (stateFrom S cs) (writes c) → r .0 ≡ 0)
           × (roomOf (stateFrom S cs) (writes c) < nodesL (resultOf c (stateFrom S cs)) → r .0 ≡ 10)
-      room-exact lt a le =
-          let e = number-is (relist c) o ∙ callNo-room (stateFrom S cs) c lt a le in
+      room-exact lt a m le =
+          let e = number-is (relist c) o ∙ callNo-room (stateFrom S cs) c lt a m le in
           (λ k. rw (le-ltb _ _ k) at e, λ k. rw (lt-ltb _ _ k) at e)
 
     -- A replan is granted exactly by the request's three conditions, of the nodes held and the shares in force.
@@ -132,15 +134,18 @@ module _ (S : State) (cs : List Call) where
   unfolding stateFrom
   only-written c j ne = stateAfter-other (stateFrom S cs) c j ne
 
-  -- a call that relists changes no share and no limit, and a replan no list
-  pub plans-stay : (c : Relist) (j : ℕ)
-      → (setAt (stateFrom S (relist c ∷ cs)) j .share ≡ setAt (stateFrom S cs) j .share) × (setAt (stateFrom S (relist c ∷ cs)) j .limit ≡ setAt (stateFrom S cs) j .limit)
+  -- a call that relists changes no share, no limit and no mark; a replan, and making a set public-only, no list
+  pub plans-stay : (c : Relist) (j : ℕ) → SamePlan (setAt (stateFrom S (relist c ∷ cs)) j) (setAt (stateFrom S cs) j)
   unfolding stateFrom
   plans-stay c j = stateAfter-plan (stateFrom S cs) c j
 
   pub lists-stay : (k x y j : ℕ) → listAt (stateFrom S (replan k x y ∷ cs)) j ≡ listAt (stateFrom S cs) j
   unfolding stateFrom
   lists-stay k x y j = stateAfter-lists (stateFrom S cs) k x y j
+
+  pub lists-marked : (k j : ℕ) → listAt (stateFrom S (makePublic k ∷ cs)) j ≡ listAt (stateFrom S cs) j
+  unfolding stateFrom
+  lists-marked k j = stateAfter-marked (stateFrom S cs) k j
 
 -- "IPv6 pool, 100 nodes, shares 40 and 30, limits 60 and 80, both sets empty. On set 1, adding a /59 (60 nodes) is granted; a /60 or /79 instead gets 10, a /80 gets 9. With the
 -- /59 there, set 0 may add a /39; a /40 gets 10."

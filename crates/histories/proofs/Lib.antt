@@ -1,9 +1,10 @@
--- One call, the histories, two histories side by side, what the calls that read answer after them, merging in every order, and lines of text as calls of a history.
+-- One call, the histories, two histories side by side, what the calls that read answer after them, public-only sets, merging in every order, and lines of text as calls of a history.
 pub mod Step
 pub mod Histories
 pub mod TwoHistories
 pub mod Readings
 pub mod TwoReadings
+pub mod Public
 pub mod MergeOrder
 pub mod Contracts
 pub mod Lines

@@ -21,9 +21,9 @@ use Rattle.pool_state.specs.Changes.{listAt, withSet, changeRules, relistRules,
 use Rattle.combine.specs.Rules.{combineRules}
 use Rattle.histories.specs.Calls.{Relist, Call, add, merge, relist, writes, resultOf, callNo, stateAfter, Outcome}
 use Rattle.histories.specs.Histories.{stateFrom, answersFrom, History, step}
-use Rattle.histories.specs.Merges.{MergedSince, since, merged, other, replanned, refused}
+use Rattle.histories.specs.Merges.{MergedSince, since, merged, other, replanned, madePublic, refused}
 use Rattle.histories.proofs.Step.{nextOf-is, stateAfter-own}
-use Rattle.histories.proofs.Histories.{history-answer, lists-valid, only-written, lists-stay}
+use Rattle.histories.proofs.Histories.{history-answer, lists-valid, only-written, lists-stay, lists-marked}
 
 -- The last step of a history, and the history up to the sets that are merged.
 last-step : {z : List ℕ} {cs : List Call} {rs : List (ℕ × ℕ)} {c : Call} {r : ℕ × ℕ} {v : List ℕ} → History z (c ∷ cs) (r ∷ rs) v
@@ -36,6 +36,7 @@ begun {ss = ss} {v = v} h since = (ss, v, h)
 begun h (merged m n) = begun (last-step h .1) m
 begun h (other m ne) = begun (last-step h .1) m
 begun h (replanned m) = begun (last-step h .1) m
+begun h (madePublic m) = begun (last-step h .1) m
 begun h (refused m ne) = begun (last-step h .1) m
 
 module _ {z : List ℕ} {S : State} (d : decode z ≡ sound S) where
@@ -64,6 +65,7 @@ module _ {z : List ℕ} {S : State} (d : decode z ≡ sound S) where
       granted-list (merge x a b) k o refl ∙ rw (listAt-merged k m, listAt-merged k n)
   listAt-merged h (other {ds = ds} {x = x} {c = c} m ne) = ap (λ (s : SetState). s .list) (only-written S ds c x (λ e. ne (sym e))) ∙ listAt-merged (last-step h .1) m
   listAt-merged h (replanned {ds = ds} {x = x} {a = a} {b = b} m) = lists-stay S ds x a b x ∙ listAt-merged (last-step h .1) m
+  listAt-merged h (madePublic {ds = ds} {x = x} m) = lists-marked S ds x x ∙ listAt-merged (last-step h .1) m
   listAt-merged h (refused {x = x} {c = c} m ne) =
       let (w, k, o) = last-step h in
       ap (λ T. listAt T x) (refused-state c k o ne) ∙ listAt-merged k m

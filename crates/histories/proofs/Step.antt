@@ -1,9 +1,10 @@
--- One call from a state: the number of its answer, and the state that it leaves. Three laws have a case for each call that relists: the refusals of its arguments stand before those of the limit
+-- One call from a state: the number of its answer, and the state that it leaves. Three laws have a case for each call that relists: the refusals of its arguments stand in the table before those of the limit
 -- and the room (rules-few), its result is a list (isList-resultOf), and where it names one set it depends on that set alone (call-same). Assumes nothing.
 use mathlib.Core.Path.{_≡_, refl, ap, _∙_}
-use mathlib.Core.Bool.{Bool, true, false, cond, _&&_}
+use mathlib.Core.Bool.{Bool, true, false, not, cond, _&&_}
 use mathlib.Core.List.{List, [], _∷_, _++_}
 use Prim.Native.Nat.{ℕ, _≤_, _<_}
+use native.Mathlib.Decide.{ℕ-discrete}
 use native.Mathlib.Omega.{arith}
 use lib.Dec.{eqb, leb, ltb}
 use lib.ListN.{length}
@@ -13,29 +14,30 @@ use Rattle.nets.specs.Lists.{within, isList, nodesL, mergeL, intersectL, differ
 use Rattle.nets.specs.Networks.{width, netBits}
 use Rattle.nets.specs.Refusals.{Rule, firstNo}
 use Rattle.nets.specs.declared.Net.{Net}
-use Rattle.nets.specs.declared.Refusal.the-variants.{OverLimit}
+use Rattle.nets.specs.declared.Refusal.the-variants.{OverLimit, NotPublic}
 use Rattle.nets.proofs.Strings.{and-left, and-right}
 use Rattle.nets.proofs.Refused.{Few, firstNo-append, firstNo-few}
 use Rattle.nets.proofs.TrieOf.{isList-within, isList-add}
 use Rattle.nets.proofs.Simplifying.{isList-simplify}
 use Rattle.nets.proofs.Combining.{isList-merge, isList-intersect}
 use Rattle.nets.proofs.Laws.{isList-remove, isList-difference, isList-exclude}
-use Rattle.pool_state.specs.States.{SetState, State, roomOf, isState}
+use Rattle.pool_state.specs.States.{SetState, State, roomOf, admits, isState}
 use Rattle.pool_state.specs.Decode.{leastWords, sound, decode}
 use Rattle.pool_state.specs.Rules.{answerOn, unknown}
 use Rattle.pool_state.specs.Changes.{setAt, listAt, withSet, changeRules, changeRule, setWith, grantRules, relistRules, relistSet, relistNo, netRules}
 use Rattle.pool_state.proofs.Claims.{isList-listAt}
-use Rattle.pool_state.proofs.WithSet.{withSet-length, withSet-at, share-roomOf, isState-withSet}
+use Rattle.pool_state.proofs.WithSet.{SamePlan, withSet-length, withSet-at, share-roomOf, isState-withSet}
 use Rattle.pool_state.proofs.Decoded.{decode-state}
 use Rattle.pool_state.proofs.Judged.{changeNo-zero, relistNo-known}
 use Rattle.pool_state.proofs.Past.{Past}
 use Rattle.pool_state.proofs.Leaves.{after-cases, after-other, Keeps, Leaves, changed-leaves, after-plan, relist-keeps, netRules-within}
 use Rattle.combine.specs.Rules.{combineRules}
 use Rattle.replan.proofs.Outcomes.{plan-keeps, replan-lists}
+use Rattle.make_public.proofs.Outcomes.{mark-keeps, make-public-lists}
 use Rattle.setfile_format.specs.Files.{File, broken, file, readFile}
 use Rattle.setfile.specs.Loading.{loadRules}
 use Rattle.setfile.proofs.LoadOutcomes.{isList-load}
-use Rattle.histories.specs.Calls.{Relist, Call, add, remove, simplify, merge, intersect, exclude, excludeApart, load, relist, replan, writes, target, namesOne, argsOf, argsNo, resultOf, rulesOf, nextOf, callNo, answerOf, stateAfter, Outcome}
+use Rattle.histories.specs.Calls.{Relist, Call, add, remove, simplify, merge, intersect, exclude, excludeApart, load, relist, replan, makePublic, writes, target, namesOne, argsOf, argsNo, resultOf, rulesOf, nextOf, callNo, answerOf, stateAfter, Outcome}
 use Rattle.histories.specs.Histories.{SameAt}
 
 within-listAt : (S : State) (k : ℕ) → isState S ≡ true → within (width (S .family)) (listAt S k) ≡ true
@@ -64,10 +66,6 @@ rules-few (intersect to a b) S = combine-few to a b S
 rules-few (exclude to a b) S = combine-few to a b S
 rules-few (excludeApart to a b) S = combine-few to a b S
 rules-few (load k d) S = load-few (readFile d) k S
-
-few-append : (m : ℕ) (rs ss : List Rule) → Few m rs → Few m ss → Few m (rs ++ ss)
-few-append m [] ss f g = g
-few-append m (r ∷ rs) ss f g = (f .0, few-append m rs ss (f .1) g)
 
 -- Its result.
 isList-resultOf : (c : Relist) (S : State) → isState S ≡ true → argsNo c S ≡ 0 → isList (width (S .family)) (resultOf c S) ≡ true
@@ -111,23 +109,35 @@ call-same (exclude to a b) S T e h = combine-same differenceL to a b S T e h
 call-same (excludeApart to a b) S T e h = combine-same excludeL to a b S T e h
 call-same (load k d) S T e h = (load-same (readFile d) k S T h, refl)
 
--- A result within the share is judged by its limit alone.
-abbrev pub limitRule : State → ℕ → List Bits → Rule
-limitRule S k l = (ltb (setAt S k .limit) (nodesL l), OverLimit)
+-- A result within the share is judged by the mark and the limit of its set alone.
+abbrev pub ownRules : State → ℕ → List Bits → List Rule
+ownRules S k l = (not (admits (S .family) (setAt S k) l), NotPublic) ∷ (ltb (setAt S k .limit) (nodesL l), OverLimit) ∷ []
 
 pub relistNo-share : (S : State) (k : ℕ) (a : List Rule) (l : List Bits) → isState S ≡ true → (firstNo a ≡ 0 → nodesL l ≤ setAt S k .share)
-    → relistNo S k a l ≡ firstNo (unknown S k ∷ (a ++ (limitRule S k l ∷ [])))
+    → relistNo S k a l ≡ firstNo (unknown S k ∷ (a ++ ownRules S k l))
 unfolding changeRules
 relistNo-share S k a l e f = go (leb (length (S .sets)) k) refl
   where
-    args : k < length (S .sets) → (y : Bool) → eqb (firstNo a) 0 ≡ y
-        → cond y (firstNo (grantRules S k l)) (firstNo a) ≡ cond y (firstNo (limitRule S k l ∷ [])) (firstNo a)
+    args : k < length (S .sets) → (y : Bool) → eqb (firstNo a) 0 ≡ y → cond y (firstNo (grantRules S k l)) (firstNo a) ≡ cond y (firstNo (ownRules S k l)) (firstNo a)
     args lt true q = rw (le-ltb (roomOf S k) (nodesL l) (share-roomOf S k e lt (nodesL l) (f (eqb-true (firstNo a) 0 q))))
     args lt false q = refl
 
-    go : (x : Bool) → leb (length (S .sets)) k ≡ x → cond x 3 (firstNo (a ++ grantRules S k l)) ≡ cond x 3 (firstNo (a ++ (limitRule S k l ∷ [])))
+    go : (x : Bool) → leb (length (S .sets)) k ≡ x → cond x 3 (firstNo (a ++ grantRules S k l)) ≡ cond x 3 (firstNo (a ++ ownRules S k l))
     go true p = refl
-    go false p = rw (firstNo-append a (grantRules S k l), firstNo-append a (limitRule S k l ∷ [])) (args (leb-false (length (S .sets)) k p) (eqb (firstNo a) 0) refl)
+    go false p = rw (firstNo-append a (grantRules S k l), firstNo-append a (ownRules S k l)) (args (leb-false (length (S .sets)) k p) (eqb (firstNo a) 0) refl)
+
+-- which are no refusals for room
+own-never : (p q : Bool) → firstNo ((p, NotPublic) ∷ (q, OverLimit) ∷ []) ≡ 10 → ⊥
+own-never true q e = omega arith
+own-never false true e = omega arith
+own-never false false e = omega arith
+
+few-never : (a b : List Rule) → Few 9 a → (firstNo b ≡ 10 → ⊥) → firstNo (a ++ b) ≡ 10 → ⊥
+few-never a b f g e = go (eqb (firstNo a) 0) (rw (firstNo-append a b) at e)
+  where
+    go : (y : Bool) → cond y (firstNo b) (firstNo a) ≡ 10 → ⊥
+    go true q = g q
+    go false q = omega (arith, firstNo-few 9 a f)
 
 -- The number of the answer of a call that relists, and what becomes of the set.
 module _ (S : State) (c : Relist) where
@@ -139,25 +149,35 @@ module _ (S : State) (c : Relist) where
   unfolding relistSet
   nextOf-is = refl
 
-  pub callNo-share : isState S ≡ true → nodesL (resultOf c S) ≤ setAt S (writes c) .share → callNo S (relist c) ≤ 9
-  callNo-share e le =
-      let l = limitRule S (writes c) (resultOf c S) in
-      rw (callNo-is, relistNo-share S (writes c) (argsOf c S) (resultOf c S) e (λ q. le))
-      (firstNo-few 9 (unknown S (writes c) ∷ (argsOf c S ++ (l ∷ []))) (omega arith, few-append 9 (argsOf c S) (l ∷ []) (rules-few c S) (omega arith, tt)))
+  pub callNo-share : isState S ≡ true → nodesL (resultOf c S) ≤ setAt S (writes c) .share → callNo S (relist c) ≡ 10 → ⊥
+  callNo-share e le q =
+      let k = writes c in
+      let l = resultOf c S in
+      few-never (unknown S k ∷ argsOf c S) (ownRules S k l) (omega arith, rules-few c S)
+      (own-never (not (admits (S .family) (setAt S k) l)) (ltb (setAt S k .limit) (nodesL l)))
+      (rw (callNo-is, relistNo-share S k (argsOf c S) l e (λ z. le)) at q)
 
-  pub callNo-room : writes c < length (S .sets) → argsNo c S ≡ 0 → nodesL (resultOf c S) ≤ setAt S (writes c) .limit
+  -- where its arguments are right: 14 where the set is public-only and the result overlaps an inner network, and else by the nodes of its result
+  pub callNo-granting : writes c < length (S .sets) → argsNo c S ≡ 0 → callNo S (relist c) ≡ firstNo (grantRules S (writes c) (resultOf c S))
+  callNo-granting lt a = callNo-is ∙ relistNo-known S (writes c) (argsOf c S) (resultOf c S) lt ∙ rw a
+
+  pub callNo-room : writes c < length (S .sets) → argsNo c S ≡ 0 → admits (S .family) (setAt S (writes c)) (resultOf c S) ≡ true → nodesL (resultOf c S) ≤ setAt S (writes c) .limit
       → callNo S (relist c) ≡ cond (ltb (roomOf S (writes c)) (nodesL (resultOf c S))) 10 0
-  callNo-room lt a le = callNo-is ∙ relistNo-known S (writes c) (argsOf c S) (resultOf c S) lt ∙ rw (a, le-ltb (setAt S (writes c) .limit) (nodesL (resultOf c S)) le)
+  callNo-room lt a m le = callNo-granting lt a ∙ rw (m, le-ltb (setAt S (writes c) .limit) (nodesL (resultOf c S)) le)
 
-  -- it leaves every share and limit
-  pub stateAfter-plan : (j : ℕ) → (setAt (stateAfter S (relist c)) j .share ≡ setAt S j .share) × (setAt (stateAfter S (relist c)) j .limit ≡ setAt S j .limit)
+  -- it leaves every share, limit and mark
+  pub stateAfter-plan : (j : ℕ) → SamePlan (setAt (stateAfter S (relist c)) j) (setAt S j)
   unfolding stateAfter relistRules relistSet
   stateAfter-plan = after-plan S (writes c) (argsOf c S) (resultOf c S)
 
--- a replan leaves every list
+-- a call that does not relist leaves every list
 pub stateAfter-lists : (S : State) (k x y j : ℕ) → listAt (stateAfter S (replan k x y)) j ≡ listAt S j
 unfolding stateAfter
 stateAfter-lists = replan-lists
+
+pub stateAfter-marked : (S : State) (k j : ℕ) → listAt (stateAfter S (makePublic k)) j ≡ listAt S j
+unfolding stateAfter
+stateAfter-marked = make-public-lists
 
 -- The answer.
 pub outcome-answer : (S : State) (c : Call) {w v : List ℕ} {r : ℕ × ℕ} → decode w ≡ sound S → Outcome w c r v → r ≡ answerOf S c
@@ -169,6 +189,7 @@ call-keeps : (S : State) (c : Call) → isState S ≡ true → Keeps S (target c
 unfolding relistRules relistSet
 call-keeps S (relist c) e = relist-keeps S (writes c) (argsOf c S) (resultOf c S) e (isList-resultOf c S e)
 call-keeps S (replan k x y) e = plan-keeps S k x y e
+call-keeps S (makePublic k) e = mark-keeps S k e
 
 -- The state afterwards: only the set that is written differs.
 module _ (S : State) (c : Call) where
@@ -192,6 +213,27 @@ module _ (S : State) (c : Call) where
       stateAfter-cases (λ T. setAt T (target c) ≡ cond (eqb (callNo S c) 0) (nextOf c S) (setAt S (target c)))
       (λ z. rw (eq-eqb (callNo S c) 0 z) (withSet-at S (target c) (nextOf c S) (changeNo-zero S (target c) (rulesOf c S) z .0)))
       (λ q. rw q)
+
+  -- a mark never goes
+  next-public : setAt S (target c) .public ≡ true → nextOf c S .public ≡ true
+  unfolding relistSet
+  next-public p = go c p
+    where
+      go : (x : Call) → setAt S (target x) .public ≡ true → nextOf x S .public ≡ true
+      go (relist x) q = q
+      go (replan k x y) q = q
+      go (makePublic k) q = refl
+
+  pub stateAfter-public : (j : ℕ) → setAt S j .public ≡ true → setAt (stateAfter S c) j .public ≡ true
+  stateAfter-public j p = at (ℕ-discrete j (target c))
+    where
+      own : (b : Bool) → setAt S (target c) .public ≡ true → (cond b (nextOf c S) (setAt S (target c))) .public ≡ true
+      own true q = next-public q
+      own false q = q
+
+      at : Dec (j ≡ target c) → setAt (stateAfter S c) j .public ≡ true
+      at (yes e) = rw (e, stateAfter-own) (own (eqb (callNo S c) 0) (rw e at p))
+      at (no ne) = rw (stateAfter-other j ne) p
 
   -- it keeps the rules, and the words hold it; no word past the smallest buffer is touched
   pub isState-after : isState S ≡ true → isState (stateAfter S c) ≡ true

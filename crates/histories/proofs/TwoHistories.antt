@@ -1,5 +1,5 @@
 -- Two histories from states that agree on a set, seen from that set, where its calls relist it, their results fit its share and they name no other set. In each the set is as though its calls had
--- been the only ones: a result within the share is judged by the limit alone, and a call that names one set depends on that set alone. Assumes nothing.
+-- been the only ones: a result within the share is judged by the mark and the limit alone, and a call that names one set depends on that set alone. Assumes nothing.
 use mathlib.Core.Path.{_≡_, refl, sym, ap, _∙_}
 use mathlib.Core.Bool.{Bool, true, false, cond}
 use mathlib.Core.List.{List, [], _∷_}
@@ -13,11 +13,11 @@ use Rattle.nets.specs.Refusals.{answered, firstNo}
 use Rattle.pool_state.specs.States.{SetState, State, isState}
 use Rattle.pool_state.specs.Decode.{sound, decode}
 use Rattle.pool_state.specs.Rules.{answerOn, unknown, Setup, emptyState, Laid, onSet}
-use Rattle.pool_state.specs.Changes.{setAt, listAt, setWith}
+use Rattle.pool_state.specs.Changes.{setAt, listAt, changeRules, marked, markRules, setWith}
 use Rattle.pool_state.proofs.Decoded.{decode-state}
-use Rattle.histories.specs.Calls.{Relist, Call, relist, replan, writes, target, argsOf, resultOf, nextOf, callNo, answerOf, stateAfter}
+use Rattle.histories.specs.Calls.{Relist, Call, relist, replan, makePublic, writes, target, argsOf, resultOf, nextOf, callNo, answerOf, stateAfter}
 use Rattle.histories.specs.Histories.{stateFrom, answersFrom, History, begin, step, callsOn, answersOn, Alone, CallAlone, AllAlone, SameAt}
-use Rattle.histories.proofs.Step.{call-same, relistNo-share, callNo-is, nextOf-is, stateAfter-numbers, stateAfter-other, stateAfter-own, isState-after}
+use Rattle.histories.proofs.Step.{sameAt-list, call-same, relistNo-share, callNo-is, nextOf-is, stateAfter-numbers, stateAfter-other, stateAfter-own, isState-after}
 use Rattle.histories.proofs.Histories.{stateFrom-numbers, layout-begins, history-sound, history-answer}
 
 -- Agreeing.
@@ -41,6 +41,22 @@ alone-same c {S} {T} h a =
     let (x, y) = call-same c S T (a .names) h in
     record { names = a .names; fits = λ q. omega (arith, a .fits (ap firstNo x ∙ q), ap nodesL y, ap (λ (s : SetState). s .share) (h .set)) }
 
+-- a call that gets one number, and of which one set becomes
+module _ (c : Call) {S T : State} (h : SameAt (target c) S T) (no : callNo S c ≡ callNo T c) (next : nextOf c S ≡ nextOf c T) where
+  answerOf-alone : answerOf S c ≡ answerOf T c
+  answerOf-alone = rw (no, next)
+
+  sameAt-own : SameAt (target c) (stateAfter S c) (stateAfter T c)
+  sameAt-own =
+      let m = stateAfter-numbers S c in
+      let n = stateAfter-numbers T c in
+      let k = target c in
+      record {
+        family = m .0 ∙ h .family ∙ sym (n .0);
+        known = ap (λ x. leb x k) (m .2) ∙ h .known ∙ sym (ap (λ x. leb x k) (n .2));
+        set = rw (stateAfter-own S c, stateAfter-own T c, no, next) (ap (λ s. cond (eqb (callNo T c) 0) (nextOf c T) s) (h .set));
+      }
+
 module _ (c : Relist) {S T : State} (i : isState S ≡ true) (j : isState T ≡ true) (h : SameAt (writes c) S T) (a : Alone T c) where
   same : (argsOf c S ≡ argsOf c T) × (resultOf c S ≡ resultOf c T)
   same = call-same c S T (a .names) h
@@ -58,32 +74,29 @@ module _ (c : Relist) {S T : State} (i : isState S ≡ true) (j : isState T ≡ 
         same .0,
         same .1,
         h .known,
+        h .family,
         ap (λ (s : SetState). s .limit) (h .set),
+        ap (λ (s : SetState). s .public) (h .set),
       )
 
-  answerOf-alone : answerOf S (relist c) ≡ answerOf T (relist c)
-  answerOf-alone = rw (callNo-alone, next-same)
-
-  sameAt-own : SameAt (writes c) (stateAfter S (relist c)) (stateAfter T (relist c))
-  sameAt-own =
-      let m = stateAfter-numbers S (relist c) in
-      let n = stateAfter-numbers T (relist c) in
-      let k = writes c in
-      record {
-        family = m .0 ∙ h .family ∙ sym (n .0);
-        known = ap (λ x. leb x k) (m .2) ∙ h .known ∙ sym (ap (λ x. leb x k) (n .2));
-        set = rw (stateAfter-own S (relist c), stateAfter-own T (relist c), callNo-alone, next-same) (ap (λ s. cond (eqb (callNo T (relist c)) 0) (nextOf (relist c) T) s) (h .set));
-      }
+-- a call that makes the set public-only depends on that set alone
+marks-same : (k : ℕ) {S T : State} → SameAt k S T → callNo S (makePublic k) ≡ callNo T (makePublic k)
+unfolding changeRules markRules
+marks-same k h = rw (h .known, sameAt-list h)
 
 -- no replan is among them
 call-alone-same : (c : Call) {S T : State} → SameAt (target c) S T → CallAlone S c → CallAlone T c
 call-alone-same (relist c) h a = alone-same c h a
 call-alone-same (replan k x y) h a = a
+call-alone-same (makePublic k) h a = a
 
 call-alone : (c : Call) {S T : State} → isState S ≡ true → isState T ≡ true → SameAt (target c) S T → CallAlone T c
     → (answerOf S c ≡ answerOf T c) × SameAt (target c) (stateAfter S c) (stateAfter T c)
-call-alone (relist c) i j h a = (answerOf-alone c i j h a, sameAt-own c i j h a)
+call-alone (relist c) i j h a =
+    (answerOf-alone (relist c) h (callNo-alone c i j h a) (next-same c i j h a), sameAt-own (relist c) h (callNo-alone c i j h a) (next-same c i j h a))
 call-alone (replan k x y) i j h a = absurd a
+call-alone (makePublic k) i j h a =
+    (answerOf-alone (makePublic k) h (marks-same k h) (ap marked (h .set)), sameAt-own (makePublic k) h (marks-same k h) (ap marked (h .set)))
 
 isState-from : (S : State) → isState S ≡ true → (cs : List Call) → isState (stateFrom S cs) ≡ true
 unfolding stateFrom
@@ -128,7 +141,7 @@ module _ {S T : State} (i : isState S ≡ true) (j : isState T ≡ true) (k : �
           rw (q, history-answer d h c o ∙ s, f (b .0))
       go false q f = rw q (f (rw q at a))
 
--- Take two states that agree on a set, and from each a history with the same calls on it, whose results all fit its share and which name no other set; no replan of it is among
+-- Take two states that agree on a set, its mark too, and from each a history with the same calls on it, whose results all fit its share and which name no other set; no replan of it is among
 -- them. Its answers and all that is of it are then the same. That its results fit is asked of one of the two histories. Between its calls any others may be made, those that read
 -- it and replans of other sets too.
 module _ {w z : List ℕ} {S T : State} {cs ds : List Call} {rs ss : List (ℕ × ℕ)} {u v : List ℕ} (d : decode w ≡ sound S) (q : decode z ≡ sound T) (k : ℕ) (same-at : SameAt k S T)
@@ -154,7 +167,7 @@ module _ {w z : List ℕ} {S T : State} {cs ds : List Call} {rs ss : List (ℕ �
       let y = alone-answers there there k (sameAt-refl k T) q g (rw e at alone-there) in
       (x ∙ ap (answersFrom T) e ∙ sym y, same-after .set)
 
-  -- "The free report is excepted." Every report that depends on the family and on the set's list, share and limit is the same.
+  -- "The free report is excepted." Every report that depends on the family and on the set's list, share, limit and mark is the same.
   pub two-reports : {A : Type 0} (y : A) (f : ℕ → SetState → A) → onSet (decode u) k y (λ S s. f (S .family) s) ≡ onSet (decode v) k y (λ S s. f (S .family) s)
   unfolding answerOn
   two-reports y f =
@@ -171,7 +184,7 @@ layout-histories {p = p} k l t h g a e =
     let x = two-histories (layout-begins l) (layout-begins t) k (sameAt-refl k (emptyState p)) h g a e in
     (x .0, ap (λ (s : SetState). s .list) (x .1))
 
--- "document 01's two-histories fact holds between two such calls on that set, granted or refused, for two histories that agree on its list, share, limit ... right after the first":
+-- "document 01's two-histories fact holds between two such calls on that set, granted or refused, for two histories that agree on its list, share, limit and M-112's mark right after the first":
 -- two histories in pools of one family and as many sets, as from one layout, that have just replanned set k, each in its own way. Until it is replanned again, the same calls on
 -- it, with results that fit its share, get the same answers and leave the same list.
 module _ {w z : List ℕ} {S T : State} (d : decode w ≡ sound S) (q : decode z ≡ sound T) (family : S .family ≡ T .family) (sets : length (S .sets) ≡ length (T .sets))

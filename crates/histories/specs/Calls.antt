@@ -1,5 +1,5 @@
 -- The calls that change a set. Most relist it: four things say what such a call is, the set that it writes, whether it names another, the rules of its arguments, and the list that
--- is its result. A replan gives the set another share and limit, and its list stays. All else is said once for every call, so a further call that relists is one more case of each
+-- is its result. A replan gives the set another share and limit, and another call makes it public-only; its list stays. All else is said once for every call, so a further call that relists is one more case of each
 -- of the four. An answer is a number of the table and a value, whatever type a call answers by.
 --
 --   writes c, namesOne c      the set that c writes, where it relists;  c names no other set
@@ -20,7 +20,7 @@ use Rattle.nets.specs.Networks.{netBits}
 use Rattle.nets.specs.Refusals.{answered, Rule, firstNo}
 use Rattle.nets.specs.declared.Net.{Net}
 use Rattle.pool_state.specs.States.{SetState, State, held}
-use Rattle.pool_state.specs.Changes.{setAt, listAt, withSet, changeNo, Changed, planned, planRules, relistRules, relistSet, netRules}
+use Rattle.pool_state.specs.Changes.{setAt, listAt, withSet, changeNo, Changed, planned, planRules, marked, markRules, relistRules, relistSet, netRules}
 use Rattle.combine.specs.Rules.{combineRules}
 use Rattle.setfile_format.specs.Files.{readFile}
 use Rattle.setfile.specs.Loading.{loadRules, fileList}
@@ -32,10 +32,11 @@ pub data Relist : Type 0 where
   merge intersect exclude excludeApart : ℕ → ℕ → ℕ → Relist
   load : ℕ → List ℕ → Relist
 
--- such a call; or a set, and the share and the limit that it is given
+-- such a call; or a set, and the share and the limit that it is given; or a set that is made public-only
 pub data Call : Type 0 where
   relist : Relist → Call
   replan : ℕ → ℕ → ℕ → Call
+  makePublic : ℕ → Call
 
 abbrev pub writes : Relist → ℕ
 writes (add k n) = k
@@ -83,14 +84,17 @@ resultOf (load k d) = λ S. fileList (readFile d)
 abbrev pub target : Call → ℕ
 target (relist c) = writes c
 target (replan k x y) = k
+target (makePublic k) = k
 
 abbrev pub rulesOf : Call → State → List Rule
 rulesOf (relist c) = relistRules (writes c) (argsOf c) (resultOf c)
 rulesOf (replan k x y) = planRules k x y
+rulesOf (makePublic k) = markRules k
 
 abbrev pub nextOf : Call → State → SetState
 nextOf (relist c) = relistSet (writes c) (resultOf c)
 nextOf (replan k x y) = λ S. planned (setAt S k) x y
+nextOf (makePublic k) = λ S. marked (setAt S k)
 
 abbrev pub callNo : State → Call → ℕ
 callNo S c = changeNo S (target c) (rulesOf c S)

@@ -5,7 +5,7 @@
 --   History w cs rs v         from the words w on, the calls cs answered rs and left the words v
 --   callsOn k cs, answersOn   the calls on set k, those that write it, and the answers to them
 --   Alone S c                 in the state S the call c, which relists, names no other set than the one that it writes, and its result fits that set's share
---   AllAlone S k cs           each call on set k relists it so: from the state S on none of the calls cs replans it
+--   AllAlone S k cs           each call on set k relists it so or makes it public-only: from the state S on none of the calls cs replans it
 --   SameAt k S T              the states S and T agree on set k: the family, whether there is such a set, and all that is of it
 use mathlib.Core.Bool.{true, cond}
 use mathlib.Core.List.{List, [], _∷_}
@@ -16,7 +16,7 @@ use lib.ListN.{length}
 use Rattle.nets.specs.Lists.{nodesL}
 use Rattle.pool_state.specs.States.{State}
 use Rattle.pool_state.specs.Changes.{setAt}
-use Rattle.histories.specs.Calls.{Relist, Call, relist, replan, writes, target, namesOne, argsNo, resultOf, answerOf, stateAfter, Outcome}
+use Rattle.histories.specs.Calls.{Relist, Call, relist, replan, makePublic, writes, target, namesOne, argsNo, resultOf, answerOf, stateAfter, Outcome}
 
 unfoldable pub stateFrom : State → List Call → State
 stateFrom S [] = S
@@ -46,6 +46,7 @@ pub record Alone (S : State) (c : Relist) : Type 0 where
 abbrev pub CallAlone : State → Call → Type 0
 CallAlone S (relist c) = Alone S c
 CallAlone S (replan k x y) = ⊥
+CallAlone S (makePublic k) = Unit
 
 abbrev pub AllAlone : State → ℕ → List Call → Type 0
 AllAlone S k [] = Unit

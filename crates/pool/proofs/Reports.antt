@@ -46,7 +46,7 @@ module _ {w : List ℕ} {S : State} {k : ℕ} {v : Survey} (h : Seen w S k v) wh
   networks : zeros (take (v .held) (drop (placeOf w v) w)) ≡ length (setAt S k .list)
   networks =
       rw (← own-length h)
-      (ap zeros (has-seg (own-has h)) ∙ zeros-enc (trieAt S k) ∙ ap length (set-listOf (width (S .family)) (setAt S k) (decode-set w S (h .decoded) k (h .known) .rules)))
+      (ap zeros (has-seg (own-has h)) ∙ zeros-enc (trieAt S k) ∙ ap length (set-listOf (S .family) (setAt S k) (decode-set w S (h .decoded) k (h .known) .rules)))
 
   pub held-numbers : {s : Seat} → s ≡ seatOf w v → (0, (v .held, zeros (take (v .held) (drop (place (s .base) (s .first)) w)))) ≡ heldRule (decode w) k
   unfolding heldRule answerOn

@@ -98,6 +98,7 @@ pub fn records(pool: &mut [u32], shares: &[u32], limits: &[u32])
         pool[at] = 0;
         pool[at + 1] = shares[s];
         pool[at + 2] = limits[s];
+        pool[at + 3] = 0;
         s += 1;
     }
 }

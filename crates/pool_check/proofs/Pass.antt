@@ -1,6 +1,6 @@
 -- The pass by the tests of the code: one set, and the loop over the sets, at whose head what is left to scan completes the answer. Assumes nothing.
 use mathlib.Core.Path.{_≡_, refl, sym, _∙_}
-use mathlib.Core.Bool.{Bool, true, false, not, cond, _&&_}
+use mathlib.Core.Bool.{Bool, true, false, not, cond}
 use mathlib.Core.List.{List}
 use Prim.Native.Nat.{ℕ, suc, _+_, _-_, _≤_, _<_, max}
 use native.Mathlib.Nat.{add-zero}
@@ -9,11 +9,11 @@ use lib.Dec.{eqb, leb}
 use lib.ListN.{length, getD}
 use borrow.Author.Tests.{le-leb, lt-leb, eq-eqb, ne-eqb, not-true, not-false}
 use Rattle.nets.specs.Networks.{width}
-use Rattle.nets.specs.Tries.{size}
+use Rattle.nets.specs.Tries.{Trie, size}
 use Rattle.nets.proofs.Strings.{cond-both}
 use Rattle.nodes.specs.Parse.{Room, Read, bad, ok, parse, after}
-use Rattle.pool_state.specs.Decode.{recordAt, base, isHeader, readSet, decode}
-use Rattle.pool_state.specs.Rules.{shareIn, limitIn, noSurvey, surveyOf}
+use Rattle.pool_state.specs.Decode.{recordAt, base, isHeader, readSet, isRight, decode}
+use Rattle.pool_state.specs.Rules.{shareIn, noSurvey, surveyOf}
 use Rattle.nodes.proofs.Unique.{got}
 use Rattle.pool_state.proofs.Header.{isHeader-header, header-room}
 use Rattle.pool_check.proofs.Scan.{found, turn, scan, scan-survey}
@@ -37,11 +37,12 @@ pub record Pass (w : List ℕ) (k sets n b f s i c a h : ℕ) : Type 0 where
   pub room : Room w b n
   pub few : sets ≤ 64
   pub long : base sets ≤ length w
+  pub fuel : f ≡ suc (width (getD w 1 0))
   pub deep : f ≤ 129
   pub past : s ≤ sets
   pub pos : 1 ≤ i
   pub within : c ≤ n
-  pub is : scan w b n f k (sets - s) s i c (a, h) ≡ surveyOf (decode w) k
+  pub is : scan w b n (getD w 1 0) k (sets - s) s i c (a, h) ≡ surveyOf (decode w) k
 
 width-few : (f : ℕ) → width f ≤ 128
 unfolding width
@@ -55,11 +56,12 @@ pass-start w k f h e =
       room = header-room r;
       few = omega arith;
       long = omega arith;
+      fuel = e;
       deep = omega (arith, width-few (getD w 1 0));
       past = omega arith;
       pos = omega arith;
       within = omega arith;
-      is = rw (e, z) (scan-survey w k h);
+      is = rw z (scan-survey w k h);
     }
 
 lost : (i : ℕ) (x : Read) → 1 ≤ i → 0 ≡ after i x → x ≡ bad
@@ -83,26 +85,35 @@ module _ {w : List ℕ} {k sets n b f s i c a h : ℕ} (o : Pass w k sets n b f 
 
     pub pass-bad : e ≡ 0 → noSurvey ≡ surveyOf (decode w) k
     unfolding scan
-    pass-bad z = rw (left, scan, lost i (readSet w b n f s i) (o .pos) (sym z ∙ end)) at (o .is)
+    pass-bad z = rw (left, scan, ← o .fuel, lost i (readSet w b n f s i) (o .pos) (sym z ∙ end)) at (o .is)
 
     module _ (some : e ≡ 0 → ⊥) where
+      there : (t : Trie) × (readSet w b n f s i ≡ ok t) × (e ≡ i + size t)
+      there = got i e (readSet w b n f s i) end some
+
+      pub pass-found : (f : ℕ) × (t : Trie) × (readSet w b n f s i ≡ ok t) × (e ≡ i + size t)
+      pass-found = (f, there .0, there .1, there .2)
+
       pub pass-up : i ≤ e
-      pass-up = omega (arith, got i e (readSet w b n f s i) end some .2)
+      pass-up = omega (arith, there .2)
 
-      opened : turn w b n f k (scan w b n f k (sets - (s + 1)) (s + 1)) s i c (a, h) (e - i) ≡ surveyOf (decode w) k
+      opened : turn w b n (getD w 1 0) k (scan w b n (getD w 1 0) k (sets - (s + 1)) (s + 1)) s i c (a, h) (there .0) ≡ surveyOf (decode w) k
       unfolding scan
-      opened =
-          let g = got i e (readSet w b n f s i) end some in
-          let z : e - i ≡ size (g .0) = omega (arith, g .2) in
-          rw z (rw (left, scan, g .1) at (o .is))
+      opened = rw (left, scan, ← o .fuel, there .1) at (o .is)
 
-      module _ {r : Bool} (limit : r ≡ (leb (shareIn w s) (limitIn w s) && leb (e - i) (limitIn w s))) where
+      module _ {r : Bool} (right : (f : ℕ) (t : Trie) → readSet w b n f s i ≡ ok t → e ≡ i + size t → r ≡ isRight w (getD w 1 0) s t) where
+        is-right : r ≡ isRight w (getD w 1 0) s (there .0)
+        is-right = right f (there .0) (there .1) (there .2)
+
         pub pass-off : not r ≡ true → noSurvey ≡ surveyOf (decode w) k
-        pass-off out = rw (sym limit ∙ not-true r out) at opened
+        pass-off out = rw (sym is-right ∙ not-true r out) at opened
 
         module _ (fit : not r ≡ false) {q : ℕ} (claim : q ≡ max (shareIn w s) (e - i)) where
-          allowed : cond (leb (c + q) n) (scan w b n f k (sets - (s + 1)) (s + 1) e (c + q) (cond (eqb s k) i a, cond (eqb s k) (e - i) h)) noSurvey ≡ surveyOf (decode w) k
-          allowed = let z : i + (e - i) ≡ e = omega (arith, pass-up) in rw (sym limit ∙ not-false r fit, ← claim, picked (eqb s k) i (e - i) a h, z) at opened
+          allowed : cond (leb (c + q) n) (scan w b n (getD w 1 0) k (sets - (s + 1)) (s + 1) e (c + q) (cond (eqb s k) i a, cond (eqb s k) (e - i) h)) noSurvey ≡ surveyOf (decode w) k
+          allowed =
+              let z : i + (e - i) ≡ e = omega (arith, pass-up) in
+              let y : size (there .0) ≡ e - i = omega (arith, there .2) in
+              rw (sym is-right ∙ not-false r fit, y, ← claim, picked (eqb s k) i (e - i) a h, z) at opened
 
           pub pass-over : n - c < q → noSurvey ≡ surveyOf (decode w) k
           pass-over lt = rw (lt-leb (c + q) n (omega arith)) at allowed
@@ -112,6 +123,7 @@ module _ {w : List ℕ} {k sets n b f s i c a h : ℕ} (o : Pass w k sets n b f 
             room = o .room;
             few = o .few;
             long = o .long;
+            fuel = o .fuel;
             deep = o .deep;
             past = omega arith;
             pos = omega (arith, pass-up);

@@ -1,7 +1,7 @@
 -- The pass over the sets: `scan` is the loop, which judges set by set, and it finds what `surveyOf` says of the decoded words, for which all the sets are read before
 -- they are judged: `finish` is what both come to. Assumes nothing.
 use mathlib.Core.Path.{_≡_, refl, sym, _∙_}
-use mathlib.Core.Bool.{Bool, true, false, cond, _&&_}
+use mathlib.Core.Bool.{Bool, true, false, cond}
 use mathlib.Core.List.{List, [], _∷_}
 use Prim.Native.Nat.{ℕ, zero, suc, _+_, _-_, _≤_, _<_, max}
 use native.Mathlib.Omega.{arith}
@@ -10,14 +10,13 @@ use lib.Dec.{eqb, leb}
 use lib.ListN.{getD}
 use borrow.Author.Tests.{le-leb, lt-leb, eq-eqb, ne-eqb, leb-true, leb-false}
 use Rattle.nets.specs.Networks.{width}
-use Rattle.nets.specs.Tries.{size}
+use Rattle.nets.specs.Tries.{Trie, size}
 use Rattle.nets.proofs.Nodes.{nodesL-listOf, nodesL-empty}
 use Rattle.nodes.specs.Parse.{Read, bad, ok}
 use Rattle.pool_state.specs.States.{SetState, held, claim, used, claimed}
-use Rattle.pool_state.specs.Decode.{base, damaged, sound, ReadSets, badSets, okSets, setOf, setBefore, isHeader, readSet, readSets, judged, decode}
-use Rattle.pool_state.specs.Rules.{shareIn, limitIn, noSet, noSurvey, startOf, surveyOf}
+use Rattle.pool_state.specs.Decode.{base, damaged, sound, ReadSets, badSets, okSets, setOf, isRight, setBefore, isHeader, readSet, readSets, judged, decode}
+use Rattle.pool_state.specs.Rules.{shareIn, noSet, noSurvey, startOf, surveyOf}
 use Rattle.pool_state.specs.declared.Survey.{Survey}
-use Rattle.pool_state.proofs.Claims.{limited}
 
 -- Start and nodes of set k, of the sets from s and number i on; p where it is not among them.
 abbrev chosen : ℕ → ℕ → ℕ → ℕ × ℕ → List SetState → ℕ × ℕ
@@ -40,20 +39,20 @@ abbrev pub found : ℕ → ℕ → ℕ × ℕ → Survey
 found i c p = record { sound = true; used = i - 1; claimed = c; at = p .0; held = p .1 }
 
 module _ (w : List ℕ) (b n f k : ℕ) where
-  -- set s, of m nodes: where it is within its limit and its claim within the pool, the pass goes on
-  abbrev pub turn : (ℕ → ℕ → ℕ × ℕ → Survey) → ℕ → ℕ → ℕ → ℕ × ℕ → ℕ → Survey
-  turn next s i c p m =
-      cond (leb (shareIn w s) (limitIn w s) && leb m (limitIn w s))
-      (cond (leb (c + max (shareIn w s) m) n) (next (i + m) (c + max (shareIn w s) m) (cond (eqb s k) (i, m) p)) noSurvey)
+  -- set s, whose trie is t: where it is right and its claim within the pool, the pass goes on
+  abbrev pub turn : (ℕ → ℕ → ℕ × ℕ → Survey) → ℕ → ℕ → ℕ → ℕ × ℕ → Trie → Survey
+  turn next s i c p t =
+      cond (isRight w f s t)
+      (cond (leb (c + max (shareIn w s) (size t)) n) (next (i + size t) (c + max (shareIn w s) (size t)) (cond (eqb s k) (i, size t) p)) noSurvey)
       noSurvey
 
-  -- m sets are still to come, from set s and number i on; the claims before them are c, and p is what is known of set k
+  -- m sets of the family f are still to come, from set s and number i on; the claims before them are c, and p is what is known of set k
   unfoldable pub scan : ℕ → ℕ → ℕ → ℕ → ℕ × ℕ → Survey
   scan zero s i c p = found i c p
   scan (suc m) s i c p =
-      elim (readSet w b n f s i) [
+      elim (readSet w b n (suc (width f)) s i) [
         | bad ↦ noSurvey
-        | ok t ↦ turn (scan m (s + 1)) s i c p (size t)
+        | ok t ↦ turn (scan m (s + 1)) s i c p t
       ]
 
   -- the same, from all the sets that are read
@@ -62,49 +61,46 @@ module _ (w : List ℕ) (b n f k : ℕ) where
   finish s i c p (okSets xs) = cond (leb (c + claimed xs) n) (found (i + used xs) (c + claimed xs) (chosen k s i p xs)) noSurvey
 
   module _ (s i c : ℕ) (p : ℕ × ℕ) (x : SetState) where
-    finish-off : (r : ReadSets) → limited x ≡ false → finish s i c p (setBefore x r) ≡ noSurvey
-    finish-off badSets e = refl
-    finish-off (okSets xs) e = rw e
+    finish-off : (r : ReadSets) → finish s i c p (setBefore false x r) ≡ noSurvey
+    finish-off badSets = refl
+    finish-off (okSets xs) = refl
 
-    finish-over : (r : ReadSets) → n < c + claim x → finish s i c p (setBefore x r) ≡ noSurvey
+    finish-over : (q : Bool) (r : ReadSets) → n < c + claim x → finish s i c p (setBefore q x r) ≡ noSurvey
     unfolding claimed
-    finish-over badSets e = refl
-    finish-over (okSets xs) e = go (limited x)
-      where
-        go : (q : Bool) → finish s i c p (cond q (okSets (x ∷ xs)) badSets) ≡ noSurvey
-        go true = rw (lt-leb (c + (claim x + claimed xs)) n (omega arith))
-        go false = refl
+    finish-over q badSets e = refl
+    finish-over true (okSets xs) e = rw (lt-leb (c + (claim x + claimed xs)) n (omega arith))
+    finish-over false (okSets xs) e = refl
 
-    finish-on : (r : ReadSets) → limited x ≡ true → finish (s + 1) (i + held x) (c + claim x) (cond (eqb s k) (i, held x) p) r ≡ finish s i c p (setBefore x r)
+    finish-on : (r : ReadSets) → finish (s + 1) (i + held x) (c + claim x) (cond (eqb s k) (i, held x) p) r ≡ finish s i c p (setBefore true x r)
     unfolding used claimed
-    finish-on badSets e = refl
-    finish-on (okSets xs) e = rw (e, add-assoc c (claim x) (claimed xs), add-assoc i (held x) (used xs))
+    finish-on badSets = refl
+    finish-on (okSets xs) = rw (add-assoc c (claim x) (claimed xs), add-assoc i (held x) (used xs))
 
-    finish-set : (r : ReadSets) (z : Survey)
+    finish-set : (q : Bool) (r : ReadSets) (z : Survey)
         → (c + claim x ≤ n → z ≡ finish (s + 1) (i + held x) (c + claim x) (cond (eqb s k) (i, held x) p) r)
-        → cond (limited x) (cond (leb (c + claim x) n) z noSurvey) noSurvey ≡ finish s i c p (setBefore x r)
-    finish-set r z next = go (limited x) (leb (c + claim x) n) refl refl
+        → cond q (cond (leb (c + claim x) n) z noSurvey) noSurvey ≡ finish s i c p (setBefore q x r)
+    finish-set q r z next = go q (leb (c + claim x) n) refl
       where
-        go : (q o : Bool) → limited x ≡ q → leb (c + claim x) n ≡ o → cond q (cond o z noSurvey) noSurvey ≡ finish s i c p (setBefore x r)
-        go false o d e = sym (finish-off r d)
-        go true false d e = sym (finish-over r (leb-false (c + claim x) n e))
-        go true true d e = next (leb-true (c + claim x) n e) ∙ finish-on r d
+        go : (q o : Bool) → leb (c + claim x) n ≡ o → cond q (cond o z noSurvey) noSurvey ≡ finish s i c p (setBefore q x r)
+        go false o e = sym (finish-off r)
+        go true false e = sym (finish-over true r (leb-false (c + claim x) n e))
+        go true true e = next (leb-true (c + claim x) n e) ∙ finish-on r
 
   scan-finish : (m s i c : ℕ) (p : ℕ × ℕ) → c ≤ n → scan m s i c p ≡ finish s i c p (readSets w b n f m s i)
   unfolding scan readSets used claimed
   scan-finish zero s i c p le = rw (add-zero c, add-zero i, le-leb c n le)
-  scan-finish (suc m) s i c p le = go (readSet w b n f s i) (scan-finish m (s + 1))
+  scan-finish (suc m) s i c p le = go (readSet w b n (suc (width f)) s i) (scan-finish m (s + 1))
     where
       go : (r : Read)
           → ((j d : ℕ) (q : ℕ × ℕ) → d ≤ n → scan m (s + 1) j d q ≡ finish (s + 1) j d q (readSets w b n f m (s + 1) j))
-          → elim r [ bad ↦ noSurvey | ok t ↦ turn (scan m (s + 1)) s i c p (size t) ] ≡
-          finish s i c p (elim r [ bad ↦ badSets | ok t ↦ setBefore (setOf w s t) (readSets w b n f m (s + 1) (i + size t)) ])
+          → elim r [ bad ↦ noSurvey | ok t ↦ turn (scan m (s + 1)) s i c p t ] ≡
+          finish s i c p (elim r [ bad ↦ badSets | ok t ↦ setBefore (isRight w f s t) (setOf w s t) (readSets w b n f m (s + 1) (i + size t)) ])
       go bad ih = refl
       go (ok t) ih =
           let x = setOf w s t in
           let q = cond (eqb s k) (i, held x) p in
           rw (← nodesL-listOf t)
-          (finish-set s i c p x (readSets w b n f m (s + 1) (i + held x)) (scan m (s + 1) (i + held x) (c + claim x) q) (ih (i + held x) (c + claim x) q))
+          (finish-set s i c p x (isRight w f s t) (readSets w b n f m (s + 1) (i + held x)) (scan m (s + 1) (i + held x) (c + claim x) q) (ih (i + held x) (c + claim x) q))
 
 finish-judged : (w : List ℕ) (b f k : ℕ) (r : ReadSets) → finish w b (getD w 3 0) f k 0 1 0 (0, 0) r ≡ surveyOf (judged w r) k
 unfolding surveyOf
@@ -120,12 +116,12 @@ finish-judged w b f k (okSets xs) = rw (zero-add (claimed xs)) (go (leb (claimed
     go false = refl
 
 -- From the first set on, the pass finds what the decoded state says; without a header there is nothing to find.
-pub scan-survey : (w : List ℕ) (k : ℕ) → isHeader w ≡ true → scan w (base (getD w 2 0)) (getD w 3 0) (suc (width (getD w 1 0))) k (getD w 2 0) 0 1 0 (0, 0) ≡ surveyOf (decode w) k
+pub scan-survey : (w : List ℕ) (k : ℕ) → isHeader w ≡ true → scan w (base (getD w 2 0)) (getD w 3 0) (getD w 1 0) k (getD w 2 0) 0 1 0 (0, 0) ≡ surveyOf (decode w) k
 unfolding decode
 scan-survey w k h =
     let b = base (getD w 2 0) in
     let n = getD w 3 0 in
-    let f = suc (width (getD w 1 0)) in
+    let f = getD w 1 0 in
     scan-finish w b n f k (getD w 2 0) 0 1 0 (0, 0) (omega arith) ∙ rw h (finish-judged w b f k (readSets w b n f (getD w 2 0) 0 1))
 
 pub surveyOf-headless : (w : List ℕ) (k : ℕ) → isHeader w ≡ false → noSurvey ≡ surveyOf (decode w) k

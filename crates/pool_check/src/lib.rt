@@ -1,17 +1,20 @@
-// The check of a whole pool, in one pass over its sets, and the seat of one of them.
+// The check of a whole pool, in one pass over its sets, and the seat of one of them. Of a public-only set the ways down to the inner networks are read, and no list.
 use nets::families::is_family;
 use nodes::reading::trie_end;
 use pool_state::Survey;
+use trie_meets::standing::is_clear;
 ghost use mathlib.Core.Path.{_≡_};
-ghost use mathlib.Core.Bool.{true, cond, _&&_};
-ghost use Prim.Native.Nat.{suc, _+_, _≤_, _<_, max};
+ghost use mathlib.Core.Bool.{true, not, cond, _&&_, _||_};
+ghost use Prim.Native.Nat.{ℕ, suc, _+_, _≤_, _<_, max};
 ghost use lib.Dec.{eqb, leb};
-ghost use lib.ListN.{length};
+ghost use lib.ListN.{length, getD};
 ghost use Rattle.nets.specs.Networks.{width};
-ghost use Rattle.nodes.specs.Parse.{Room, after};
+ghost use Rattle.nets.specs.Tries.{Trie, size, listOf};
+ghost use Rattle.inner_nets.specs.Inner.{isPublic};
+ghost use Rattle.nodes.specs.Parse.{Room, ok, after};
 ghost use Rattle.pool_state.specs.States.{isSize};
-ghost use Rattle.pool_state.specs.Decode.{base, isHeader, readSet, decode};
-ghost use Rattle.pool_state.specs.Rules.{shareIn, limitIn, noSurvey, surveyOf};
+ghost use Rattle.pool_state.specs.Decode.{base, isHeader, readSet, isRight, decode};
+ghost use Rattle.pool_state.specs.Rules.{shareIn, limitIn, publicIn, noSurvey, surveyOf};
 
 pub mod seats;
 
@@ -106,6 +109,39 @@ fn in_limit(w: &[u32], s: usize, nodes: u32) -> bool
     nodes <= limit
 }
 
+// The mark of set s, which begins at node i, is one of the two, and where it says public-only, the set keeps clear of the inner networks.
+fn keeps_mark(w: &[u32], b: usize, n: u32, s: usize, i: u32) -> bool
+    requires { ⌜ Room (now w) b n × (1 ≤ i) ⌝ }
+    requires { ⌜ (s < 64) × (base (s + 1) ≤ length (now w)) ⌝ }
+    requires { ⌜ ((f : ℕ) × (t : Trie) × (readSet (now w) b n f s i ≡ ok t)) ⌝ }
+    ensures { λ r. ⌜ ((f : ℕ) (t : Trie) → readSet (now (w .entry)) b n f s i ≡ ok t → r ≡ (leb (publicIn (now (w .entry)) s) 1 && (not (eqb (publicIn (now (w .entry)) s) 1) || isPublic (getD (now (w .entry)) 1 0) (listOf t)))) ⌝ }
+{
+    let mark = w[HEAD + RECORD * s + 3];
+    if mark == 0 {
+        return true;
+    }
+    if mark != 1 {
+        return false;
+    }
+    if w[HEAD + RECORD * s] == 0 {
+        return true;
+    }
+    is_clear(w, b, n, i, w[1])
+}
+
+// The rules of set s, whose trie stands from node i up to node `end`.
+fn is_right(w: &[u32], b: usize, n: u32, s: usize, i: u32, end: u32) -> bool
+    requires { ⌜ Room (now w) b n × (1 ≤ i) ⌝ }
+    requires { ⌜ (s < 64) × (base (s + 1) ≤ length (now w)) ⌝ }
+    requires { ⌜ ((f : ℕ) × (t : Trie) × (readSet (now w) b n f s i ≡ ok t) × (end ≡ i + size t)) ⌝ }
+    ensures { λ r. ⌜ ((f : ℕ) (t : Trie) → readSet (now (w .entry)) b n f s i ≡ ok t → end ≡ i + size t → r ≡ isRight (now (w .entry)) (getD (now (w .entry)) 1 0) s t) ⌝ }
+{
+    if !in_limit(w, s, end - i) {
+        return false;
+    }
+    keeps_mark(w, b, n, s, i)
+}
+
 // What set s claims of the pool: the larger of its share and its nodes.
 pub fn claim_at(w: &[u32], s: usize, nodes: u32) -> u32
     requires { ⌜ (s < 64) × (base (s + 1) ≤ length (now w)) ⌝ }
@@ -159,10 +195,10 @@ fn survey_sets(w: &[u32], set: usize) -> Survey
         if end == 0 {
             return no_survey();
         }
-        let nodes = end - i;
-        if !in_limit(w, s, nodes) {
+        if !is_right(w, b, n, s, i, end) {
             return no_survey();
         }
+        let nodes = end - i;
         let claim = claim_at(w, s, nodes);
         if n - claimed < claim {
             return no_survey();

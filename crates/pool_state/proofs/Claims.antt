@@ -12,7 +12,7 @@ use Rattle.nets.specs.Bits.{Bits, before}
 use Rattle.nets.specs.Lists.{isList, nodesL}
 use Rattle.nets.specs.Networks.{isFamily, width}
 use Rattle.nets.proofs.Strings.{and-left, and-right}
-use Rattle.pool_state.specs.States.{SetState, State, held, claim, used, claimed, claimedBut, freeOf, roomOf, isSize, isSet, areSets, isState}
+use Rattle.pool_state.specs.States.{SetState, State, held, claim, used, claimed, claimedBut, freeOf, roomOf, admits, keepsRules, isSize, isSet, areSets, isState}
 use Rattle.pool_state.specs.Rules.{noSet}
 
 -- The rules of a state.
@@ -33,7 +33,7 @@ abbrev numbers : State → Bool
 numbers S = isFamily (S .family) && isSize (length (S .sets)) (S .nodes)
 
 abbrev lists : State → Bool
-lists S = areSets (width (S .family)) (S .sets) && leb (claimed (S .sets)) (S .nodes)
+lists S = areSets (S .family) (S .sets) && leb (claimed (S .sets)) (S .nodes)
 
 module _ (S : State) (e : isState S ≡ true) where
   pub isState-family : isFamily (S .family) ≡ true
@@ -44,56 +44,69 @@ module _ (S : State) (e : isState S ≡ true) where
   unfolding isState
   isState-size = and-right (isFamily (S .family)) (isSize (length (S .sets)) (S .nodes)) (and-left (numbers S) (lists S) e)
 
-  pub isState-sets : areSets (width (S .family)) (S .sets) ≡ true
+  pub isState-sets : areSets (S .family) (S .sets) ≡ true
   unfolding isState
-  isState-sets = and-left (areSets (width (S .family)) (S .sets)) (leb (claimed (S .sets)) (S .nodes)) (and-right (numbers S) (lists S) e)
+  isState-sets = and-left (areSets (S .family) (S .sets)) (leb (claimed (S .sets)) (S .nodes)) (and-right (numbers S) (lists S) e)
 
   pub isState-claimed : claimed (S .sets) ≤ S .nodes
   unfolding isState
   isState-claimed =
       leb-true (claimed (S .sets)) (S .nodes)
-      (and-right (areSets (width (S .family)) (S .sets)) (leb (claimed (S .sets)) (S .nodes)) (and-right (numbers S) (lists S) e))
+      (and-right (areSets (S .family) (S .sets)) (leb (claimed (S .sets)) (S .nodes)) (and-right (numbers S) (lists S) e))
 
--- The rules of a set: share and nodes are within the limit.
-abbrev pub limited : SetState → Bool
-limited x = leb (x .share) (x .limit) && leb (held x) (x .limit)
+-- The rules of a set: share and nodes are within the limit, and it keeps clear of the inner networks where it is public-only.
+module _ (f : ℕ) (x : SetState) (e : isSet f x ≡ true) where
+  pub isSet-list : isList (width f) (x .list) ≡ true
+  isSet-list = and-left (isList (width f) (x .list)) (keepsRules f x) e
 
-module _ (v : ℕ) (x : SetState) (e : isSet v x ≡ true) where
-  pub isSet-list : isList v (x .list) ≡ true
-  isSet-list = and-left (isList v (x .list)) (limited x) e
+  pub isSet-rules : keepsRules f x ≡ true
+  isSet-rules = and-right (isList (width f) (x .list)) (keepsRules f x) e
 
-  pub isSet-limited : limited x ≡ true
-  isSet-limited = and-right (isList v (x .list)) (limited x) e
+  pub isSet-share : x .share ≤ x .limit
+  isSet-share = leb-true (x .share) (x .limit) (and-left (leb (x .share) (x .limit)) (leb (held x) (x .limit) && admits f x (x .list)) isSet-rules)
 
-module _ (v : ℕ) (x : SetState) (xs : List SetState) (e : areSets v (x ∷ xs) ≡ true) where
-  pub areSets-head : isSet v x ≡ true
-  areSets-head = and-left (isSet v x) (areSets v xs) e
+  held-admits : (leb (held x) (x .limit) && admits f x (x .list)) ≡ true
+  held-admits = and-right (leb (x .share) (x .limit)) (leb (held x) (x .limit) && admits f x (x .list)) isSet-rules
 
-  pub areSets-tail : areSets v xs ≡ true
-  areSets-tail = and-right (isSet v x) (areSets v xs) e
+  pub isSet-held : held x ≤ x .limit
+  isSet-held = leb-true (held x) (x .limit) (and-left (leb (held x) (x .limit)) (admits f x (x .list)) held-admits)
+
+  pub isSet-admits : admits f x (x .list) ≡ true
+  isSet-admits = and-right (leb (held x) (x .limit)) (admits f x (x .list)) held-admits
+
+module _ (f : ℕ) (x : SetState) (xs : List SetState) (e : areSets f (x ∷ xs) ≡ true) where
+  pub areSets-head : isSet f x ≡ true
+  areSets-head = and-left (isSet f x) (areSets f xs) e
+
+  pub areSets-tail : areSets f xs ≡ true
+  areSets-tail = and-right (isSet f x) (areSets f xs) e
 
 -- So every set of a state keeps them; a number that is no set's has an empty one, which does too.
-areSets-at : (v k : ℕ) (xs : List SetState) → areSets v xs ≡ true → isSet v (getD xs k noSet) ≡ true
+areSets-at : (f k : ℕ) (xs : List SetState) → areSets f xs ≡ true → isSet f (getD xs k noSet) ≡ true
 unfolding isList nodesL
-areSets-at v k [] e = refl
-areSets-at v zero (x ∷ xs) e = areSets-head v x xs e
-areSets-at v (suc k) (x ∷ xs) e = areSets-at v k xs (areSets-tail v x xs e)
+areSets-at f k [] e = refl
+areSets-at f zero (x ∷ xs) e = areSets-head f x xs e
+areSets-at f (suc k) (x ∷ xs) e = areSets-at f k xs (areSets-tail f x xs e)
 
 module _ (S : State) (k : ℕ) (e : isState S ≡ true) where
   abbrev set : SetState
   set = getD (S .sets) k noSet
 
-  rules : isSet (width (S .family)) set ≡ true
-  rules = areSets-at (width (S .family)) k (S .sets) (isState-sets S e)
+  rules : isSet (S .family) set ≡ true
+  rules = areSets-at (S .family) k (S .sets) (isState-sets S e)
 
   pub isList-listAt : isList (width (S .family)) (set .list) ≡ true
-  isList-listAt = isSet-list (width (S .family)) set rules
+  isList-listAt = isSet-list (S .family) set rules
 
   pub share-limit : set .share ≤ set .limit
-  share-limit = leb-true (set .share) (set .limit) (and-left (leb (set .share) (set .limit)) (leb (held set) (set .limit)) (isSet-limited (width (S .family)) set rules))
+  share-limit = isSet-share (S .family) set rules
 
   pub held-limit : held set ≤ set .limit
-  held-limit = leb-true (held set) (set .limit) (and-right (leb (set .share) (set .limit)) (leb (held set) (set .limit)) (isSet-limited (width (S .family)) set rules))
+  held-limit = isSet-held (S .family) set rules
+
+  -- a public-only set keeps clear of the inner networks
+  pub admits-listAt : admits (S .family) set (set .list) ≡ true
+  admits-listAt = isSet-admits (S .family) set rules
 
 -- The claims.
 pub used-claimed : (ss : List SetState) → used ss ≤ claimed ss
@@ -117,7 +130,7 @@ roomOf-is S k lt = omega (arith, claimedBut-is k (S .sets) lt)
 
 -- The scope document's pool: IPv6, 100 nodes, shares 40 and 30, limits 60 and 80, set 0 empty; set 1 is empty, or has one /59.
 abbrev poolWith : List Bits → State
-poolWith l = record { family = 6; nodes = 100; sets = record { share = 40; limit = 60; list = [] } ∷ record { share = 30; limit = 80; list = l } ∷ [] }
+poolWith l = record { family = 6; nodes = 100; sets = record { share = 40; limit = 60; public = false; list = [] } ∷ record { share = 30; limit = 80; public = false; list = l } ∷ [] }
 
 pub room-empty : (isState (poolWith []) ≡ true) × (roomOf (poolWith []) 1 ≡ 60) × (roomOf (poolWith []) 0 ≡ 70)
 unfolding isState claimed claimedBut isList nodesL

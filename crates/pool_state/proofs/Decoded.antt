@@ -9,6 +9,7 @@ use native.Mathlib.Omega.{arith}
 use lib.Dec.{leb}
 use lib.ListN.{length, getD, take, drop, replicate}
 use borrow.Author.Tests.{le-leb}
+use Rattle.nets.specs.Bits.{digit}
 use Rattle.nets.specs.Lists.{isList, nodesL}
 use Rattle.nets.specs.Networks.{width}
 use Rattle.nets.specs.Tries.{trieOf}
@@ -30,7 +31,8 @@ module _ (w : List ℕ) (S : State) (e : decode w ≡ sound S) where
   pub decode-header : HeaderOf w S
   decode-header = sound-header (decode-sound w S e)
 
-  -- Each set has one list of the family's width, within its limit; each share is at most its limit; the claims add up to at most the nodes.
+  -- Each set has one list of the family's width, within its limit; each share is at most its limit; a public-only set keeps clear of the inner networks; the claims add up to at most
+  -- the nodes.
   pub decode-state : isState S ≡ true
   decode-state = decode-sound w S e .state
 
@@ -40,11 +42,11 @@ module _ (w : List ℕ) (S : State) (e : decode w ≡ sound S) where
 
   -- Every node that is not placed is free: as many are placed as the lists have, no more than are claimed, and no more are claimed than there are.
   pub decode-used : (length (nodeWords (S .sets)) ≡ used (S .sets)) × (used (S .sets) ≤ claimed (S .sets)) × (claimed (S .sets) ≤ S .nodes)
-  decode-used = (length-nodeWords (width (S .family)) (S .sets) (isState-sets S decode-state), used-claimed (S .sets), isState-claimed S decode-state)
+  decode-used = (length-nodeWords (S .family) (S .sets) (isState-sets S decode-state), used-claimed (S .sets), isState-claimed S decode-state)
 
   -- Set k: its record, its trie, and the tries before and behind it.
   module _ (k : ℕ) (lt : k < length (S .sets)) where
-    pub decode-set : HoldsSet w (base (length (S .sets))) (S .nodes) (width (S .family)) k (startOf k 1 (S .sets)) (getD (S .sets) k noSet)
+    pub decode-set : HoldsSet w (base (length (S .sets))) (S .nodes) (S .family) k (startOf k 1 (S .sets)) (getD (S .sets) k noSet)
     decode-set = rw zero-add at (holds-at 0 k (S .sets) (omega arith) lt (decode-sound w S e .holds))
 
     pub decode-root : getD w (recordAt k) 0 ≡ rootAt (startOf k 1 (S .sets)) (getD (S .sets) k noSet .list)
@@ -56,12 +58,15 @@ module _ (w : List ℕ) (S : State) (e : decode w ≡ sound S) where
     pub decode-limit : getD w (recordAt k + 2) 0 ≡ getD (S .sets) k noSet .limit
     decode-limit = decode-set .here .at 2 (omega arith)
 
+    pub decode-public : getD w (recordAt k + 3) 0 ≡ digit (getD (S .sets) k noSet .public)
+    decode-public = decode-set .here .at 3 (omega arith)
+
     pub decode-at : Stands w (base (length (S .sets))) (S .nodes) (suc (width (S .family))) (startOf k 1 (S .sets)) (trieOf (getD (S .sets) k noSet .list))
     decode-at = decode-set .trie
 
     pub decode-parts : (nodeWords (S .sets) ≡ nodeWords (take k (S .sets)) ++ (enc (trieOf (getD (S .sets) k noSet .list)) ++ nodeWords (drop (suc k) (S .sets))))
         × (startOf k 1 (S .sets) ≡ 1 + length (nodeWords (take k (S .sets))))
-    decode-parts = (nodeWords-at k (S .sets) lt, startOf-is (width (S .family)) k 1 (S .sets) (isState-sets S decode-state) lt)
+    decode-parts = (nodeWords-at k (S .sets) lt, startOf-is (S .family) k 1 (S .sets) (isState-sets S decode-state) lt)
 
 -- Encoding and decoding are inverse.
 pub over-decode : (w : List ℕ) (S : State) → decode w ≡ sound S → over w S ≡ w
@@ -78,9 +83,9 @@ pub over-one : (w : List ℕ) (S T : State) → isState S ≡ true → isState T
 over-one w S T e f le lf q = decode-one (over w T) S T (rw q at (decode-over w S e le)) (decode-over w T f lf)
 
 -- A granted layout: every set is empty.
-isSet-empty : (v x y : ℕ) → leb x y ≡ true → isSet v (record { share = x; limit = y; list = [] }) ≡ true
+isSet-empty : (f x y : ℕ) → leb x y ≡ true → isSet f (record { share = x; limit = y; public = false; list = [] }) ≡ true
 unfolding isList nodesL
-isSet-empty v x y e = rw e (le-leb 0 y (omega arith))
+isSet-empty f x y e = rw (e, le-leb 0 y (omega arith))
 
 emptySets-is : (v : ℕ) (shares limits : List ℕ) → withinLimits shares limits ≡ true → (areSets v (emptySets shares limits) ≡ true) × (claimed (emptySets shares limits) ≡ total shares)
 unfolding claimed total
@@ -108,7 +113,7 @@ module _ (w : List ℕ) (p : Setup) (e : layoutNo w p ≡ 0) where
   pub laid-state : isState (emptyState p) ≡ true
   unfolding isState
   laid-state =
-      let x = emptySets-is (width (p .family)) (p .shares) (p .limits) (kept .within) in
+      let x = emptySets-is (p .family) (p .shares) (p .limits) (kept .within) in
       rw (kept .family, laid-sets, kept .size, x .0, x .1) (le-leb (total (p .shares)) (p .nodes) (kept .total))
 
   pub decode-laid : decode (laid w p) ≡ sound (emptyState p)

@@ -13,10 +13,10 @@ use Rattle.nodes.specs.Words.{put, Has}
 use Rattle.pool_state.specs.States.{SetState, State, held, claimed, isState}
 use Rattle.pool_state.specs.Decode.{mark, recordAt, base, leastWords, overRecords, nodeWords, over, damaged, sound, ReadSets, badSets, okSets, isHeader, readSets, judged, decode}
 use Rattle.nodes.proofs.Put.{length-put}
-use Rattle.nodes.proofs.Has.{has-put, put-has, has-head, has-at, has-cons, has-same}
+use Rattle.nodes.proofs.Has.{has-put, put-has, has-head, has-at, has-same}
 use Rattle.pool_state.proofs.Claims.{isState-family, isState-size, isState-sets, isState-claimed, used-claimed}
 use Rattle.pool_state.proofs.Header.{IsHeader, isHeader-header, header-room}
-use Rattle.pool_state.proofs.Holds.{has-three, length-nodeWords, recordOf, Records, records-put, Holds, readSets-of, readSets-holds}
+use Rattle.pool_state.proofs.Holds.{has-four, length-nodeWords, recordOf, Records, records-put, Holds, readSets-of, readSets-holds}
 
 abbrev pub headerOf : State → List ℕ
 headerOf S = mark ∷ S .family ∷ length (S .sets) ∷ S .nodes ∷ []
@@ -25,7 +25,7 @@ pub record Sound (w : List ℕ) (S : State) : Type 0 where
   pub state : isState S ≡ true
   pub long : leastWords (length (S .sets)) (S .nodes) ≤ length w
   pub header : Has w 0 (headerOf S)
-  pub holds : Holds w (base (length (S .sets))) (S .nodes) (width (S .family)) 0 1 (S .sets)
+  pub holds : Holds w (base (length (S .sets))) (S .nodes) (S .family) 0 1 (S .sets)
 
 -- The state that words hold is decoded: their header is that of the state,
 pub record HeaderOf (w : List ℕ) (S : State) : Type 0 where
@@ -49,12 +49,12 @@ module _ {w : List ℕ} {S : State} (h : Sound w S) where
   unfolding decode
   sound-decode =
       let g = sound-header in
-      let r = readSets-of w (base (length (S .sets))) (S .nodes) (width (S .family)) 0 1 (S .sets) (omega arith) (h .holds) in
+      let r = readSets-of w (base (length (S .sets))) (S .nodes) (S .family) 0 1 (S .sets) (omega arith) (h .holds) in
       rw (g .known, g .family, g .sets, g .nodes, r, g .family, g .nodes, le-leb (claimed (S .sets)) (S .nodes) (isState-claimed S (h .state)))
 
 -- and what is decoded they hold.
 abbrev setsOf : List ℕ → ReadSets
-setsOf w = readSets w (base (getD w 2 0)) (getD w 3 0) (suc (width (getD w 1 0))) (getD w 2 0) 0 1
+setsOf w = readSets w (base (getD w 2 0)) (getD w 3 0) (getD w 1 0) (getD w 2 0) 0 1
 
 abbrev stateOf : List ℕ → List SetState → State
 stateOf w xs = record { family = getD w 1 0; nodes = getD w 3 0; sets = xs }
@@ -62,11 +62,11 @@ stateOf w xs = record { family = getD w 1 0; nodes = getD w 3 0; sets = xs }
 header-sound : {w : List ℕ} → IsHeader w → (xs : List SetState) → setsOf w ≡ okSets xs → leb (claimed xs) (getD w 3 0) ≡ true → Sound w (stateOf w xs)
 unfolding isState
 header-sound {w} p xs r c =
-    let h = readSets-holds w (base (getD w 2 0)) (getD w 3 0) (header-room p) (width (getD w 1 0)) (getD w 2 0) 0 1 xs (omega arith) (omega arith) (omega arith) r in
+    let h = readSets-holds w (base (getD w 2 0)) (getD w 3 0) (header-room p) (getD w 1 0) (getD w 2 0) 0 1 xs (omega arith) (omega arith) (omega arith) r in
     record {
       state = rw (p .family, h .1, p .size, h .0 .rules, c);
       long = rw (h .1) (p .long);
-      header = rw (h .1) (has-cons (p .marked) (has-three w 1 (omega arith)));
+      header = rw (h .1) (rw (p .marked) at (has-four w 0 (omega arith)));
       holds = rw (h .1) (h .0);
     }
 
@@ -125,7 +125,7 @@ over-sound w S e le =
     let lu : length u ≡ length w = length-put w 0 (headerOf S) in
     let lr : length r ≡ length u = length-overRecords u 0 1 (S .sets) in
     let few : 1 + length (nodeWords (S .sets)) ≤ suc (S .nodes) =
-    omega (arith, length-nodeWords (width (S .family)) (S .sets) (isState-sets S e), used-claimed (S .sets), isState-claimed S e) in
+    omega (arith, length-nodeWords (S .family) (S .sets) (isState-sets S e), used-claimed (S .sets), isState-claimed S e) in
     record {
       state = e;
       long = rw (length-over w S) le;
@@ -134,7 +134,7 @@ over-sound w S e le =
         rules = isState-sets S e;
         records = records-put r 0 1 (S .sets) b (nodeWords (S .sets)) (λ k p q s t. omega arith) (overRecords-has u 0 1 (S .sets) (omega arith));
         nodes = has-at (omega arith) (put-has r b (nodeWords (S .sets)) (omega arith));
-        within = rw (length-nodeWords (width (S .family)) (S .sets) (isState-sets S e)) at few;
+        within = rw (length-nodeWords (S .family) (S .sets) (isState-sets S e)) at few;
       };
     }
 

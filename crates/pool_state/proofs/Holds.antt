@@ -1,38 +1,40 @@
 -- Sets in words: `readSets` gives sets exactly where the words hold them (`Holds`), the records each at its place and the tries one behind the other.
 -- Assumes nothing.
 use mathlib.Core.Path.{_≡_, refl, sym, ap, _∙_, subst}
-use mathlib.Core.Bool.{Bool, true, false, cond}
+use mathlib.Core.Bool.{Bool, true, false, cond, _&&_}
 use mathlib.Core.List.{List, [], _∷_, _++_, append-assoc}
 use Prim.Native.Nat.{ℕ, zero, suc, _+_, _*_, _≤_, _<_}
 use native.Mathlib.Omega.{arith}
-use lib.Dec.{eqb}
+use lib.Dec.{eqb, leb}
 use lib.ListN.{length, getD, take, drop, length-append}
-use borrow.Author.Tests.{eq-eqb, ne-eqb, eqb-true}
-use Rattle.nets.specs.Bits.{Bits}
+use borrow.Author.Tests.{eq-eqb, ne-eqb, eqb-true, eqb-false, leb-true, le-leb}
+use Rattle.nets.specs.Bits.{Bits, digit}
 use Rattle.nets.specs.Lists.{nodesL}
+use Rattle.nets.specs.Networks.{width}
 use Rattle.nets.specs.Tries.{Trie, none, size, levels, listOf, trieOf}
+use Rattle.nets.proofs.Strings.{and-left, and-right}
 use Rattle.nets.proofs.Nodes.{nodesL-listOf}
 use Rattle.nets.proofs.TrieOf.{isList-within, levels-trieOf, listOf-trieOf, trieOf-listOf, isList-listOf}
 use Rattle.nodes.specs.Words.{put, Has, Apart, place, enc}
 use Rattle.nodes.specs.Parse.{Room, Read, bad, ok, parse, Stands}
-use Rattle.pool_state.specs.States.{SetState, held, used, isSet, areSets}
-use Rattle.pool_state.specs.Decode.{recordAt, rootAt, nodeWords, ReadSets, badSets, okSets, readSet, setOf, setBefore, readSets}
+use Rattle.pool_state.specs.States.{SetState, held, used, keepsRules, isSet, areSets}
+use Rattle.pool_state.specs.Decode.{recordAt, rootAt, nodeWords, ReadSets, badSets, okSets, readSet, setOf, isRight, setBefore, readSets}
 use Rattle.pool_state.specs.Rules.{noSet, startOf}
 use Rattle.nodes.proofs.Has.{has-put, has-front, has-back, has-head, has-at, has-join}
 use Rattle.nodes.proofs.Tries.{length-enc}
 use Rattle.nodes.proofs.Parsed.{parse-of, none-stands, stands}
-use Rattle.pool_state.proofs.Claims.{limited, isSet-list, isSet-limited, areSets-head, areSets-tail}
+use Rattle.pool_state.proofs.Claims.{isSet-list, isSet-rules, areSets-head, areSets-tail}
 
 -- The trie of a set.
 module _ (v : ℕ) (x : SetState) (e : isSet v x ≡ true) where
   pub set-listOf : listOf (trieOf (x .list)) ≡ x .list
-  set-listOf = listOf-trieOf v (x .list) (isSet-list v x e)
+  set-listOf = listOf-trieOf (width v) (x .list) (isSet-list v x e)
 
   pub set-size : size (trieOf (x .list)) ≡ held x
   set-size = sym (nodesL-listOf (trieOf (x .list))) ∙ ap nodesL set-listOf
 
-  set-levels : levels (trieOf (x .list)) ≤ suc v
-  set-levels = levels-trieOf v (x .list) (isList-within v (x .list) (isSet-list v x e))
+  set-levels : levels (trieOf (x .list)) ≤ suc (width v)
+  set-levels = levels-trieOf (width v) (x .list) (isList-within (width v) (x .list) (isSet-list v x e))
 
 pub length-nodeWords : (v : ℕ) (xs : List SetState) → areSets v xs ≡ true → length (nodeWords xs) ≡ used xs
 unfolding nodeWords used
@@ -40,9 +42,9 @@ length-nodeWords v [] e = refl
 length-nodeWords v (x ∷ xs) e =
     omega (arith, length-append (enc (trieOf (x .list))) (nodeWords xs), length-enc (trieOf (x .list)), set-size v x (areSets-head v x xs e), length-nodeWords v xs (areSets-tail v x xs e))
 
--- What stands in the words w, with the nodes 1..n from b on and lists of width v: the record of a set, records, a set, and sets; the first is set s and begins at node i.
+-- What stands in the words w, with the nodes 1..n from b on and lists of the family v: the record of a set, records, a set, and sets; the first is set s and begins at node i.
 abbrev pub recordOf : ℕ → SetState → List ℕ
-recordOf i x = rootAt i (x .list) ∷ x .share ∷ x .limit ∷ []
+recordOf i x = rootAt i (x .list) ∷ x .share ∷ x .limit ∷ digit (x .public) ∷ []
 
 abbrev pub Records : List ℕ → ℕ → ℕ → List SetState → Type 0
 Records w s i [] = Unit
@@ -59,7 +61,7 @@ records-put w s i (x ∷ xs) q ys far h = (
 pub record HoldsSet (w : List ℕ) (b n v s i : ℕ) (x : SetState) : Type 0 where
   pub rules : isSet v x ≡ true
   pub here : Has w (recordAt s) (recordOf i x)
-  pub trie : Stands w b n (suc v) i (trieOf (x .list))
+  pub trie : Stands w b n (suc (width v)) i (trieOf (x .list))
 
 pub record Holds (w : List ℕ) (b n v s i : ℕ) (xs : List SetState) : Type 0 where
   pub rules : areSets v xs ≡ true
@@ -112,6 +114,20 @@ trieOf-some : (p : Bits) (l : List Bits) → listOf (trieOf (p ∷ l)) ≡ p ∷
 unfolding listOf levels
 trieOf-some p l e z = let q : listOf none ≡ p ∷ l = rw z at e in let y : _≡_ {A = ℕ} 0 1 = cc in omega arith
 
+-- The word of a mark, and the mark of a word.
+pub digit-is : (c : Bool) → eqb (digit c) 1 ≡ c
+digit-is false = refl
+digit-is true = refl
+
+digit-few : (c : Bool) → leb (digit c) 1 ≡ true
+digit-few false = refl
+digit-few true = refl
+
+digit-of : (x : ℕ) → x ≤ 1 → x ≡ digit (eqb x 1)
+digit-of zero le = refl
+digit-of (suc zero) le = refl
+digit-of (suc (suc x)) le = absurd (omega arith)
+
 -- A set is read where the words hold it,
 readSet-root : (w : List ℕ) (b n f s i : ℕ) (l : List Bits) → 1 ≤ i → getD w (recordAt s) 0 ≡ rootAt i l → listOf (trieOf l) ≡ l → Stands w b n f i (trieOf l) → readSet w b n f s i ≡ ok (trieOf l)
 unfolding readSet trieOf
@@ -120,24 +136,30 @@ readSet-root w b n f s i (p ∷ l) pos r e h =
     rw (r, ne-eqb i 0 (omega arith), eq-eqb i i refl) (parse-of w b n f (trieOf (p ∷ l)) i pos (trieOf-some p l e) h)
 
 module _ {w : List ℕ} {b n v s i : ℕ} {x : SetState} (pos : 1 ≤ i) (h : HoldsSet w b n v s i x) where
-  readSet-of : readSet w b n (suc v) s i ≡ ok (trieOf (x .list))
-  readSet-of = readSet-root w b n (suc v) s i (x .list) pos (has-head (h .here)) (set-listOf v x (h .rules)) (h .trie)
+  readSet-of : readSet w b n (suc (width v)) s i ≡ ok (trieOf (x .list))
+  readSet-of = readSet-root w b n (suc (width v)) s i (x .list) pos (has-head (h .here)) (set-listOf v x (h .rules)) (h .trie)
 
   setOf-of : setOf w s (trieOf (x .list)) ≡ x
-  setOf-of = rw (h .here .at 1 (omega arith), h .here .at 2 (omega arith), set-listOf v x (h .rules))
+  setOf-of = rw (h .here .at 1 (omega arith), h .here .at 2 (omega arith), h .here .at 3 (omega arith), digit-is (x .public), set-listOf v x (h .rules))
 
-readSets-step : (w : List ℕ) (b n f m s i : ℕ) (t : Trie) → readSet w b n f s i ≡ ok t → readSets w b n f (suc m) s i ≡ setBefore (setOf w s t) (readSets w b n f m (s + 1) (i + size t))
+  isRight-of : isRight w v s (trieOf (x .list)) ≡ true
+  isRight-of =
+      let a : leb (getD w (recordAt s + 3) 0) 1 ≡ true = rw (h .here .at 3 (omega arith)) (digit-few (x .public)) in
+      rw a (ap (keepsRules v) setOf-of ∙ isSet-rules v x (h .rules))
+
+readSets-step : (w : List ℕ) (b n f m s i : ℕ) (t : Trie) → readSet w b n (suc (width f)) s i ≡ ok t
+    → readSets w b n f (suc m) s i ≡ setBefore (isRight w f s t) (setOf w s t) (readSets w b n f m (s + 1) (i + size t))
 unfolding readSets
 readSets-step w b n f m s i t e = rw (e, readSets)
 
-pub readSets-of : (w : List ℕ) (b n v s i : ℕ) (xs : List SetState) → 1 ≤ i → Holds w b n v s i xs → readSets w b n (suc v) (length xs) s i ≡ okSets xs
+pub readSets-of : (w : List ℕ) (b n v s i : ℕ) (xs : List SetState) → 1 ≤ i → Holds w b n v s i xs → readSets w b n v (length xs) s i ≡ okSets xs
 unfolding readSets
 readSets-of w b n v s i [] pos h = refl
 readSets-of w b n v s i (x ∷ xs) pos h =
     let g = holds-head pos h in
     let e = readSets-of w b n v (s + 1) (i + held x) xs (omega arith) (holds-tail pos h) in
-    readSets-step w b n (suc v) (length xs) s i (trieOf (x .list)) (readSet-of pos g)
-    ∙ rw (setOf-of pos g, set-size v x (g .rules), e, isSet-limited v x (g .rules))
+    readSets-step w b n v (length xs) s i (trieOf (x .list)) (readSet-of pos g)
+    ∙ rw (isRight-of pos g, setOf-of pos g, set-size v x (g .rules), e)
 
 -- and what is read stands there.
 never-read : (t : Trie) → bad ≡ ok t → ⊥
@@ -146,23 +168,21 @@ never-read t e = let z : _≡_ {A = ℕ} 0 1 = cc in omega arith
 never-sets : (xs : List SetState) → badSets ≡ okSets xs → ⊥
 never-sets xs e = let z : _≡_ {A = ℕ} 0 1 = cc in omega arith
 
-setBefore-ok : (x : SetState) (r : ReadSets) (xs : List SetState) → setBefore x r ≡ okSets xs → (ys : List SetState) × (r ≡ okSets ys) × (limited x ≡ true) × (x ∷ ys ≡ xs)
-setBefore-ok x badSets xs e = absurd (never-sets xs e)
-setBefore-ok x (okSets ys) xs e = go (limited x) refl e
-  where
-    go : (c : Bool) → limited x ≡ c → cond c (okSets (x ∷ ys)) badSets ≡ okSets xs → (zs : List SetState) × (okSets ys ≡ okSets zs) × (limited x ≡ true) × (x ∷ zs ≡ xs)
-    go true q h = (ys, refl, q, cc)
-    go false q h = absurd (never-sets xs h)
+setBefore-ok : (c : Bool) (x : SetState) (r : ReadSets) (xs : List SetState) → setBefore c x r ≡ okSets xs → (ys : List SetState) × (r ≡ okSets ys) × (c ≡ true) × (x ∷ ys ≡ xs)
+setBefore-ok c x badSets xs e = absurd (never-sets xs e)
+setBefore-ok true x (okSets ys) xs e = (ys, refl, refl, cc)
+setBefore-ok false x (okSets ys) xs e = absurd (never-sets xs e)
 
--- three words, as they are read
-pub has-three : (w : List ℕ) (p : ℕ) → p + 3 ≤ length w → Has w p (getD w p 0 ∷ getD w (p + 1) 0 ∷ getD w (p + 2) 0 ∷ [])
-has-three w p le = record { fits = le; at = go }
+-- four words, as they are read
+pub has-four : (w : List ℕ) (p : ℕ) → p + 4 ≤ length w → Has w p (getD w p 0 ∷ getD w (p + 1) 0 ∷ getD w (p + 2) 0 ∷ getD w (p + 3) 0 ∷ [])
+has-four w p le = record { fits = le; at = go }
   where
-    go : (k : ℕ) → k < 3 → getD w (p + k) 0 ≡ getD (getD w p 0 ∷ getD w (p + 1) 0 ∷ getD w (p + 2) 0 ∷ []) k 0
+    go : (k : ℕ) → k < 4 → getD w (p + k) 0 ≡ getD (getD w p 0 ∷ getD w (p + 1) 0 ∷ getD w (p + 2) 0 ∷ getD w (p + 3) 0 ∷ []) k 0
     go zero l = let e : p + 0 ≡ p = omega arith in rw e
     go (suc zero) l = refl
     go (suc (suc zero)) l = refl
-    go (suc (suc (suc k))) l = absurd (omega arith)
+    go (suc (suc (suc zero))) l = refl
+    go (suc (suc (suc (suc k)))) l = absurd (omega arith)
 
 module _ (w : List ℕ) (b n : ℕ) (room : Room w b n) where
   readSet-stands : (f s i : ℕ) (t : Trie) → 1 ≤ i → i ≤ suc n → readSet w b n f s i ≡ ok t → (getD w (recordAt s) 0 ≡ rootAt i (listOf t)) × Stands w b n f i t
@@ -180,28 +200,29 @@ module _ (w : List ℕ) (b n : ℕ) (room : Room w b n) where
       go false false z q h = absurd (never-read t h)
 
   module _ (v m s i : ℕ) (pos : 1 ≤ i) (le : i ≤ suc n) (fits : recordAt (s + suc m) ≤ length w) where
-    readSet-holds : (t : Trie) → readSet w b n (suc v) s i ≡ ok t → limited (setOf w s t) ≡ true → HoldsSet w b n v s i (setOf w s t)
+    readSet-holds : (t : Trie) → readSet w b n (suc (width v)) s i ≡ ok t → isRight w v s t ≡ true → HoldsSet w b n v s i (setOf w s t)
     readSet-holds t e r =
-        let h = readSet-stands (suc v) s i t pos le e in
+        let h = readSet-stands (suc (width v)) s i t pos le e in
+        let z = leb-true (getD w (recordAt s + 3) 0) 1 (and-left (leb (getD w (recordAt s + 3) 0) 1) (keepsRules v (setOf w s t)) r) in
         record {
-          rules = rw (isList-listOf v t (h .1 .deep)) r;
-          here = rw (h .0) at (has-three w (recordAt s) (omega arith));
+          rules = rw (isList-listOf (width v) t (h .1 .deep)) (and-right (leb (getD w (recordAt s + 3) 0) 1) (keepsRules v (setOf w s t)) r);
+          here = rw (h .0, digit-of (getD w (recordAt s + 3) 0) z) at (has-four w (recordAt s) (omega arith));
           trie = rw (trieOf-listOf t) (h .1);
         }
 
-    readSets-first : (xs : List SetState) → readSets w b n (suc v) (suc m) s i ≡ okSets xs
-        → (x : SetState) × (ys : List SetState) × HoldsSet w b n v s i x × (readSets w b n (suc v) m (s + 1) (i + held x) ≡ okSets ys) × (x ∷ ys ≡ xs)
+    readSets-first : (xs : List SetState) → readSets w b n v (suc m) s i ≡ okSets xs
+        → (x : SetState) × (ys : List SetState) × HoldsSet w b n v s i x × (readSets w b n v m (s + 1) (i + held x) ≡ okSets ys) × (x ∷ ys ≡ xs)
     unfolding readSets
-    readSets-first xs e = go (readSet w b n (suc v) s i) refl
+    readSets-first xs e = go (readSet w b n (suc (width v)) s i) refl
       where
-        go : (r : Read) → readSet w b n (suc v) s i ≡ r
-            → (x : SetState) × (ys : List SetState) × HoldsSet w b n v s i x × (readSets w b n (suc v) m (s + 1) (i + held x) ≡ okSets ys) × (x ∷ ys ≡ xs)
+        go : (r : Read) → readSet w b n (suc (width v)) s i ≡ r
+            → (x : SetState) × (ys : List SetState) × HoldsSet w b n v s i x × (readSets w b n v m (s + 1) (i + held x) ≡ okSets ys) × (x ∷ ys ≡ xs)
         go bad q = absurd (never-sets xs (rw (q, readSets) at e))
         go (ok t) q =
-            let a = setBefore-ok (setOf w s t) (readSets w b n (suc v) m (s + 1) (i + size t)) xs (sym (readSets-step w b n (suc v) m s i t q) ∙ e) in
-            (setOf w s t, a .0, readSet-holds t q (a .2), rw (nodesL-listOf t) (a .1), a .3)
+            let a = setBefore-ok (isRight w v s t) (setOf w s t) (readSets w b n v m (s + 1) (i + size t)) xs (sym (readSets-step w b n v m s i t q) ∙ e) in
+            (setOf w s t, a .0, readSet-holds t q (a .2), ap (λ k. readSets w b n v m (s + 1) (i + k)) (nodesL-listOf t) ∙ a .1, a .3)
 
-  pub readSets-holds : (v m s i : ℕ) (xs : List SetState) → 1 ≤ i → i ≤ suc n → recordAt (s + m) ≤ length w → readSets w b n (suc v) m s i ≡ okSets xs → Holds w b n v s i xs × (length xs ≡ m)
+  pub readSets-holds : (v m s i : ℕ) (xs : List SetState) → 1 ≤ i → i ≤ suc n → recordAt (s + m) ≤ length w → readSets w b n v m s i ≡ okSets xs → Holds w b n v s i xs × (length xs ≡ m)
   unfolding readSets nodeWords used
   readSets-holds v zero s i xs pos le fits e =
       let a : [] ≡ xs = cc in

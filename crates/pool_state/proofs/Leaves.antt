@@ -4,6 +4,7 @@ use mathlib.Core.Path.{_≡_, refl, sym, ap, _∙_}
 use mathlib.Core.Bool.{Bool, true, false, cond}
 use mathlib.Core.List.{List, _++_}
 use Prim.Native.Nat.{ℕ, _≤_, _<_}
+use native.Mathlib.Decide.{ℕ-discrete}
 use native.Mathlib.Omega.{arith}
 use lib.Dec.{eqb}
 use lib.ListN.{length}
@@ -15,13 +16,13 @@ use Rattle.nets.specs.Refusals.{Rule, firstNo}
 use Rattle.nets.specs.declared.Net.{Net}
 use Rattle.nets.proofs.Refused.{firstNo-zero, firstNo-both}
 use Rattle.nets.proofs.Numbers.{refusalOf-is, length-netBits}
-use Rattle.pool_state.specs.States.{SetState, State, held, isState}
+use Rattle.pool_state.specs.States.{SetState, State, held, admits, isState}
 use Rattle.pool_state.specs.Decode.{leastWords, sound, decode}
 use Rattle.pool_state.specs.Rules.{leftOn}
 use Rattle.pool_state.specs.Changes.{setAt, listAt, withSet, changeNo, changeRule, wordsAfter, Changed, setWith, grantRules, relistRules, relistSet, Relisted, relistNo, netRules}
 use Rattle.pool_state.proofs.Answered.{owes-granted}
 use Rattle.pool_state.proofs.Claims.{share-limit, held-limit}
-use Rattle.pool_state.proofs.WithSet.{Fits, withSet-length, withSet-at, withSet-other, withSet-plan, share-roomOf, isState-withSet}
+use Rattle.pool_state.proofs.WithSet.{SamePlan, Fits, withSet-length, withSet-at, withSet-other, withSet-plan, share-roomOf, isState-withSet}
 use Rattle.pool_state.proofs.Decoded.{decode-state}
 use Rattle.pool_state.proofs.Judged.{changeNo-zero, relistNo-known, grant-fits}
 use Rattle.pool_state.proofs.Changed.{decode-withSet}
@@ -44,6 +45,14 @@ module _ (S : State) (k : ℕ) (rs : List Rule) (x : SetState) where
 
   after-own : changeNo S k rs ≡ 0 → setAt (after S k rs x) k ≡ x
   after-own z = rw (eq-eqb (changeNo S k rs) 0 z) (withSet-at S k x (changeNo-zero S k rs z .0))
+
+  -- a set that keeps its list leaves every list
+  pub after-lists : x .list ≡ listAt S k → (j : ℕ) → listAt (after S k rs x) j ≡ listAt S j
+  after-lists e j = after-cases (λ T. listAt T j ≡ listAt S j) (λ z. go (changeNo-zero S k rs z .0) (ℕ-discrete j k)) (λ q. refl)
+    where
+      go : k < length (S .sets) → Dec (j ≡ k) → listAt (withSet S k x) j ≡ listAt S j
+      go lt (yes q) = rw q (ap (λ (s : SetState). s .list) (withSet-at S k x lt) ∙ e)
+      go lt (no n) = ap (λ (s : SetState). s .list) (withSet-other S k x j n)
 
 -- where the rules are passed, x is what may stand there
 abbrev pub Keeps : State → ℕ → List Rule → SetState → Type 0
@@ -92,31 +101,31 @@ module _ {w v : List ℕ} {S : State} {k : ℕ} {rs : State → List Rule} {f : 
 abbrev pub relistAfter : State → ℕ → List Rule → List Bits → State
 relistAfter S k a l = after S k (a ++ grantRules S k l) (setWith (setAt S k) l)
 
--- It has that list where it is granted; every share and limit is as it was. A result within the share is granted.
+-- It has that list where it is granted; every share, limit and mark is as it was. A result within the share, and clear where it has to be, is granted.
 pub record RelistLeaves (w : List ℕ) (S : State) (k : ℕ) (a : List Rule) (l : List Bits) (r : ℕ × ℕ) (v : List ℕ) : Type 0 where
   pub leaves : Leaves w S k (a ++ grantRules S k l) (setWith (setAt S k) l) v
   pub list : relistNo S k a l ≡ 0 → listAt (relistAfter S k a l) k ≡ l
-  pub plan : (j : ℕ) → (setAt (relistAfter S k a l) j .share ≡ setAt S j .share) × (setAt (relistAfter S k a l) j .limit ≡ setAt S j .limit)
-  pub share : k < length (S .sets) → firstNo a ≡ 0 → nodesL l ≤ setAt S k .share → r ≡ (0, nodesL l)
+  pub plan : (j : ℕ) → SamePlan (setAt (relistAfter S k a l) j) (setAt S j)
+  pub share : k < length (S .sets) → firstNo a ≡ 0 → admits (S .family) (setAt S k) l ≡ true → nodesL l ≤ setAt S k .share → r ≡ (0, nodesL l)
 
 module _ (S : State) (k : ℕ) (a : List Rule) (l : List Bits) where
-  pub after-plan : (j : ℕ) → (setAt (relistAfter S k a l) j .share ≡ setAt S j .share) × (setAt (relistAfter S k a l) j .limit ≡ setAt S j .limit)
+  pub after-plan : (j : ℕ) → SamePlan (setAt (relistAfter S k a l) j) (setAt S j)
   after-plan j =
-      after-cases S k (a ++ grantRules S k l) (setWith (setAt S k) l) (λ (T : State). (setAt T j .share ≡ setAt S j .share) × (setAt T j .limit ≡ setAt S j .limit))
-      (λ q. withSet-plan S k l j) (λ q. (refl, refl))
+      after-cases S k (a ++ grantRules S k l) (setWith (setAt S k) l) (λ (T : State). SamePlan (setAt T j) (setAt S j))
+      (λ q. withSet-plan S k l j) (λ q. (refl, refl, refl))
 
   pub relist-keeps : isState S ≡ true → (firstNo a ≡ 0 → isList (width (S .family)) l ≡ true) → Keeps S k (a ++ grantRules S k l) (setWith (setAt S k) l)
   relist-keeps e i lt z = let (x, y) = firstNo-both a (grantRules S k l) z in (i x, grant-fits S k l e lt y)
 
 module _ (a : State → List Rule) (f : State → List Bits) {w v : List ℕ} {S : State} {k : ℕ} {r : ℕ × ℕ} (d : decode w ≡ sound S)
     (i : firstNo (a S) ≡ 0 → isList (width (S .family)) (f S) ≡ true) (c : Relisted w k a f r v) where
-  answer-share : k < length (S .sets) → firstNo (a S) ≡ 0 → nodesL (f S) ≤ setAt S k .share → r ≡ (0, nodesL (f S))
+  answer-share : k < length (S .sets) → firstNo (a S) ≡ 0 → admits (S .family) (setAt S k) (f S) ≡ true → nodesL (f S) ≤ setAt S k .share → r ≡ (0, nodesL (f S))
   unfolding changeRule relistRules relistSet
-  answer-share lt z le =
+  answer-share lt z m le =
       let e = decode-state w S d in
       let p = le-ltb (setAt S k .limit) (nodesL (f S)) (omega (arith, share-limit S k e)) in
       let q = le-ltb _ (nodesL (f S)) (share-roomOf S k e lt (nodesL (f S)) le) in
-      c .answer ∙ sym (owes-granted _ 0 _ w (λ T. w) d (relistNo-known S k (a S) (f S) lt ∙ rw (z, p, q)) .0)
+      c .answer ∙ sym (owes-granted _ 0 _ w (λ T. w) d (relistNo-known S k (a S) (f S) lt ∙ rw (z, m, p, q)) .0)
 
   leaves-state : Leaves w S k (a S ++ grantRules S k (f S)) (setWith (setAt S k) (f S)) v
   unfolding relistRules relistSet

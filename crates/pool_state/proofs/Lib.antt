@@ -19,6 +19,7 @@ pub mod Beside
 pub mod Judged
 pub mod Relinked
 pub mod Changed
+pub mod Restated
 pub mod Planned
 pub mod Returns
 -- What each call comes to: one outcome, and what it leaves.

@@ -7,7 +7,7 @@ use native.Mathlib.Omega.{arith}
 use lib.Dec.{eqb}
 use lib.ListN.{length, getD, replicate, length-replicate}
 use borrow.Author.Tests.{eqb-true}
-use Rattle.nets.specs.Networks.{width}
+use Rattle.nets.specs.Bits.{digit}
 use Rattle.nodes.specs.Words.{put}
 use Rattle.nodes.proofs.Put.{getD-put-behind, length-put}
 use Rattle.pool_state.specs.States.{SetState, State, held, isState}
@@ -33,8 +33,8 @@ overRecords-past : (w : List ℕ) (s i : ℕ) (xs : List SetState) (j : ℕ) →
 unfolding overRecords
 overRecords-past w s i [] j le = refl
 overRecords-past w s i (x ∷ xs) j le =
-    overRecords-past (put w (recordAt s) (rootAt i (x .list) ∷ x .share ∷ x .limit ∷ [])) (s + 1) (i + held x) xs j (omega arith)
-    ∙ getD-put-behind w (recordAt s) (rootAt i (x .list) ∷ x .share ∷ x .limit ∷ []) j (omega arith)
+    overRecords-past (put w (recordAt s) (rootAt i (x .list) ∷ x .share ∷ x .limit ∷ digit (x .public) ∷ [])) (s + 1) (i + held x) xs j (omega arith)
+    ∙ getD-put-behind w (recordAt s) (rootAt i (x .list) ∷ x .share ∷ x .limit ∷ digit (x .public) ∷ []) j (omega arith)
 
 pub over-past : (w : List ℕ) (S : State) → isState S ≡ true → Past (leastWords (length (S .sets)) (S .nodes)) w (over w S)
 unfolding over
@@ -43,7 +43,7 @@ over-past w S e = record {
   same = λ j le.
       let n = length (S .sets) in
       let h = mark ∷ S .family ∷ n ∷ S .nodes ∷ [] in
-      let l = length-nodeWords (width (S .family)) (S .sets) (isState-sets S e) in
+      let l = length-nodeWords (S .family) (S .sets) (isState-sets S e) in
       getD-put-behind (overRecords (put w 0 h) 0 1 (S .sets)) (base n) (nodeWords (S .sets)) j (omega (arith, l, used-claimed (S .sets), isState-claimed S e))
       ∙ (overRecords-past (put w 0 h) 0 1 (S .sets) j (omega arith) ∙ getD-put-behind w 0 h j (omega arith));
 }

@@ -18,7 +18,7 @@ use Rattle.nets.specs.declared.Refusal.{Refusal}
 use Rattle.nets.proofs.Answers.{number-some}
 use Rattle.nets.proofs.Nodes.{nodesL-listOf}
 use Rattle.nodes.specs.Words.{enc}
-use Rattle.pool_state.specs.States.{SetState, State, roomOf}
+use Rattle.pool_state.specs.States.{SetState, State, roomOf, admits}
 use Rattle.pool_state.specs.Decode.{over, sound, decode}
 use Rattle.pool_state.specs.Rules.{verdictAs}
 use Rattle.pool_state.specs.Changes.{setAt, withSet, changeRules, changeNo, changeRule, wordsAfter, Changed, setWith, grantRules, relistRules, relistSet, Relisted, relistNo, netRules, isEmpty}
@@ -105,19 +105,21 @@ module _ (a : State → List Rule) (f : State → List Bits) where
           let i : nodesL (f S) ≡ n = ap nodesL (sym l) ∙ nodesL-listOf t ∙ e in
           rw (o, ← i) (owes-granted _ 0 _ w _ (h .decoded) (judged ∙ q))
 
--- a call whose arguments are right, and whose result is the trie t, counted: it has m nodes
-pub record Result (w : List ℕ) (S : State) (k : ℕ) (v : Survey) (a : State → List Rule) (f : State → List Bits) (t : Trie) (m : ℕ) : Type 0 where
+-- a call whose arguments are right, and whose result is the trie t, counted: it has m nodes; c says whether the set may have it as far as its mark goes
+pub record Result (w : List ℕ) (S : State) (k : ℕ) (v : Survey) (a : State → List Rule) (f : State → List Bits) (t : Trie) (c : Bool) (m : ℕ) : Type 0 where
   pub seen : Seen w S k v
   pub right : firstNo (a S) ≡ 0
   pub list : listOf t ≡ f S
+  pub public : admits (S .family) (setAt S k) (f S) ≡ c
   pub size : size t ≡ m
 
-module _ {w : List ℕ} {S : State} {k : ℕ} {v : Survey} {a : State → List Rule} {f : State → List Bits} {t : Trie} {m : ℕ} {r : Verdict} (h : Result w S k v a f t m) (j : Judges w k m r) where
+module _ {w : List ℕ} {S : State} {k : ℕ} {v : Survey} {a : State → List Rule} {f : State → List Bits} {t : Trie} {c : Bool} {m : ℕ} {r : Verdict} (h : Result w S k v a f t c m)
+    (j : Judges w k c m r) where
   nodes : nodesL (f S) ≡ m
   nodes = ap nodesL (sym (h .list)) ∙ nodesL-listOf t ∙ h .size
 
   says : verdictAs r ≡ firstNo (grantRules S k (f S))
-  says = j .verdict S (f S) (h .seen .decoded) nodes
+  says = j .verdict S (f S) (h .seen .decoded) (h .public) nodes
 
   pub result-refused : (x : Refusal) → r ≡ verdict.No x → Relisted w k a f (number x, 0) w
   result-refused x e = changed (change-judged a f (h .seen) (h .right) (ap verdictAs (sym e) ∙ says) (number-some x))

@@ -121,7 +121,7 @@ module _ {w : List ℕ} {S : State} {k : ℕ} {v : Survey} (h : Seen w S k v) wh
   seen-header = decode-header w S (h .decoded)
 
   pub own-length : length (enc (trieAt S k)) ≡ v .held
-  own-length = length-enc (trieAt S k) ∙ set-size (width (S .family)) (setAt S k) (decode-set w S (h .decoded) k (h .known) .rules) ∙ sym (h .held)
+  own-length = length-enc (trieAt S k) ∙ set-size (S .family) (setAt S k) (decode-set w S (h .decoded) k (h .known) .rules) ∙ sym (h .held)
 
   pub before-length : v .at ≡ 1 + length (before S k)
   before-length = h .at ∙ decode-parts w S (h .decoded) k (h .known) .1
@@ -181,7 +181,7 @@ module _ {w : List ℕ} {S : State} {k : ℕ} {v : Survey} (h : Seen w S k v) wh
 
   -- the trie of the set: it lists the set's networks, and stands where the survey says with the sets behind it behind it
   pub seen-list : listOf (trieAt S k) ≡ setAt S k .list
-  seen-list = set-listOf (width (S .family)) (setAt S k) (decode-set w S (h .decoded) k (h .known) .rules)
+  seen-list = set-listOf (S .family) (setAt S k) (decode-set w S (h .decoded) k (h .known) .rules)
 
   pub seen-size : size (trieAt S k) ≡ v .held
   seen-size = sym (length-enc (trieAt S k)) ∙ own-length

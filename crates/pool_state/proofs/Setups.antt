@@ -126,11 +126,12 @@ set-header w a b c d =
     ∙ put-set (set w 0 a) 1 2 b (c ∷ d ∷ []) refl
     ∙ put-set w 0 1 a (b ∷ c ∷ d ∷ []) refl
 
-set-record : (w : List ℕ) (p x y : ℕ) → set (set (set w p 0) (p + 1) x) (p + 2) y ≡ put w p (0 ∷ x ∷ y ∷ [])
-set-record w p x y =
-    set-put (set (set w p 0) (p + 1) x) (p + 2) y
-    ∙ put-set (set w p 0) (p + 1) (p + 2) x (y ∷ []) (omega arith)
-    ∙ put-set w p (p + 1) 0 (x ∷ y ∷ []) refl
+set-record : (w : List ℕ) (p x y z : ℕ) → set (set (set (set w p 0) (p + 1) x) (p + 2) y) (p + 3) z ≡ put w p (0 ∷ x ∷ y ∷ z ∷ [])
+set-record w p x y z =
+    set-put (set (set (set w p 0) (p + 1) x) (p + 2) y) (p + 3) z
+    ∙ put-set (set (set w p 0) (p + 1) x) (p + 2) (p + 3) y (z ∷ []) (omega arith)
+    ∙ put-set (set w p 0) (p + 1) (p + 2) x (y ∷ z ∷ []) (omega arith)
+    ∙ put-set w p (p + 1) 0 (x ∷ y ∷ z ∷ []) refl
 
 -- clear: the words from i on, up to n
 pub record Clearing (n : ℕ) (w₀ w : List ℕ) (i : ℕ) : Type 0 where
@@ -162,20 +163,20 @@ pub records-start : (shares limits w : List ℕ) → Recording shares limits w w
 records-start shares limits w = record { within = omega arith; long = refl; rest = refl }
 
 overRecords-empty : (w : List ℕ) (s x y : ℕ) (shares limits : List ℕ) →
-    overRecords (put w (recordAt s) (0 ∷ x ∷ y ∷ [])) (s + 1) 1 (emptySets shares limits) ≡ overRecords w s 1 (emptySets (x ∷ shares) (y ∷ limits))
+    overRecords (put w (recordAt s) (0 ∷ x ∷ y ∷ 0 ∷ [])) (s + 1) 1 (emptySets shares limits) ≡ overRecords w s 1 (emptySets (x ∷ shares) (y ∷ limits))
 unfolding overRecords nodesL
 overRecords-empty w s x y shares limits = refl
 
 module _ {shares limits w₀ w : List ℕ} {s : ℕ} (h : Recording shares limits w₀ w s) where
   pub records-turn : length shares ≡ length limits → s < length shares →
-      Recording shares limits w₀ (set (set (set w (recordAt s) 0) (recordAt s + 1) (getD shares s 0)) (recordAt s + 2) (getD limits s 0)) (s + 1)
+      Recording shares limits w₀ (set (set (set (set w (recordAt s) 0) (recordAt s + 1) (getD shares s 0)) (recordAt s + 2) (getD limits s 0)) (recordAt s + 3) 0) (s + 1)
   records-turn e l = record {
     within = omega arith;
     long = simp length-set (h .long);
     rest =
         let k : s < length limits = omega arith in
         let r = rw (drop-cons shares s 0 l, drop-cons limits s 0 k, ← overRecords-empty) at (h .rest) in
-        rw (set-record w (recordAt s) (getD shares s 0) (getD limits s 0)) (rw (← add-one s) at r);
+        rw (set-record w (recordAt s) (getD shares s 0) (getD limits s 0) 0) (rw (← add-one s) at r);
   }
 
   pub records-end : length shares ≤ s → w ≡ overRecords w₀ 0 1 (emptySets shares limits)

@@ -12,7 +12,7 @@ use Rattle.nets.specs.Bits.{Bits}
 use Rattle.nets.specs.Lists.{isList}
 use Rattle.nets.specs.Networks.{width}
 use Rattle.nets.proofs.Strings.{and-left, and-right}
-use Rattle.pool_state.specs.States.{SetState, State, held, claim, used, claimed, claimedBut, freeOf, roomOf, isSet, areSets, isState}
+use Rattle.pool_state.specs.States.{SetState, State, held, claim, used, claimed, claimedBut, freeOf, roomOf, admits, isSet, areSets, isState}
 use Rattle.pool_state.specs.Rules.{noSet}
 use Rattle.pool_state.specs.Changes.{setAt, listAt, setsWith, withSet, fits, setWith}
 use Rattle.pool_state.proofs.Claims.{isState-family, isState-size, isState-sets, isState-claimed, areSets-head, areSets-tail, claimedBut-is, freeOf-is}
@@ -53,18 +53,20 @@ claimedBut-setsWith k x [] = refl
 claimedBut-setsWith zero x (s ∷ ss) = refl
 claimedBut-setsWith (suc k) x (s ∷ ss) = rw (claimedBut-setsWith k x ss)
 
-areSets-setsWith : (w k : ℕ) (x : SetState) (ss : List SetState) → areSets w ss ≡ true → isSet w x ≡ true → areSets w (setsWith k x ss) ≡ true
-areSets-setsWith w k x [] e i = refl
-areSets-setsWith w zero x (s ∷ ss) e i = rw i (areSets-tail w s ss e)
-areSets-setsWith w (suc k) x (s ∷ ss) e i = rw (areSets-head w s ss e) (areSets-setsWith w k x ss (areSets-tail w s ss e) i)
+areSets-setsWith : (f k : ℕ) (x : SetState) (ss : List SetState) → areSets f ss ≡ true → isSet f x ≡ true → areSets f (setsWith k x ss) ≡ true
+areSets-setsWith f k x [] e i = refl
+areSets-setsWith f zero x (s ∷ ss) e i = rw i (areSets-tail f s ss e)
+areSets-setsWith f (suc k) x (s ∷ ss) e i = rw (areSets-head f s ss e) (areSets-setsWith f k x ss (areSets-tail f s ss e) i)
 
--- another list leaves every share and limit
-setsWith-plan : (k j : ℕ) (l : List Bits) (ss : List SetState) → let ts = setsWith k (setWith (getD ss k noSet) l) ss in
-    (getD ts j noSet .share ≡ getD ss j noSet .share) × (getD ts j noSet .limit ≡ getD ss j noSet .limit)
-setsWith-plan k j l [] = (refl, refl)
-setsWith-plan zero zero l (s ∷ ss) = (refl, refl)
-setsWith-plan zero (suc j) l (s ∷ ss) = (refl, refl)
-setsWith-plan (suc k) zero l (s ∷ ss) = (refl, refl)
+-- the same share, limit and mark; another list leaves them
+abbrev pub SamePlan : SetState → SetState → Type 0
+SamePlan x y = (x .share ≡ y .share) × (x .limit ≡ y .limit) × (x .public ≡ y .public)
+
+setsWith-plan : (k j : ℕ) (l : List Bits) (ss : List SetState) → SamePlan (getD (setsWith k (setWith (getD ss k noSet) l) ss) j noSet) (getD ss j noSet)
+setsWith-plan k j l [] = (refl, refl, refl)
+setsWith-plan zero zero l (s ∷ ss) = (refl, refl, refl)
+setsWith-plan zero (suc j) l (s ∷ ss) = (refl, refl, refl)
+setsWith-plan (suc k) zero l (s ∷ ss) = (refl, refl, refl)
 setsWith-plan (suc k) (suc j) l (s ∷ ss) = setsWith-plan k j l ss
 
 -- States.
@@ -89,7 +91,7 @@ module _ (S : State) (k : ℕ) (l : List Bits) where
   pub withSet-list : k < length (S .sets) → listAt (withSet S k (setWith (setAt S k) l)) k ≡ l
   withSet-list lt = ap (λ (s : SetState). s .list) (withSet-at S k (setWith (setAt S k) l) lt)
 
-  pub withSet-plan : (j : ℕ) → let T = withSet S k (setWith (setAt S k) l) in (setAt T j .share ≡ setAt S j .share) × (setAt T j .limit ≡ setAt S j .limit)
+  pub withSet-plan : (j : ℕ) → SamePlan (setAt (withSet S k (setWith (setAt S k) l)) j) (setAt S j)
   unfolding withSet
   withSet-plan j = setsWith-plan k j l (S .sets)
 
@@ -97,6 +99,7 @@ module _ (S : State) (k : ℕ) (l : List Bits) where
 pub record Fits (S : State) (k : ℕ) (x : SetState) : Type 0 where
   pub share : x .share ≤ x .limit
   pub held : held x ≤ x .limit
+  pub public : admits (S .family) x (x .list) ≡ true
   pub room : claim x ≤ roomOf S k
 
 module _ (S : State) (k : ℕ) (x : SetState) where
@@ -105,17 +108,20 @@ module _ (S : State) (k : ℕ) (x : SetState) where
   fits-is e =
       let b = leb (x .share) (x .limit) in
       let c = leb (held x) (x .limit) in
+      let p = admits (S .family) x (x .list) in
       let d = leb (claim x) (roomOf S k) in
-      let f = and-right b (c && d) e in
+      let f = and-right b (c && (p && d)) e in
+      let g = and-right c (p && d) f in
       record {
-        share = leb-true (x .share) (x .limit) (and-left b (c && d) e);
-        held = leb-true (held x) (x .limit) (and-left c d f);
-        room = leb-true (claim x) (roomOf S k) (and-right c d f);
+        share = leb-true (x .share) (x .limit) (and-left b (c && (p && d)) e);
+        held = leb-true (held x) (x .limit) (and-left c (p && d) f);
+        public = and-left p d g;
+        room = leb-true (claim x) (roomOf S k) (and-right p d g);
       }
 
   pub is-fits : Fits S k x → fits S k x ≡ true
   unfolding fits
-  is-fits h = rw (le-leb (x .share) (x .limit) (h .share), le-leb (held x) (x .limit) (h .held)) (le-leb (claim x) (roomOf S k) (h .room))
+  is-fits h = rw (le-leb (x .share) (x .limit) (h .share), le-leb (held x) (x .limit) (h .held), h .public) (le-leb (claim x) (roomOf S k) (h .room))
 
 -- What a set claims is within its room, and so is whatever is within its share.
 module _ (S : State) (k : ℕ) (e : isState S ≡ true) (lt : k < length (S .sets)) where
@@ -132,12 +138,12 @@ module _ (S : State) (k : ℕ) (e : isState S ≡ true) (lt : k < length (S .set
     isState-withSet i f =
         let c : claimed (setsWith k x (S .sets)) ≤ S .nodes =
         omega (arith, claimed-setsWith k x (S .sets) lt, claimedBut-is k (S .sets) lt, isState-claimed S e, f .room) in
-        let s : isSet (width (S .family)) x ≡ true = rw (i, le-leb (x .share) (x .limit) (f .share)) (le-leb (held x) (x .limit) (f .held)) in
+        let s : isSet (S .family) x ≡ true = rw (i, le-leb (x .share) (x .limit) (f .share), le-leb (held x) (x .limit) (f .held)) (f .public) in
         rw (
           isState-family S e,
           length-setsWith k x (S .sets),
           isState-size S e,
-          areSets-setsWith (width (S .family)) k x (S .sets) (isState-sets S e) s,
+          areSets-setsWith (S .family) k x (S .sets) (isState-sets S e) s,
         )
         (le-leb _ _ c)
 

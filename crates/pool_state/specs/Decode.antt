@@ -1,5 +1,5 @@
 -- Words and states. Words 0 to 3 of a pool are a mark, the family, the sets and the nodes. The record of set s stands at 64 + 8 s: the number of its root (0: the
--- list is empty), its share, its limit. The nodes stand from 64 + 8 sets on, node i in one word: the tries of the sets one behind the other, each in preorder.
+-- list is empty), its share, its limit, and 1 where it is public-only, else 0. The nodes stand from 64 + 8 sets on, node i in one word: the tries of the sets one behind the other, each in preorder.
 --
 --   over w S      the words w with the state S written over them
 --   decode w      the state that the words hold, or damaged
@@ -8,12 +8,12 @@ use mathlib.Core.List.{List, [], _∷_, _++_}
 use Prim.Native.Nat.{ℕ, zero, suc, _+_, _*_}
 use lib.Dec.{eqb, leb}
 use lib.ListN.{length, getD}
-use Rattle.nets.specs.Bits.{Bits}
+use Rattle.nets.specs.Bits.{Bits, digit}
 use Rattle.nets.specs.Tries.{Trie, none, size, listOf, trieOf}
 use Rattle.nets.specs.Networks.{isFamily, width}
 use Rattle.nodes.specs.Words.{put, enc}
 use Rattle.nodes.specs.Parse.{Read, bad, ok, parse}
-use Rattle.pool_state.specs.States.{SetState, State, held, claimed, isSize}
+use Rattle.pool_state.specs.States.{SetState, State, held, claimed, keepsRules, isSize}
 
 abbrev pub mark : ℕ
 mark = 1296126540
@@ -36,7 +36,7 @@ rootAt i (p ∷ l) = i
 -- the records from set s on, the first of them with its nodes from number i on
 unfoldable pub overRecords : List ℕ → ℕ → ℕ → List SetState → List ℕ
 overRecords w s i [] = w
-overRecords w s i (x ∷ xs) = overRecords (put w (recordAt s) (rootAt i (x .list) ∷ x .share ∷ x .limit ∷ [])) (s + 1) (i + held x) xs
+overRecords w s i (x ∷ xs) = overRecords (put w (recordAt s) (rootAt i (x .list) ∷ x .share ∷ x .limit ∷ digit (x .public) ∷ [])) (s + 1) (i + held x) xs
 
 unfoldable pub nodeWords : List SetState → List ℕ
 nodeWords [] = []
@@ -64,20 +64,24 @@ unfoldable pub readSet : List ℕ → ℕ → ℕ → ℕ → ℕ → ℕ → Re
 readSet w b n f s i = cond (eqb (getD w (recordAt s) 0) 0) (ok none) (cond (eqb (getD w (recordAt s) 0) i) (parse w b n f i) bad)
 
 abbrev pub setOf : List ℕ → ℕ → Trie → SetState
-setOf w s t = record { share = getD w (recordAt s + 1) 0; limit = getD w (recordAt s + 2) 0; list = listOf t }
+setOf w s t = record { share = getD w (recordAt s + 1) 0; limit = getD w (recordAt s + 2) 0; public = eqb (getD w (recordAt s + 3) 0) 1; list = listOf t }
 
--- the set is within its rules, and before the others
-abbrev pub setBefore : SetState → ReadSets → ReadSets
-setBefore x badSets = badSets
-setBefore x (okSets xs) = cond (leb (x .share) (x .limit) && leb (held x) (x .limit)) (okSets (x ∷ xs)) badSets
+-- the word that says whether it is public-only is one of the two, and the set is within its rules
+abbrev pub isRight : List ℕ → ℕ → ℕ → Trie → Bool
+isRight w f s t = leb (getD w (recordAt s + 3) 0) 1 && keepsRules f (setOf w s t)
 
--- m sets, from set s and number i on
+-- the set before the others, where c says that it is right
+abbrev pub setBefore : Bool → SetState → ReadSets → ReadSets
+setBefore c x badSets = badSets
+setBefore c x (okSets xs) = cond c (okSets (x ∷ xs)) badSets
+
+-- m sets of the family f, from set s and number i on
 unfoldable pub readSets : List ℕ → ℕ → ℕ → ℕ → ℕ → ℕ → ℕ → ReadSets
 readSets w b n f zero s i = okSets []
 readSets w b n f (suc m) s i =
-    elim (readSet w b n f s i) [
+    elim (readSet w b n (suc (width f)) s i) [
       | bad ↦ badSets
-      | ok t ↦ setBefore (setOf w s t) (readSets w b n f m (s + 1) (i + size t))
+      | ok t ↦ setBefore (isRight w f s t) (setOf w s t) (readSets w b n f m (s + 1) (i + size t))
     ]
 
 abbrev pub judged : List ℕ → ReadSets → Decoded
@@ -85,4 +89,4 @@ judged w badSets = damaged
 judged w (okSets xs) = cond (leb (claimed xs) (getD w 3 0)) (sound (record { family = getD w 1 0; nodes = getD w 3 0; sets = xs })) damaged
 
 unfoldable pub decode : List ℕ → Decoded
-decode w = cond (isHeader w) (judged w (readSets w (base (getD w 2 0)) (getD w 3 0) (suc (width (getD w 1 0))) (getD w 2 0) 0 1)) damaged
+decode w = cond (isHeader w) (judged w (readSets w (base (getD w 2 0)) (getD w 3 0) (getD w 1 0) (getD w 2 0) 0 1)) damaged

@@ -99,11 +99,11 @@ isSetup words p =
 unfoldable pub layoutNo : List ℕ → Setup → ℕ
 layoutNo w p = cond (isSetup (length w) p) 0 1
 
--- sets without a network
+-- sets without a network, none of them public-only
 abbrev pub emptySets : List ℕ → List ℕ → List SetState
 emptySets [] limits = []
 emptySets (x ∷ shares) [] = []
-emptySets (x ∷ shares) (y ∷ limits) = record { share = x; limit = y; list = [] } ∷ emptySets shares limits
+emptySets (x ∷ shares) (y ∷ limits) = record { share = x; limit = y; public = false; list = [] } ∷ emptySets shares limits
 
 abbrev pub emptyState : Setup → State
 emptyState p = record { family = p .family; nodes = p .nodes; sets = emptySets (p .shares) (p .limits) }
@@ -117,16 +117,19 @@ pub record Laid (w : List ℕ) (p : Setup) (r : ℕ × ℕ) (v : List ℕ) : Typ
   pub answer : r ≡ (layoutNo w p, 0)
   pub words : v ≡ cond (eqb (layoutNo w p) 0) (laid w p) w
 
--- share and limit of set k, by the words
+-- share, limit and mark of set k, by the words
 abbrev pub shareIn : List ℕ → ℕ → ℕ
 shareIn w k = getD w (recordAt k + 1) 0
 
 abbrev pub limitIn : List ℕ → ℕ → ℕ
 limitIn w k = getD w (recordAt k + 2) 0
 
+abbrev pub publicIn : List ℕ → ℕ → ℕ
+publicIn w k = getD w (recordAt k + 3) 0
+
 -- a report on set k: 2 where the pool is damaged, 3 where there is no such set
 abbrev pub noSet : SetState
-noSet = record { share = 0; limit = 0; list = [] }
+noSet = record { share = 0; limit = 0; public = false; list = [] }
 
 abbrev pub onSet : {A : Type 0} → Decoded → ℕ → A → (State → SetState → A) → ℕ × A
 onSet d k z f = answerOn d (λ S. unknown S k ∷ []) z (λ S. f S (getD (S .sets) k noSet))

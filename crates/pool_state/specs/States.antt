@@ -1,12 +1,13 @@
--- The state of a pool: its family, its nodes, and for each set its share, its limit and its list.
+-- The state of a pool: its family, its nodes, and for each set its share, its limit, whether it is public-only, and its list.
 --
 --   held s            the nodes of a set's list
 --   claim s           the larger of share and held nodes; used, claimed: the sums over sets of held nodes and of claims
 --   freeOf S          the pool's nodes less the nodes of all lists
 --   roomOf S k        the pool's nodes less, for every other set than k, its claim
+--   admits f s l      the set s of a pool of the family f may have the list l, as far as its mark goes: a public-only set keeps clear of the inner networks
 --   isState S         the rules: a family, 1 to 64 sets, 1 to 4,194,304 nodes, each list a list of the family's width within its limit,
---                     each share at most its limit, the claims at most the nodes
-use mathlib.Core.Bool.{Bool, true, _&&_}
+--                     each share at most its limit, each public-only set clear of the inner networks, the claims at most the nodes
+use mathlib.Core.Bool.{Bool, true, not, _&&_, _||_}
 use mathlib.Core.List.{List, [], _∷_}
 use Prim.Native.Nat.{ℕ, zero, suc, _+_, _-_, max}
 use lib.Dec.{leb}
@@ -14,10 +15,12 @@ use lib.ListN.{length}
 use Rattle.nets.specs.Bits.{Bits}
 use Rattle.nets.specs.Lists.{isList, nodesL}
 use Rattle.nets.specs.Networks.{isFamily, width}
+use Rattle.inner_nets.specs.Inner.{isPublic}
 
 pub record SetState : Type 0 where
   pub share : ℕ
   pub limit : ℕ
+  pub public : Bool
   pub list : List Bits
 
 pub record State : Type 0 where
@@ -51,17 +54,23 @@ freeOf S = S .nodes - used (S .sets)
 abbrev pub roomOf : State → ℕ → ℕ
 roomOf S k = S .nodes - claimedBut k (S .sets)
 
--- the rules of one set in a pool of width w
+abbrev pub admits : ℕ → SetState → List Bits → Bool
+admits f s l = not (s .public) || isPublic f l
+
+-- the rules of one set in a pool of the family f: those beside its list's own, and all
+abbrev pub keepsRules : ℕ → SetState → Bool
+keepsRules f s = leb (s .share) (s .limit) && (leb (held s) (s .limit) && admits f s (s .list))
+
 abbrev pub isSet : ℕ → SetState → Bool
-isSet w s = isList w (s .list) && (leb (s .share) (s .limit) && leb (held s) (s .limit))
+isSet f s = isList (width f) (s .list) && keepsRules f s
 
 abbrev pub areSets : ℕ → List SetState → Bool
-areSets w [] = true
-areSets w (s ∷ ss) = isSet w s && areSets w ss
+areSets f [] = true
+areSets f (s ∷ ss) = isSet f s && areSets f ss
 
 -- how many sets and nodes there may be
 abbrev pub isSize : ℕ → ℕ → Bool
 isSize sets nodes = (leb 1 sets && leb sets 64) && (leb 1 nodes && leb nodes 4194304)
 
 unfoldable pub isState : State → Bool
-isState S = (isFamily (S .family) && isSize (length (S .sets)) (S .nodes)) && (areSets (width (S .family)) (S .sets) && leb (claimed (S .sets)) (S .nodes))
+isState S = (isFamily (S .family) && isSize (length (S .sets)) (S .nodes)) && (areSets (S .family) (S .sets) && leb (claimed (S .sets)) (S .nodes))

@@ -3,12 +3,12 @@
 --   Refuses d k x                x is the number of every call on set k: 2 damaged, 3 no such set
 --   Surveyed w k v               v is what a pass over the sound pool found out for its set k
 --   surveyWith x v n             what a pass finds where v was found, once the set, whose share is x, has n nodes
---   Judges w k n r               r is the verdict on a result of n nodes for set k
+--   Judges w k c n r             r is the verdict on a result of n nodes for set k, where c says whether the set may have it as far as its mark goes
 --   behindAt w b v               the words of the sets behind that set, in words whose nodes begin at b;  Gap w b v n: what it takes to move them to where they stand behind n nodes
 --   relinked w k i old new       the words with the roots right after set k, which begins at node i, went from old nodes to new ones
 --   Relink w k old new           what it takes to write them
 use mathlib.Core.Path.{_≡_}
-use mathlib.Core.Bool.{true, cond}
+use mathlib.Core.Bool.{Bool, true, cond}
 use mathlib.Core.List.{List, [], _∷_}
 use Prim.Native.Nat.{ℕ, zero, suc, _+_, _-_, _≤_, _<_, max}
 use lib.Dec.{eqb}
@@ -17,10 +17,10 @@ use Rattle.nets.specs.Bits.{Bits}
 use Rattle.nets.specs.Lists.{nodesL}
 use Rattle.nets.specs.Refusals.{firstNo}
 use Rattle.nodes.specs.Words.{put, place}
-use Rattle.pool_state.specs.States.{State}
+use Rattle.pool_state.specs.States.{State, admits}
 use Rattle.pool_state.specs.Decode.{Decoded, damaged, sound, recordAt, base, decode}
 use Rattle.pool_state.specs.Rules.{verdictAs, surveyOf}
-use Rattle.pool_state.specs.Changes.{grantRules}
+use Rattle.pool_state.specs.Changes.{setAt, grantRules}
 use Rattle.pool_state.specs.declared.Survey.{Survey}
 use Rattle.pool_state.specs.declared.Verdict.{Verdict}
 
@@ -36,8 +36,8 @@ pub record Surveyed (w : List ℕ) (k : ℕ) (v : Survey) : Type 0 where
 abbrev pub surveyWith : ℕ → Survey → ℕ → Survey
 surveyWith x v n = record { sound = true; used = v .used - v .held + n; claimed = v .claimed - max x (v .held) + max x n; at = v .at; held = n }
 
-pub record Judges (w : List ℕ) (k n : ℕ) (r : Verdict) : Type 0 where
-  pub verdict : (S : State) (l : List Bits) → decode w ≡ sound S → nodesL l ≡ n → verdictAs r ≡ firstNo (grantRules S k l)
+pub record Judges (w : List ℕ) (k : ℕ) (c : Bool) (n : ℕ) (r : Verdict) : Type 0 where
+  pub verdict : (S : State) (l : List Bits) → decode w ≡ sound S → admits (S .family) (setAt S k) l ≡ c → nodesL l ≡ n → verdictAs r ≡ firstNo (grantRules S k l)
 
 unfoldable pub behindAt : List ℕ → ℕ → Survey → List ℕ
 behindAt w b v = take (v .used + 1 - (v .at + v .held)) (drop (place b (v .at + v .held)) w)

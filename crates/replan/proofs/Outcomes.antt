@@ -1,27 +1,26 @@
 -- What `replan` comes to: one outcome; from sound words it leaves sound ones, with the set's new share and limit where it is granted and every list as it was. It is
 -- granted exactly by the request's three conditions. Assumes nothing.
-use mathlib.Core.Path.{_≡_, refl, ap, _∙_}
+use mathlib.Core.Path.{_≡_, refl, _∙_}
 use mathlib.Core.Bool.{Bool, true, false, not, cond, _&&_}
 use mathlib.Core.List.{List, [], _∷_}
 use Prim.Native.Nat.{ℕ, _<_}
-use native.Mathlib.Decide.{ℕ-discrete}
 use lib.Dec.{leb}
 use lib.ListN.{length}
 use Rattle.nets.specs.Refusals.{firstNo}
 use Rattle.nets.specs.declared.Refusal.the-variants.{BadShare}
 use Rattle.nets.proofs.Answers.{number-some}
-use Rattle.pool_state.specs.States.{SetState, State, held, claimed, isState}
+use Rattle.pool_state.specs.States.{State, held, claimed, isState}
 use Rattle.pool_state.specs.Decode.{decode, sound}
 use Rattle.pool_state.specs.Rules.{answerAs}
 use Rattle.pool_state.specs.Changes.{setAt, listAt, withSet, fits, changeNo, planned, planRules, Replanned}
 use Rattle.pool_state.specs.declared.Answer.{Answer}
-use Rattle.pool_state.proofs.Claims.{isList-listAt}
+use Rattle.pool_state.proofs.Claims.{isList-listAt, admits-listAt}
 use Rattle.pool_state.proofs.Decoded.{decode-state}
 use Rattle.pool_state.proofs.Determined.{changed-one}
-use Rattle.pool_state.proofs.Judged.{changeNo-known, changeNo-zero}
-use Rattle.pool_state.proofs.Leaves.{Leaves, Keeps, after, after-cases, changed-leaves}
+use Rattle.pool_state.proofs.Judged.{changeNo-known}
+use Rattle.pool_state.proofs.Leaves.{Leaves, Keeps, after, after-lists, changed-leaves}
 use Rattle.pool_state.proofs.Planned.{fits-sum}
-use Rattle.pool_state.proofs.WithSet.{fits-is, withSet-at, withSet-other}
+use Rattle.pool_state.proofs.WithSet.{fits-is}
 
 pub replan-determined : {w u v : List ℕ} {k x y : ℕ} {r s : Answer} → Replanned w k x y (answerAs r) u → Replanned w k x y (answerAs s) v → (r ≡ s) × (u ≡ v)
 replan-determined h g = changed-one h g
@@ -47,7 +46,7 @@ module _ (S : State) (k x y : ℕ) where
   -- it is granted exactly then, and else gets 13
   pub replan-exactly : isState S ≡ true → k < length (S .sets) → changeNo S k (planRules k x y S) ≡ cond (mayPlan S k x y) 0 13
   unfolding planRules
-  replan-exactly e lt = changeNo-known S k (planRules k x y S) lt ∙ rw (fits-sum S k (planned (setAt S k) x y) e lt) (go (mayPlan S k x y))
+  replan-exactly e lt = changeNo-known S k (planRules k x y S) lt ∙ rw (fits-sum S k (planned (setAt S k) x y) e lt (admits-listAt S k e)) (go (mayPlan S k x y))
     where
       go : (b : Bool) → firstNo ((not b, BadShare) ∷ []) ≡ cond b 0 13
       go true = refl
@@ -59,14 +58,4 @@ module _ {w v : List ℕ} {S : State} {k : ℕ} (x y : ℕ) {r : ℕ × ℕ} (d 
   replan-leaves = changed-leaves d (plan-keeps S k x y (decode-state w S d)) c
 
 pub replan-lists : (S : State) (k x y j : ℕ) → listAt (after S k (planRules k x y S) (planned (setAt S k) x y)) j ≡ listAt S j
-replan-lists S k x y j =
-    after-cases S k (planRules k x y S) (planned (setAt S k) x y) (λ T. listAt T j ≡ listAt S j)
-    (λ z. go (changeNo-zero S k (planRules k x y S) z .0) (ℕ-discrete j k))
-    (λ q. refl)
-  where
-    new : SetState
-    new = planned (setAt S k) x y
-
-    go : k < length (S .sets) → Dec (j ≡ k) → listAt (withSet S k new) j ≡ listAt S j
-    go lt (yes e) = rw e (ap (λ (s : SetState). s .list) (withSet-at S k new lt))
-    go lt (no n) = ap (λ (s : SetState). s .list) (withSet-other S k new j n)
+replan-lists S k x y j = after-lists S k (planRules k x y S) (planned (setAt S k) x y) refl j

@@ -21,7 +21,8 @@ use Rattle.pool_state.specs.Steps.{Refuses}
 use Rattle.pool_state.specs.declared.Survey.{Survey}
 use Rattle.pool_state.proofs.Answered.{owes-granted}
 use Rattle.pool_state.proofs.Judged.{changeNo-known}
-use Rattle.pool_state.proofs.Planned.{over-planned}
+use Rattle.pool_state.proofs.Claims.{admits-listAt}
+use Rattle.pool_state.proofs.Restated.{over-planned}
 use Rattle.pool_state.proofs.Returns.{refused, seat, changed}
 use Rattle.pool_state.proofs.Seen.{Seen, seen-state}
 use Rattle.pool_state.proofs.WithSet.{claim-roomOf}
@@ -43,7 +44,7 @@ module _ {w : List ℕ} {S : State} {k : ℕ} {v : Survey} (h : Seen w S k v) {x
         let g : held (setAt S k) ≤ y = omega (arith, h .held) in
         let c = claim-roomOf S k (seen-state h) (h .known) in
         let new = claim (planned (setAt S k) x y) in
-        rw (le-leb x y le, le-leb (held (setAt S k)) y g, e)
+        rw (le-leb x y le, le-leb (held (setAt S k)) y g, admits-listAt S k (seen-state h), e)
         (bool-iff (leb x (roomOf S k)) (leb new (roomOf S k))
         (λ q. le-leb new (roomOf S k) (omega (arith, c, leb-true x (roomOf S k) q)))
         (λ q. le-leb x (roomOf S k) (omega (arith, leb-true new (roomOf S k) q))))
@@ -68,5 +69,5 @@ module _ {w : List ℕ} {k : ℕ} (x y : ℕ) where
         let p : recordAt k + 2 ≡ recordAt k + 1 + 1 = omega arith in
         let two : set (set w (recordAt k + 1) x) (recordAt k + 2) y ≡ put w (recordAt k + 1) (x ∷ y ∷ []) =
         rw (set-put w (recordAt k + 1) x, set-put (put w (recordAt k + 1) (x ∷ [])) (recordAt k + 2) y) (put-behind-at w (recordAt k + 1) (recordAt k + 2) (x ∷ []) (y ∷ []) p) in
-        let o : u ≡ over w (withSet S k (planned (setAt S k) x y)) = q ∙ two ∙ sym (over-planned x y w S k (h .decoded) (h .known)) in
+        let o : u ≡ over w (withSet S k (planned (setAt S k) x y)) = q ∙ two ∙ sym (over-planned w S k (h .decoded) (h .known) x y) in
         rw (o, h .held) (changed (owes-granted _ 0 _ w _ (h .decoded) (ruled true (sym e ∙ f))))

@@ -1,6 +1,6 @@
 -- The outcomes of load: each call has one. On a sound pool each refusal is given in its case, and else the set has the file's list, in a pool that is sound again. So what save
 -- wrote loads as the list of the set. Assumes nothing.
-use mathlib.Core.Bool.{true, cond}
+use mathlib.Core.Bool.{true, false, cond}
 use mathlib.Core.List.{List, []}
 use mathlib.Core.Path.{_≡_, refl, sym, ap, _∙_}
 use Prim.Native.Nat.{ℕ, _≤_, _<_}
@@ -13,10 +13,10 @@ use Rattle.nets.specs.Lists.{isList, nodesL}
 use Rattle.nets.specs.Networks.{width}
 use Rattle.nets.specs.Refusals.{number, firstNo}
 use Rattle.nets.specs.declared.Refusal.{Refusal}
-use Rattle.nets.specs.declared.Refusal.the-variants.{BadFile, WrongFamily, Occupied, OverLimit, NoRoom}
+use Rattle.nets.specs.declared.Refusal.the-variants.{BadFile, WrongFamily, Occupied, OverLimit, NoRoom, NotPublic}
 use Rattle.nets.proofs.Answers.{number-some}
 use Rattle.nets.proofs.Refused.{firstNo-zero}
-use Rattle.pool_state.specs.States.{State, roomOf}
+use Rattle.pool_state.specs.States.{State, roomOf, admits}
 use Rattle.pool_state.specs.Decode.{damaged, sound, decode}
 use Rattle.pool_state.specs.Rules.{answerAs, answerOn, surveyOf}
 use Rattle.pool_state.specs.Changes.{setAt, listAt, withSet, changeRule, setWith, grantRules, relistRules, relistSet, relistNo}
@@ -88,18 +88,21 @@ module _ {w v : List ℕ} {k : ℕ} {r : ℕ × ℕ} (d : List ℕ) (h : Loaded 
                 changed-same h
                 (changed (change-judged (loadRules (readFile d) k) (λ T. fileList (readFile d)) here right (q ∙ ap (λ m. firstNo (grantRules S k (fileList m))) (sym i)) (number-some x)))
 
-            pub load-limit : setAt S k .limit < nodesL l → (r ≡ (9, 0)) × (v ≡ w)
-            load-limit more = judged OverLimit (rw (lt-ltb (setAt S k .limit) (nodesL l) more))
+            pub load-public : admits (S .family) (setAt S k) l ≡ false → (r ≡ (14, 0)) × (v ≡ w)
+            load-public m = judged NotPublic (rw m)
 
-            module _ (low : nodesL l ≤ setAt S k .limit) where
+            pub load-limit : admits (S .family) (setAt S k) l ≡ true → setAt S k .limit < nodesL l → (r ≡ (9, 0)) × (v ≡ w)
+            load-limit m more = judged OverLimit (rw (m, lt-ltb (setAt S k .limit) (nodesL l) more))
+
+            module _ (clear : admits (S .family) (setAt S k) l ≡ true) (low : nodesL l ≤ setAt S k .limit) where
               pub load-room : roomOf S k < nodesL l → (r ≡ (10, 0)) × (v ≡ w)
-              load-room more = judged NoRoom (rw (le-ltb (setAt S k .limit) (nodesL l) low, lt-ltb (roomOf S k) (nodesL l) more))
+              load-room more = judged NoRoom (rw (clear, le-ltb (setAt S k .limit) (nodesL l) low, lt-ltb (roomOf S k) (nodesL l) more))
 
               module _ (fits : nodesL l ≤ roomOf S k) where
                 granted : relistNo S k (loadRules (readFile d) k S) (fileList (readFile d)) ≡ 0
                 granted =
                     relistNo-known S k (loadRules (readFile d) k S) (fileList (readFile d)) lt
-                    ∙ rw (right, i, le-ltb (setAt S k .limit) (nodesL l) low, le-ltb (roomOf S k) (nodesL l) fits)
+                    ∙ rw (right, i, clear, le-ltb (setAt S k .limit) (nodesL l) low, le-ltb (roomOf S k) (nodesL l) fits)
 
                 pub load-list : (r ≡ (0, nodesL l)) × (decode v ≡ sound (withSet S k (setWith (setAt S k) l)))
                 unfolding changeRule answerOn relistRules relistSet
@@ -112,5 +115,5 @@ module _ {w v : List ℕ} {k : ℕ} {r : ℕ × ℕ} (d : List ℕ) (h : Loaded 
 -- What save wrote of a set loads as the list of that set, into any empty set that may have it.
 pub save-load : {w x u : List ℕ} {k : ℕ} {q : Answer} → Saved w k x q u → (S : State) → decode w ≡ sound S → k < length (S .sets) → length (fileAt S k) ≤ length x
     → {z v : List ℕ} {j : ℕ} {r : ℕ × ℕ} → Loaded z j (take (length (fileAt S k)) u) r v → (T : State) → decode z ≡ sound T → j < length (T .sets) → S .family ≡ T .family → listAt T j ≡ []
-    → nodesL (listAt S k) ≤ setAt T j .limit → nodesL (listAt S k) ≤ roomOf T j → (r ≡ (0, nodesL (listAt S k))) × (decode v ≡ sound (withSet T j (setWith (setAt T j) (listAt S k))))
-save-load {u = u} {k = k} g S e lt le h T f lj own empty low fits = load-list (take (length (fileAt S k)) u) h T f lj (save-reads g S e lt le) own empty low fits
+    → admits (T .family) (setAt T j) (listAt S k) ≡ true → nodesL (listAt S k) ≤ setAt T j .limit → nodesL (listAt S k) ≤ roomOf T j → (r ≡ (0, nodesL (listAt S k))) × (decode v ≡ sound (withSet T j (setWith (setAt T j) (listAt S k))))
+save-load {u = u} {k = k} g S e lt le h T f lj own empty clear low fits = load-list (take (length (fileAt S k)) u) h T f lj (save-reads g S e lt le) own empty clear low fits

@@ -1,5 +1,6 @@
 -- A load: what `ask` finds, a law for each return, and then the list of the file as a result (`Result` of pool_state's proofs/Returns.antt says what becomes of it), and what writing it
 -- asks. Assumes nothing.
+use mathlib.Core.Bool.{Bool}
 use mathlib.Core.List.{List, []}
 use mathlib.Core.Path.{_≡_, refl, sym, ap, _∙_}
 use Prim.Native.Nat.{ℕ, _≤_}
@@ -13,9 +14,9 @@ use Rattle.nets.specs.declared.Refusal.{Refusal}
 use Rattle.nets.specs.declared.Refusal.the-variants.{BadFile, WrongFamily, Occupied}
 use Rattle.nets.proofs.Answers.{number-some}
 use Rattle.nodes.specs.declared.seats.Seat.{Seat}
-use Rattle.pool_state.specs.States.{State, roomOf}
+use Rattle.pool_state.specs.States.{State, roomOf, admits}
 use Rattle.pool_state.specs.Decode.{decode}
-use Rattle.pool_state.specs.Changes.{listAt}
+use Rattle.pool_state.specs.Changes.{setAt, listAt}
 use Rattle.pool_state.specs.Steps.{Refuses}
 use Rattle.pool_state.specs.declared.Survey.{Survey}
 use Rattle.pool_state.proofs.Decoded.{decode-header}
@@ -28,7 +29,7 @@ use Rattle.setfile_order.specs.Flow.{checkedOf}
 use Rattle.setfile_order.specs.declared.Checked.{Checked}
 use Rattle.setfile_order.specs.declared.Checked.the-variants as checked
 use Rattle.setfile.specs.Loading.{loadRules, fileList}
-use Rattle.setfile.specs.LoadSteps.{Ready, Asks, Writable, written}
+use Rattle.setfile.specs.LoadSteps.{Ready, Asks, Admits, Writable, written}
 use Rattle.setfile.specs.declared.loading.Loadable.the-variants as loadable
 use Rattle.setfile_build.proofs.Filling.{file-listOf, file-size}
 
@@ -116,8 +117,17 @@ module _ {w : List ℕ} {k : ℕ} {d : List ℕ} {v : Survey} {f n : ℕ} (c : R
   right : firstNo (loadRules (readFile d) k S) ≡ 0
   right = loadRules-right (readFile d) k S f (c .list) (c .reads) (c .family ∙ decode-header w S (known .decoded) .family) (seen-empty known (c .empty))
 
-  pub load-result : Result w S k v (loadRules (readFile d) k) (λ T. after) trie n
-  load-result = record { seen = known; right = right; list = trie-list; size = trie-size }
+  own : f ≡ S .family
+  own = c .family ∙ decode-header w S (known .decoded) .family
+
+  pub load-result : {b : Bool} → Admits w k d f b → Result w S k v (loadRules (readFile d) k) (λ T. after) trie b n
+  load-result g = record {
+    seen = known;
+    right = right;
+    list = trie-list;
+    public = ap (admits (S .family) (setAt S k)) after-is ∙ sym (g S (c .list) (known .decoded) own (c .reads));
+    size = trie-size;
+  }
 
   -- it is granted, and written
   module _ (fits : n ≤ roomOf S k) where

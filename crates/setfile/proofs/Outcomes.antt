@@ -32,7 +32,7 @@ save-determined {r = r} {s = s} g h = (answerAs-one r s (g .answer ∙ sym (h .a
 pub readFile-fileAt : (w : List ℕ) (S : State) → decode w ≡ sound S → (k : ℕ) → k < length (S .sets) → readFile (fileAt S k) ≡ file (S .family) (listAt S k)
 readFile-fileAt w S d k lt =
     let e = decode-set w S d k lt .rules in
-    let v = width (S .family) in
+    let v = S .family in
     readFile-fileOf (S .family) (listAt S k) (isState-family S (decode-state w S d)) (isSet-list v (setAt S k) e) (decode-few w S d k lt (set-listOf v (setAt S k) e))
 
 take-put : (v xs : List ℕ) → length xs ≤ length v → take (length xs) (put v 0 xs) ≡ xs

@@ -47,7 +47,7 @@ decode-few w S e k lt q =
       arith,
       ap length q,
       listOf-size (trieOf (listAt S k)),
-      set-size (width (S .family)) (setAt S k) (decode-set w S e k lt .rules),
+      set-size (S .family) (setAt S k) (decode-set w S e k lt .rules),
       claimedBut-is k (S .sets) lt,
       isState-claimed S (decode-state w S e),
       decode-header w S e .nodes,

@@ -1,8 +1,10 @@
 -- The steps of a load: what they ask, and what they leave.
 --
 --   Ready w k d v f n    a load can go on: v is what a pass over the pool found for its empty set, and d is the file of a list of n nodes in the pool's family f;  Asks: that, or its refusal
+--   Admits w k d f c     c says whether set k may have the list of the file d of the pool's family f, as far as its mark goes
 --   Writable             what writing the trie of the file's list asks
 --   written              the words that it leaves
+use mathlib.Core.Bool.{Bool}
 use mathlib.Core.List.{List}
 use mathlib.Core.Path.{_≡_}
 use Prim.Native.Nat.{ℕ, _+_, _≤_}
@@ -12,7 +14,9 @@ use Rattle.nets.specs.Lists.{nodesL}
 use Rattle.nets.specs.Refusals.{number}
 use Rattle.nets.specs.Tries.{trieOf}
 use Rattle.nodes.specs.Words.{put, place, enc}
-use Rattle.pool_state.specs.Decode.{base}
+use Rattle.pool_state.specs.States.{State, admits}
+use Rattle.pool_state.specs.Decode.{base, sound, decode}
+use Rattle.pool_state.specs.Changes.{setAt}
 use Rattle.pool_state.specs.Steps.{Surveyed, behindAt, Gap}
 use Rattle.pool_state.specs.declared.Survey.{Survey}
 use Rattle.setfile_format.specs.Files.{file, readFile}
@@ -31,6 +35,9 @@ pub record Ready (w : List ℕ) (k : ℕ) (d : List ℕ) (v : Survey) (f n : ℕ
 abbrev pub Asks : List ℕ → ℕ → List ℕ → Loadable → Type 0
 Asks w k d (loadable.File v f n) = Ready w k d v f n
 Asks w k d (loadable.Refused x) = Loaded w k d (number x, 0) w
+
+abbrev pub Admits : List ℕ → ℕ → List ℕ → ℕ → Bool → Type 0
+Admits w k d f c = (S : State) (l : List Bits) → decode w ≡ sound S → f ≡ S .family → readFile d ≡ file f l → c ≡ admits (S .family) (setAt S k) l
 
 -- the bytes are the file of the list l, whose trie has n nodes, and there is a gap to open for it
 pub record Writable (w : List ℕ) (v : Survey) (d : List ℕ) (f n : ℕ) (l : List Bits) : Type 0 where

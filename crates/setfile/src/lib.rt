@@ -1,6 +1,7 @@
 // Set files: a set into bytes, and bytes into a set. Each call checks the pool in one pass.
 use loading::Loadable;
 use loading::ask;
+use loading::is_admitted;
 use loading::write;
 use nets::Refusal;
 use pool_change::judging::judge;
@@ -47,7 +48,8 @@ pub fn load(pool: &mut [u32], set: u32, bytes: &[u8]) -> Answer
     match asked {
         Loadable::Refused(no) => Answer::Refused(no),
         Loadable::File(v, family, n) => {
-            let verdict = judge(pool, set, v, n);
+            let clear = is_admitted(pool, set, v, bytes, family);
+            let verdict = judge(pool, set, v, clear, n);
             match verdict {
                 Verdict::No(no) => Answer::Refused(no),
                 Verdict::Fits => {

@@ -1,5 +1,6 @@
 // The steps of a load: the file is judged as a whole before anything is written, and then read again to write the trie of its list into a gap of just its nodes.
 use nets::Refusal;
+use pool_change::judging::is_public;
 use pool_change::relinking::shift_behind;
 use pool_check::HEAD;
 use pool_check::RECORD;
@@ -7,12 +8,15 @@ use pool_check::seats::seat_of;
 use pool_state::Seated;
 use pool_state::Survey;
 use setfile_build::build;
+use setfile_clear::file_is_clear;
 use setfile_order::Checked;
 use setfile_order::check;
 ghost use mathlib.Core.Path.{_≡_};
 ghost use mathlib.Core.List.{List};
 ghost use Rattle.nets.specs.Bits.{Bits};
-ghost use Rattle.setfile.specs.LoadSteps.{Asks, Writable, written};
+ghost use Rattle.pool_state.specs.Steps.{Surveyed};
+ghost use Rattle.setfile_format.specs.Files.{readFile, file};
+ghost use Rattle.setfile.specs.LoadSteps.{Asks, Admits, Writable, written};
 
 // A file that can be loaded: what a pass over the pool found for its set, the family of the file and the nodes of its list. Or the refusal.
 pub enum Loadable {
@@ -43,6 +47,18 @@ pub fn ask(pool: &[u32], set: u32, bytes: &[u8]) -> Loadable
             }
         }
     }
+}
+
+// Whether the set may have the list of the file as far as its mark goes: it is not public-only, or no network of the file overlaps an inner one.
+pub fn is_admitted(pool: &[u32], set: u32, v: Survey, bytes: &[u8], family: u8) -> bool
+    requires { ⌜ Surveyed (now pool) set v ⌝ }
+    requires { ⌜ ((l : List Bits) × (readFile (now bytes) ≡ file family l)) ⌝ }
+    ensures { λ r. ⌜ Admits (now (pool .entry)) set (now (bytes .entry)) family r ⌝ }
+{
+    if !is_public(pool, set, v) {
+        return true;
+    }
+    file_is_clear(bytes, family)
 }
 
 // Writes the trie of the file's list, of n nodes, in the place of the empty set; the sets behind it move.

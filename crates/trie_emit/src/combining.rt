@@ -13,11 +13,11 @@ use nodes::steps;
 const ALL: usize = 4294967295;
 
 // The kinds of a trie, as truth values: false, unknown, true.
-const EMPTY: usize = 0;
+pub const EMPTY: usize = 0;
 
 const MIXED: usize = 1;
 
-const FULL: usize = 2;
+pub const FULL: usize = 2;
 
 // The kind of what the number i means.
 fn kind(w: &[u32], b: usize, i: usize) -> usize
@@ -63,7 +63,7 @@ fn settled(op: usize, x: usize, y: usize) -> usize
 }
 
 // The same of what two numbers mean.
-fn judge(w: &[u32], b: usize, op: usize, a: usize, c: usize) -> usize
+pub fn judge(w: &[u32], b: usize, op: usize, a: usize, c: usize) -> usize
     requires { ⌜ ((o : ℕ) × (g : ℕ) × (t : Trie) × (u : Trie) × Means (now w) b o g a t × Means (now w) b o g c u) ⌝ }
     ensures { λ r. ⌜ ((o g : ℕ) (t u : Trie) → Means (now (w .entry)) b o g a t → Means (now (w .entry)) b o g c u → r ≡ rank (verdict (opOf op) (kindOf t) (kindOf u))) ⌝ }
 {
@@ -80,7 +80,7 @@ fn distance(x: usize, second: bool) -> usize
 }
 
 // The number of a half of what the number i means.
-fn piece(w: &[u32], b: usize, i: usize, second: bool) -> usize
+pub fn piece(w: &[u32], b: usize, i: usize, second: bool) -> usize
     requires { ⌜ ((o : ℕ) × (g : ℕ) × (t : Trie) × Means (now w) b o g i t) ⌝ }
     ensures { λ r. ⌜ ((o g : ℕ) (t : Trie) → Means (now (w .entry)) b o g i t → Means (now (w .entry)) b o g r (half second t)) ⌝ }
 {
@@ -99,12 +99,12 @@ fn piece(w: &[u32], b: usize, i: usize, second: bool) -> usize
 }
 
 // The numbers of the halves of two.
-struct Pair {
-    a: usize,
-    c: usize,
+pub struct Pair {
+    pub a: usize,
+    pub c: usize,
 }
 
-fn halves(w: &[u32], b: usize, a: usize, c: usize, second: bool) -> Pair
+pub fn halves(w: &[u32], b: usize, a: usize, c: usize, second: bool) -> Pair
     requires { ⌜ ((o : ℕ) × (g : ℕ) × (t : Trie) × (u : Trie) × Means (now w) b o g a t × Means (now w) b o g c u) ⌝ }
     ensures { λ r. ⌜ ((o g : ℕ) (t u : Trie) → Means (now (w .entry)) b o g a t → Means (now (w .entry)) b o g c u
         → Means (now (w .entry)) b o g (r .a) (half second t) × Means (now (w .entry)) b o g (r .c) (half second u)) ⌝ }

@@ -27,6 +27,8 @@ change-spec =
     (λ c κs. search needs)
     (λ c κs. search needs)
     (λ c κs. search needs)
+    (λ c κs. search needs)
+    (λ c κs. search needs)
     (λ c. search needs)
     (λ c. rw (c .before .before .before .before .before .match .keys1) (reporting-is (c .before .before .before .add .ensures) (c .of-noted .ensures)))
     (λ c. search needs)
@@ -42,9 +44,12 @@ change-spec =
     (λ c. search needs)
     (λ c. rw (c .before .before .before .before .before .match .keys7) (changed-is (c .before .before .before .exclude .ensures) (c .of-answer5 .ensures)))
     (λ c. search needs)
+    (λ c. rw (c .before .before .before .before .before .match .keys8) (changed-is (c .before .before .before .replan .ensures) (c .of-answer6 .ensures)))
+    (λ c. search needs)
     (λ c.
     let r = c .before .before .before .before .before .match .rest in
     rw (
+      ne-eqb _ _ (r .0 .0 .0 .0 .0 .0 .0 .1),
       ne-eqb _ _ (r .0 .0 .0 .0 .0 .0 .1),
       ne-eqb _ _ (r .0 .0 .0 .0 .0 .1),
       ne-eqb _ _ (r .0 .0 .0 .0 .1),
@@ -53,4 +58,4 @@ change-spec =
       ne-eqb _ _ (r .0 .1),
       ne-eqb _ _ (r .1),
     )
-    (changed-is (c .before .before .before .replan .ensures) (c .of-answer6 .ensures))))
+    (changed-is (c .before .before .before .make-public .ensures) (c .of-answer7 .ensures))))

@@ -34,10 +34,10 @@ kind-of-spec =
     let d = beyond (beyond b (r .0 .0 .0 .0 .0 .1)) (r .0 .0 .0 .0 .1) in
     let e = beyond (beyond d (r .0 .0 .0 .1)) (r .0 .0 .1) in
     kindOf-from 22 25 (m .before .args .code) refl e (c .if4 .taken))
-    (λ c. kindOf-from 25 27 (c .before .before .before .before .before .before .args .code) refl (c .before .if4 .left) (c .if5 .taken))
+    (λ c. kindOf-from 25 28 (c .before .before .before .before .before .before .args .code) refl (c .before .if4 .left) (c .if5 .taken))
     (λ c. kindOf-from 32 41 (c .before .before .before .before .before .before .before .before .args .code) refl (c .before .if6 .left) (c .if7 .taken))
     (λ c. kindOf-from 0 1 (c .before .before .args .code) refl zero-le (c .if1 .taken))
-    (λ c. kindOf-from 27 32 (c .before .before .before .before .before .before .before .args .code) refl (c .before .if5 .left) (c .if6 .taken))
+    (λ c. kindOf-from 28 32 (c .before .before .before .before .before .before .before .args .code) refl (c .before .if5 .left) (c .if6 .taken))
     (λ c.
     let m = c .before .before .before .before .before .before .before in
     let r = m .match .rest in

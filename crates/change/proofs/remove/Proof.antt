@@ -1,5 +1,6 @@
 -- `remove` meets its contract: each return by the law for it, with what the calls on the way to it have found. Assumes nothing.
 use mathlib.Core.Path.{refl}
+use mathlib.Core.Bool.{true}
 use native.Mathlib.Omega.{arith}
 use borrow.Author.Needs.{needs}
 use Rattle.nets.specs.Lists.{removeL}
@@ -7,7 +8,7 @@ use Rattle.nets.specs.TrieOps.{removeT}
 use Rattle.pool_state.proofs.Returns.{result-refused, result-fits, result-relinks, result-granted}
 use Rattle.change.specs.Steps.{Ready}
 use Rattle.trie_remove.proofs.Splices.{left-root}
-use Rattle.change.proofs.Calls.{Counted, works-remove, seat-stands, result, result-stands, result-few, result-room, result-wrote}
+use Rattle.change.proofs.Calls.{Counted, works-remove, clear-remove, seat-stands, result, result-stands, result-few, result-room, result-wrote}
 use Rattle.change.proofs.Reported.{reports-refused, reports-granted}
 use Rattle.change.proofs.remove.Statement.{statement}
 use Rattle.change.proofs.remove.Tie as tie
@@ -16,8 +17,8 @@ ready : (c : tie.After-known-told2) → let a = c .before .before .before .befor
 ready c = rw (c .before .asked2 .given .1) at (c .before .before .before .ask .ensures)
 
 counted : (c : tie.After-remove-size) → let d = c .before .before in let g = d .before .before in let a = g .before .before .before .before .before .before .args in let x = g .before .asked2 .given .0 in
-    Counted removeT removeL (a .pool .now) (a .set) (a .net) (x .0) (x .1 .0) (d .seat-in .result) (c .remove-size .result)
-counted c = let d = c .before .before in record { works = works-remove; ready = ready (d .before .before); seat = d .seat-in .ensures; counts = c .remove-size .ensures }
+    Counted removeT removeL (a .pool .now) (a .set) (a .net) (x .0) (x .1 .0) (d .seat-in .result) true (c .remove-size .result)
+counted c = let d = c .before .before in record { works = works-remove; ready = ready (d .before .before); seat = d .seat-in .ensures; clear = clear-remove _ _ _; counts = c .remove-size .ensures }
 
 pub remove-spec : {M : Type 1} → statement M
 remove-spec =

@@ -4,7 +4,7 @@ use Prim.Native.Nat.{_-_}
 use native.Mathlib.Omega.{arith}
 use borrow.Author.Needs.{needs}
 use Rattle.pool_state.proofs.Header.{isHeader-header}
-use Rattle.pool_check.proofs.Pass.{Pass, pass-start, pass-done, pass-bad, pass-up, pass-off, pass-over, pass-on}
+use Rattle.pool_check.proofs.Pass.{Pass, pass-start, pass-done, pass-bad, pass-found, pass-up, pass-off, pass-over, pass-on}
 use Rattle.pool_check.proofs.survey_sets.Statement.{statement}
 use Rattle.pool_check.proofs.survey_sets.Tie as tie
 
@@ -33,14 +33,18 @@ survey-sets-spec =
     (λ c.
     let d = c .before .before in
     c .no-survey .ensures ∙ pass-bad (d .before .before .loop .inv) (d .before .loop-test .taken) (d .set-end .ensures) (c .before .if1 .taken))
-    (λ c. pass-up (c .before .before .before .loop .inv) (c .before .before .loop-test .taken) (c .before .set-end .ensures) (c .if1 .left))
-    (λ c κs. search needs)
+    (λ c κs.
+    let p = c .before .before .before .loop .inv in
+    ((p .room, p .pos), ((omega arith, omega arith), pass-found p (c .before .before .loop-test .taken) (c .before .set-end .ensures) (c .if1 .left))))
     (λ c κs. search needs)
     (λ c.
     let l = c .before .before in
     let d = l .before .before in
     c .no-survey2 .ensures
-    ∙ pass-off (d .before .before .loop .inv) (d .before .loop-test .taken) (d .set-end .ensures) (l .before .if1 .left) (l .in-limit .ensures) (c .before .if2 .taken))
+    ∙ pass-off (d .before .before .loop .inv) (d .before .loop-test .taken) (d .set-end .ensures) (l .before .if1 .left) (l .is-right .ensures) (c .before .if2 .taken))
+    (λ c.
+    let d = c .before .before .before in
+    pass-up (d .before .before .loop .inv) (d .before .loop-test .taken) (d .set-end .ensures) (c .before .before .if1 .left))
     (λ c κs. search needs)
     (λ c. search needs)
     (λ c κs. search needs)
@@ -49,7 +53,7 @@ survey-sets-spec =
     let l = g .before .before in
     let d = l .before .before in
     c .no-survey3 .ensures
-    ∙ pass-over (d .before .before .loop .inv) (d .before .loop-test .taken) (d .set-end .ensures) (l .before .if1 .left) (l .in-limit .ensures) (g .before .if2 .left) (g .claim-at .ensures)
+    ∙ pass-over (d .before .before .loop .inv) (d .before .loop-test .taken) (d .set-end .ensures) (l .before .if1 .left) (l .is-right .ensures) (g .before .if2 .left) (g .claim-at .ensures)
     (c .before .if3 .taken))
     (λ c. search needs)
     (λ c κs. search needs)
@@ -61,7 +65,7 @@ survey-sets-spec =
     let l = g .before .before in
     let d = l .before .before in
     rw (c .before .picked .ensures, c .picked2 .ensures)
-    (pass-on (d .before .before .loop .inv) (d .before .loop-test .taken) (d .set-end .ensures) (l .before .if1 .left) (l .in-limit .ensures) (g .before .if2 .left) (g .claim-at .ensures)
+    (pass-on (d .before .before .loop .inv) (d .before .loop-test .taken) (d .set-end .ensures) (l .before .if1 .left) (l .is-right .ensures) (g .before .if2 .left) (g .claim-at .ensures)
     (c .before .before .if3 .left)))
     (λ c. search needs)
     (λ c. pass-done (c .before .loop .inv) (c .loop-test .left)))

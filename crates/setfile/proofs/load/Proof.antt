@@ -21,27 +21,28 @@ load-spec =
     (λ c κs. search needs)
     (λ c. search needs)
     (λ c. search needs)
-    (λ c κs. ready (c .before .before) .surveyed)
+    (λ c κs. let h = ready (c .before .before) in (h .surveyed, (h .list, h .reads)))
+    (λ c κs. ready (c .before .before .before .before) .surveyed)
     (λ c. search needs)
     (λ c. search needs)
-    (λ c κs. let j = c .before .before .before in let h = ready (j .before .before .before) in (_, load-writes h (result-fits (load-result h) (j .judge .ensures) (c .before .enum-told .given .1))))
+    (λ c κs. let j = c .before .before .before in let m = j .before .before in let h = ready (m .before .before .before) in (_, load-writes h (result-fits (load-result h (m .is-admitted .ensures)) (j .judge .ensures) (c .before .enum-told .given .1))))
     (λ c κs.
     let x = c .before .before .before in
     let e = x .before .before in
     let j = e .before .before in
-    let h = ready (j .before .before .before) in
+    let m = j .before .before in let h = ready (m .before .before .before) in
     let z = e .enum-told .given .1 in
-    result-relinks (load-result h) (j .judge .ensures) z (load-wrote h (result-fits (load-result h) (j .judge .ensures) z) (x .write .ensures)))
+    result-relinks (load-result h (m .is-admitted .ensures)) (j .judge .ensures) z (load-wrote h (result-fits (load-result h (m .is-admitted .ensures)) (j .judge .ensures) z) (x .write .ensures)))
     (λ c. search needs)
     (λ c. rw (c .before .asked .given .1) at (c .before .before .before .ask .ensures))
     (λ c. search needs)
-    (λ c. let j = c .before .before .before in result-refused (load-result (ready (j .before .before .before))) (j .judge .ensures) _ (c .before .verdict .given .1))
+    (λ c. let j = c .before .before .before in result-refused (load-result (ready (j .before .before .before .before .before)) (j .before .before .is-admitted .ensures)) (j .judge .ensures) _ (c .before .verdict .given .1))
     (λ c. search needs)
     (λ c.
     let y = c .before .before in
     let x = y .before .before .before .before in
     let e = x .before .before in
     let j = e .before .before in
-    let h = ready (j .before .before .before) in
+    let m = j .before .before in let h = ready (m .before .before .before) in
     let z = e .enum-told .given .1 in
-    result-granted (load-result h) (j .judge .ensures) z (load-wrote h (result-fits (load-result h) (j .judge .ensures) z) (x .write .ensures)) (y .granted .ensures .0) (y .granted .ensures .1)))
+    result-granted (load-result h (m .is-admitted .ensures)) (j .judge .ensures) z (load-wrote h (result-fits (load-result h (m .is-admitted .ensures)) (j .judge .ensures) z) (x .write .ensures)) (y .granted .ensures .0) (y .granted .ensures .1)))

@@ -6,7 +6,7 @@ use Rattle.nets.specs.Lists.{addL}
 use Rattle.nets.specs.Tries.{insertT}
 use Rattle.pool_state.proofs.Returns.{result-fits, result-relinks}
 use Rattle.change.specs.Steps.{Ready}
-use Rattle.change.proofs.Calls.{Counted, works-insert, seat-stands, result, result-stands, result-few, result-room, result-wrote}
+use Rattle.change.proofs.Calls.{Counted, works-insert, clear-add, seat-stands, result, result-stands, result-few, result-room, result-wrote}
 use Rattle.change.proofs.Growing.{grow-refused, grow-few, grow-granted}
 use Rattle.change.proofs.adding.add_found.Statement.{statement}
 use Rattle.change.proofs.adding.add_found.Tie as tie
@@ -14,9 +14,13 @@ use Rattle.change.proofs.adding.add_found.Tie as tie
 ready : (c : tie.After-known-told2) → let a = c .before .before .before .before .before .before .args in let x = c .before .asked2 .given .0 in Ready (a .pool .now) (a .set) (a .net) (x .0) (x .1 .0)
 ready c = rw (c .before .asked2 .given .1) at (c .before .before .before .ask-found .ensures)
 
-counted : (c : tie.After-insert-size) → let d = c .before .before in let g = d .before .before in let a = g .before .before .before .before .before .before .args in let x = g .before .asked2 .given .0 in
-    Counted insertT addL (a .pool .now) (a .set) (a .net) (x .0) (x .1 .0) (d .seat-in .result) (c .insert-size .result)
-counted c = let d = c .before .before in record { works = works-insert; ready = ready (d .before .before); seat = d .seat-in .ensures; counts = c .insert-size .ensures }
+counted : (c : tie.After-insert-size) → let d = c .before .before in let m = d .before .before in let g = m .before .before in let a = g .before .before .before .before .before .before .args in let x = g .before .asked2 .given .0 in
+    Counted insertT addL (a .pool .now) (a .set) (a .net) (x .0) (x .1 .0) (d .seat-in .result) (m .is-admitted .result) (c .insert-size .result)
+counted c =
+    let d = c .before .before in
+    let m = d .before .before in
+    let h = ready (m .before .before) in
+    record { works = works-insert; ready = h; seat = d .seat-in .ensures; clear = clear-add h (m .is-admitted .ensures); counts = c .insert-size .ensures }
 
 pub add-found-spec : {M : Type 1} → statement M
 add-found-spec =
@@ -25,10 +29,11 @@ add-found-spec =
     (λ c κs. c .before .before .pre)
     (λ c. search needs)
     (λ c. search needs)
-    (λ c κs. (_, ready (c .before) .surveyed))
-    (λ c κs. let h = ready (c .before .before .before) in (h .few, record { t = _; rest = _; u = _; stands = seat-stands h (c .before .seat-in .ensures) }))
+    (λ c κs. let h = ready (c .before) in (h .surveyed, h .few))
+    (λ c κs. (_, ready (c .before .before .before) .surveyed))
+    (λ c κs. let h = ready (c .before .before .before .before .before) in (h .few, record { t = _; rest = _; u = _; stands = seat-stands h (c .before .seat-in .ensures) }))
     (λ c. omega (arith, result-few (counted c)))
-    (λ c κs. ready (c .before .before .before .before .before) .surveyed)
+    (λ c κs. counted (c .before) .ready .surveyed)
     (λ c. search needs)
     (λ c. search needs)
     (λ c κs. let j = c .before .before .before in let h = counted (j .before .before) in (h .ready .surveyed, grow-few h (j .judge .ensures) (c .before .enum-told .given .1)))

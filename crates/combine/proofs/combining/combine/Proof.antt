@@ -3,7 +3,7 @@ use denote.Ref.{now}
 use borrow.Author.Needs.{needs}
 use Rattle.pool_state.proofs.Returns.{result-refused, result-fits, result-relinks, result-granted}
 use Rattle.combine.specs.Steps.{Ready}
-use Rattle.combine.proofs.Calls.{ready-records, ready-reads, Counted, result, result-few, result-writes, result-wrote}
+use Rattle.combine.proofs.Calls.{ready-records, ready-reads, ready-levels, Counted, result, result-few, result-writes, result-wrote}
 use Rattle.combine.proofs.combining.combine.Statement.{statement}
 use Rattle.combine.proofs.combining.combine.Tie as tie
 
@@ -14,11 +14,14 @@ ready : (c : tie.After-asked2) → let a = start c .args in Ready (now (a .pool)
 ready c = rw (c .asked2 .given .1) at (c .before .before .ask .ensures)
 
 abbrev asked : tie.After-count → tie.After-asked2
-asked c = c .before .before .before .before .before
+asked c = c .before .before .before .before .before .before .before
 
 counted : (c : tie.After-count) → let a = start (asked c) .args in
-    Counted (a .op) (now (a .pool)) (a .to) (a .first) (a .second) (asked c .asked2 .given .0 .0) (c .before .before .sources-of .result) (c .count .result)
-counted c = record { operation = start (asked c) .pre; ready = ready (asked c); sources = c .before .before .sources-of .ensures; count = c .count .ensures }
+    Counted (a .op) (now (a .pool)) (a .to) (a .first) (a .second) (asked c .asked2 .given .0 .0) (c .before .before .before .before .sources-of .result) (c .before .before .is-admitted .result)
+    (c .count .result)
+counted c =
+    let d = c .before .before in
+    record { operation = start (asked c) .pre; ready = ready (asked c); sources = d .before .before .sources-of .ensures; clear = d .is-admitted .ensures; count = c .count .ensures }
 
 pub combine-spec : {M : Type 1} → statement M
 combine-spec =
@@ -28,7 +31,8 @@ combine-spec =
     (λ c. search needs)
     (λ c. search needs)
     (λ c κs. ready-records (ready (c .before .before)))
-    (λ c κs. (_, _, ready-reads (ready (c .before .before .before .before)) (c .before .sources-of .ensures)))
+    (λ c κs. let h = ready (c .before .before .before .before) in ((h .surveyed, ready-levels h (c .before .sources-of .ensures)), (_, _, ready-reads h (c .before .sources-of .ensures))))
+    (λ c κs. let d = c .before .before .before in (_, _, ready-reads (ready (d .before .before .before)) (d .sources-of .ensures)))
     (λ c. record { fits = result-few (counted c) })
     (λ c κs. counted (c .before) .ready .surveyed)
     (λ c. search needs)
