@@ -79,6 +79,10 @@ uint64_t marlbrace_last(const uint32_t *pool, size_t pool_len, uint32_t set, uin
 uint64_t marlbrace_list(const uint32_t *pool, size_t pool_len, uint32_t set, uint64_t *rows, size_t rows_len);
 uint64_t marlbrace_save(const uint32_t *pool, size_t pool_len, uint32_t set, uint8_t *out, size_t out_len);   /* value: bytes of the set file */
 
+/* Two set files, without a pool: yes where they cover different addresses, the smallest in the row. The value is the file that holds it, 1 or 2; or 3 where they cover
+ * the same, and 4 where the second is also the shortest list that does. */
+uint64_t marlbrace_compare(const uint8_t *first, size_t first_len, const uint8_t *second, size_t second_len, uint64_t row[3]);
+
 /* Text, without a pool. read_line: yes, the row, and the family as the value; write_line: the bytes as the value, no zero at their end. */
 uint64_t marlbrace_read_line(const uint8_t *line, size_t line_len, uint64_t row[3]);
 uint64_t marlbrace_write_line(uint8_t family, uint64_t hi, uint64_t lo, uint8_t len, uint8_t *out, size_t out_len);

@@ -1,5 +1,5 @@
 //! The library and iprange on the same data in one process, in turns. Reports the least and the median of each, and how many times faster the library is by the least.
-use crate::exports::{contains, list, load, save};
+use crate::exports::{compare, contains, list, load, save};
 use crate::files::{file, file_of};
 use crate::layout::{encode, held, Set, State, MARK};
 use crate::lists::{cleared, holds, past, supernet, width, List, Member};
@@ -251,6 +251,27 @@ fn files() {
     }
 }
 
+/// Two files of the same addresses side by side, the second with twice as many entries; and one of every length beside itself. Each takes the time of all its entries.
+fn comparisons() {
+    let side = |len: u8| file_of(4, (0..1u128 << len).map(|k| (len, k << (32 - len))).collect::<Vec<_>>().into_iter());
+    let turns = |n: u128| {
+        let mut l: Vec<Member> = (0..n).map(|k| (23 + (k % 106) as u8, k << 105)).collect();
+        l.sort();
+        file_of(6, l.into_iter())
+    };
+    let rows = [
+        ("compare, all /19 with all /20", 4, side(19), side(20), 3),
+        ("compare, all /21 with all /22", 4, side(21), side(22), 3),
+        ("compare, 106 lengths in turns, with itself", 6, turns(1 << 20), turns(1 << 20), 4),
+        ("compare, 106 lengths in turns, with itself", 6, turns(1 << 22), turns(1 << 22), 4),
+    ];
+    for (what, family, first, second, answer) in rows {
+        let n = (first.len() + second.len() - 32) / crate::files::entry_size(family);
+        let t = timed((0..3).map(|_| seconds(|| assert_eq!(compare(&first, &second), answer))).collect());
+        println!("| {what} | IPv{family} | {n} | {:.1} | {:.1} | | | |", t.least * 1e9 / n as f64, t.median * 1e9 / n as f64);
+    }
+}
+
 /// Lines into an empty set, /24 networks side by side: ascending, where each is added behind the last, and shuffled, where each moves the nodes behind it. The Rust parses the same lines and adds.
 fn lines(d: &mut Dice) {
     for (what, n, shuffled) in [("lines, ascending", 1_000_000, false), ("lines, shuffled", 20_000, true), ("lines, shuffled", 100_000, true)] {
@@ -288,6 +309,7 @@ pub fn main() -> bool {
         measure::<Ipv4Net>(d, 4, &(0..n).map(|k| (24, k << 8)).collect());
     }
     files();
+    comparisons();
     lines(d);
     true
 }

@@ -3,7 +3,7 @@ use crate::exports::{exported, words};
 use crate::files::read_lines;
 use crate::layout::decode;
 use crate::model::{apply, read_line};
-use crate::oracle::{reading, Oracle};
+use crate::oracle::{reading, sides, Oracle};
 use crate::plan::{Dice, Plan};
 use crate::wire::*;
 use std::collections::{BTreeMap, BTreeSet};
@@ -47,6 +47,9 @@ pub fn script(case: &Case) -> Result<Script, String> {
             _ => vec![],
         };
         if let Some(what) = lines.iter().find_map(|l| reading(l, read_line(l))) {
+            return Err(format!("call {i} {c:?}: model {a:?}, {what}"));
+        }
+        if let Some(what) = (c.code == COMPARE).then(|| sides(c, &a)).flatten() {
             return Err(format!("call {i} {c:?}: model {a:?}, {what}"));
         }
         s.push(i, c.clone(), a);

@@ -1,5 +1,6 @@
 //! The calls that are exported each for itself, as include/marlbrace.h declares them, on the words that a case leaves, beside the model.
 use crate::model::apply;
+use crate::runs::cut;
 use crate::wire::*;
 
 extern "C" {
@@ -30,6 +31,7 @@ extern "C" {
     fn marlbrace_last(pool: *const u32, pool_len: usize, set: u32, row: *mut [u64; 3]) -> u64;
     fn marlbrace_list(pool: *const u32, pool_len: usize, set: u32, rows: *mut u64, rows_len: usize) -> u64;
     fn marlbrace_save(pool: *const u32, pool_len: usize, set: u32, out: *mut u8, out_len: usize) -> u64;
+    fn marlbrace_compare(first: *const u8, first_len: usize, second: *const u8, second_len: usize, row: *mut [u64; 3]) -> u64;
     fn marlbrace_read_line(line: *const u8, line_len: usize, row: *mut [u64; 3]) -> u64;
     fn marlbrace_write_line(family: u8, hi: u64, lo: u64, len: u8, out: *mut u8, out_len: usize) -> u64;
 }
@@ -49,6 +51,10 @@ pub fn save(pool: &[u32], set: u32, out: &mut [u8]) -> u64 {
 
 pub fn load(pool: &mut [u32], set: u32, file: &[u8]) -> u64 {
     unsafe { marlbrace_load(pool.as_mut_ptr(), pool.len(), set, file.as_ptr(), file.len()) }
+}
+
+pub fn compare(first: &[u8], second: &[u8]) -> u64 {
+    unsafe { marlbrace_compare(first.as_ptr(), first.len(), second.as_ptr(), second.len(), &mut [0; 3]) }
 }
 
 /// What the exported call answers: its number, and the row, the numbers or the bytes that were lent, as bytes.
@@ -88,6 +94,10 @@ fn answered(pool: &mut [u32], c: &Call) -> Option<(u64, Vec<u8>)> {
             SAVE => marlbrace_save(w, m, c.a, bytes.as_mut_ptr(), bytes.len()),
             LOAD => marlbrace_load(w, m, c.a, c.tail.as_ptr(), c.tail.len()),
             LINES => marlbrace_lines(w, m, c.tail.as_ptr(), c.tail.len(), &mut counts),
+            COMPARE => {
+                let (first, second) = c.tail.split_at(cut(c));
+                marlbrace_compare(first.as_ptr(), first.len(), second.as_ptr(), second.len(), &mut row)
+            }
             READ_LINE => marlbrace_read_line(c.tail.as_ptr(), c.tail.len(), &mut row),
             WRITE_LINE => marlbrace_write_line(n.family, n.hi, n.lo, n.len, bytes.as_mut_ptr(), bytes.len()),
             _ => return None,
@@ -122,7 +132,7 @@ pub fn exported(words: &[u32], c: &Call) -> Option<String> {
         LINES => (false, 0),
         _ => (a.flag == 1, a.x),
     };
-    let row = if flag && matches!(c.code, SUPERNET | NEXT | NTH | LAST | READ_LINE) { [a.net.hi, a.net.lo, a.net.len as u64] } else { [7; 3] };
+    let row = if flag && matches!(c.code, SUPERNET | NEXT | NTH | LAST | READ_LINE | COMPARE) { [a.net.hi, a.net.lo, a.net.len as u64] } else { [7; 3] };
     let counts = if c.code == LINES { [a.x as u64, a.net.lo] } else { [7; 2] };
     let mut lent = a.tail.clone();
     lent.extend(row.iter().chain(&counts).flat_map(|x| x.to_le_bytes()));

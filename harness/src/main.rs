@@ -8,6 +8,7 @@ mod lists;
 mod model;
 mod oracle;
 mod plan;
+mod runs;
 mod wire;
 
 fn main() {

@@ -2,6 +2,7 @@
 use crate::files::{file, read_file, read_lines};
 use crate::layout::{decode, encode, header, held, room, State};
 use crate::lists::{self, cleared, width, List, Member};
+use crate::runs;
 use crate::wire::*;
 
 pub fn is_family(f: u8) -> bool {
@@ -383,6 +384,7 @@ pub fn apply(w: &mut [u32], c: &Call) -> Answer {
         WRITE_LINE => return write_line(c),
         LINES => return lines(w, c),
         NEW..=WORDS => return alone(c),
+        COMPARE => return runs::compare(c),
         WRITE_WORDS => {
             for (k, x) in c.tail.chunks_exact(4).enumerate() {
                 if let Some(y) = w.get_mut(c.a as usize + k) {

@@ -3,6 +3,7 @@ use crate::layout::State;
 use crate::files::{read_file, read_lines};
 use crate::lists::{List, Member};
 use crate::model::{address, read_line};
+use crate::runs::cut;
 use crate::wire::*;
 use ipnet::{Ipv4Net, Ipv6Net};
 use iprange::{IpNet, IpRange};
@@ -46,6 +47,25 @@ pub fn ranges<N: Numbers + Clone>(l: &List) -> IpRange<N> {
         r.add(N::of(m));
     });
     r
+}
+
+/// What iprange says of two files that were compared, where that is another than the answer: whether they are equal simplified, whether the second is left by that, and which holds the address.
+pub fn sides(c: &Call, a: &Answer) -> Option<String> {
+    fn wrong<N: Numbers + Clone + PartialEq>(l: &List, m: &List, a: &Answer) -> bool {
+        let (x, y) = (ranges::<N>(l), ranges::<N>(m));
+        let (mut u, mut v) = (x.clone(), y.clone());
+        u.simplify();
+        v.simplify();
+        let n = || N::of((a.net.len, address(&a.net)));
+        match a.x {
+            1 | 2 => u == v || x.contains(&n()) != (a.x == 1) || y.contains(&n()) != (a.x == 2),
+            _ => u != v || (y == v) != (a.x == 4),
+        }
+    }
+    let (first, second) = c.tail.split_at(cut(c));
+    let ((f, l), (g, m)) = (read_file(first)?, read_file(second)?);
+    let differs = f == g && if f == 4 { wrong::<Ipv4Net>(&l, &m, a) } else { wrong::<Ipv6Net>(&l, &m, a) };
+    differs.then(|| "iprange says otherwise".to_string())
 }
 
 pub struct Ranges<N: Numbers>(Vec<IpRange<N>>);

@@ -201,6 +201,35 @@ impl Plan {
         f
     }
 
+    /// A list and one that is said to be equal: the same, simplified, with a member cut, halved or gone, with an address flipped, or another; in either order. Some files are broken.
+    fn pair(&self, d: &mut Dice, s: &State) -> (Vec<u8>, Vec<u8>) {
+        if d.one_in(6) {
+            return (self.file(d, s), self.file(d, s));
+        }
+        let w = width(self.family);
+        let mut l = s.sets[d.below(s.sets.len() as u64) as usize].list.clone();
+        if d.one_in(2) {
+            l = (0..d.below(8)).fold(List::new(), |l, _| lists::add(w, &l, self.member(d)));
+        }
+        let any = if l.is_empty() { self.member(d) } else { *l.iter().nth(d.below(l.len() as u64) as usize).unwrap() };
+        let half = |b: u128| (any.0 + 1, any.1 | b << (w - any.0 - 1));
+        let address = (w, any.1 | d.pick(&[0, 1, u128::MAX]) & lists::past(w, any.0));
+        let mut m = l.clone();
+        match d.below(6) {
+            0 => m = lists::simplify(w, &l),
+            1 if any.0 < w => m = lists::remove(w, &l, half(d.below(2) as u128)),
+            2 if any.0 < w && m.remove(&any) => m.extend([half(0), half(1)]),
+            3 if lists::supernet(w, &l, address).is_some() => m = lists::remove(w, &l, address),
+            3 => m = lists::add(w, &l, address),
+            4 => {
+                m.remove(&any);
+            }
+            _ => {}
+        }
+        let (first, second) = (file(self.family, &l), file(self.family, &m));
+        if d.one_in(2) { (second, first) } else { (first, second) }
+    }
+
     /// Some lines, most of them networks of the plan.
     fn lines(&self, d: &mut Dice) -> Vec<u8> {
         let mut s = vec![];
@@ -224,7 +253,8 @@ impl Plan {
         let (a, b, c) = (self.set(d), self.set(d), self.set(d));
         let net = self.net(d, s);
         let code = match d.below(100) {
-            0..=19 => ADD,
+            0..=17 => ADD,
+            18..=19 => COMPARE,
             20..=22 => SAVE,
             23..=26 => LOAD,
             27..=29 => LINES,
@@ -293,6 +323,11 @@ impl Plan {
             LINES => {
                 call.tail = self.lines(d);
                 call.b = d.below(call.tail.len() as u64 + 3) as u32;
+            }
+            COMPARE => {
+                let (first, second) = self.pair(d, s);
+                call.a = if d.one_in(20) { d.below(first.len() as u64 + 40) as u32 } else { first.len() as u32 };
+                call.tail = [first, second].concat();
             }
             READ_LINE => call.tail = self.line(d),
             WRITE_LINE => {

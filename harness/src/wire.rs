@@ -63,6 +63,7 @@ pub const OCTETS: u8 = 37;
 pub const BYTES: u8 = 38;
 pub const GROUPS: u8 = 39;
 pub const WORDS: u8 = 40;
+pub const COMPARE: u8 = 44;
 pub const WRITE_WORDS: u8 = 48;
 pub const READ_WORDS: u8 = 49;
 

@@ -45,6 +45,7 @@ length-by kind.WriteLine w v s c = length-lineBytes c
 length-by kind.Save w v s c = length-saveBytes w c
 length-by kind.Load w v s c = refl
 length-by kind.Lines w v s c = refl
+length-by kind.Compare w v s c = refl
 length-by kind.WriteWords w v s c = refl
 length-by kind.ReadWords w v s c = rw (length-rowBytes u32Bytes 4 length-u32 (wordsFrom w (c .a) (c .b)), length-wordsFrom w (c .a) (c .b))
 length-by kind.Unknown w v s c = refl

@@ -19,7 +19,7 @@ use Rattle.calls_kinds.specs.declared.Kind.the-variants as kind
 use Rattle.calls_changes.specs.Changes.{layoutOf, writeOf, changeOf}
 use Rattle.calls_reports.specs.Reports.{reportOf}
 use Rattle.calls_networks.specs.Networks.{networkOf}
-use Rattle.calls_tailed.specs.Reading.{loadOf, linesOf}
+use Rattle.calls_tailed.specs.Reading.{loadOf, linesOf, compareOf}
 use Rattle.calls_tailed.specs.Tailed.{rowsOf, listReply, lineBytes, lineReply, saveBytes, saveReply}
 
 pub record Effect : Type 0 where
@@ -45,6 +45,7 @@ effectBy kind.WriteLine w v s c = effect (lineReply c) (lineBytes c) w v
 effectBy kind.Save w v s c = effect (saveReply w c) (saveBytes w c) w v
 effectBy kind.Load w v s c = plain (loadOf w c s) v
 effectBy kind.Lines w v s c = plain (linesOf w c s) v
+effectBy kind.Compare w v s c = plain (compareOf c s, w) v
 effectBy kind.WriteWords w v s c = plain (writeOf w c s) v
 effectBy kind.ReadWords w v s c = effect (noReply 0) (rowBytes u32Bytes (wordsFrom w (c .a) (c .b))) w v
 effectBy kind.Unknown w v s c = plain (noReply 0, w) v

@@ -36,6 +36,7 @@ pub fn answer(
         Kind::Save => tailed::save(pool, c, out, at),
         Kind::Load => reading::load(pool, c, s),
         Kind::Lines => reading::lines(pool, c, s),
+        Kind::Compare => reading::compare(c, s),
         Kind::WriteWords => write(pool, c, s),
         Kind::ReadWords => tailed::words(pool, c, out, at),
         Kind::Unknown => only(0),

@@ -71,6 +71,8 @@ pub const GROUPS: u8 = 39;
 
 pub const WORDS: u8 = 40;
 
+pub const COMPARE: u8 = 44;
+
 pub const WRITE_WORDS: u8 = 48;
 
 pub const READ_WORDS: u8 = 49;

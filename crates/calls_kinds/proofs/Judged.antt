@@ -25,6 +25,7 @@ asksBy-most kind.WriteLine b = omega arith
 asksBy-most kind.Save b = omega arith
 asksBy-most kind.Load b = omega arith
 asksBy-most kind.Lines b = omega arith
+asksBy-most kind.Compare b = omega arith
 asksBy-most kind.WriteWords b = omega arith
 asksBy-most kind.ReadWords b = omega arith
 asksBy-most kind.Unknown b = omega arith

@@ -40,6 +40,7 @@ table =
     ∷ codes 22 24 kind.Report
     ∷ codes 25 27 kind.Change
     ∷ codes 32 40 kind.Network
+    ∷ code 44 kind.Compare
     ∷ code 48 kind.WriteWords
     ∷ code 49 kind.ReadWords
     ∷ []
@@ -64,6 +65,7 @@ asksBy kind.WriteLine b = asks b 0
 asksBy kind.Save b = asks b 0
 asksBy kind.Load b = asks 0 0
 asksBy kind.Lines b = asks 0 0
+asksBy kind.Compare b = asks 0 0
 asksBy kind.WriteWords b = asks 0 0
 asksBy kind.ReadWords b = asks (4 * b) 0
 asksBy kind.Unknown b = record { known = false; bytes = 0; rows = 0 }

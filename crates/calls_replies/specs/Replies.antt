@@ -6,10 +6,11 @@
 --   reported b          the report of a call that takes a network in, in y: 1 where a set bit past the length was cut, else 0
 --   enterReply, writeReply     a network with the report; one number with it, also of add and remove
 --   coverReply, containReply     a lookup: whether there is a member, the member, the nodes that were read, and the report
+--   comparedReply       of two files: the flag says that they differ, x is which answer it is, and the address is a network
 --   toldReply           the answers by a flag;  entryReply: one number, and an entry of a page
 --   changed w k rs f    a changing call on set k: its answer, and the words that it leaves;  relisted w k a f: one that gives it a list
 --   reporting n w k rs f     a changing call that takes the network n in: with the report, where it is granted;  relistedBy n w k f: one that gives set k a list
-use mathlib.Core.Bool.{Bool, false, cond, _&&_}
+use mathlib.Core.Bool.{Bool, false, cond, _&&_, _||_}
 use mathlib.Core.List.{List}
 use Prim.Native.Nat.{ℕ}
 use lib.Dec.{eqb}
@@ -73,6 +74,9 @@ bitsReply a = reply (a .0) false 0 0 (leftNet (a .1))
 
 abbrev pub bitReply : ℕ × (Bool × (Bool × PrefixBits)) → Reply
 bitReply a = reply (a .0) (a .1 .0) (cond (a .1 .1 .0) 1 0) 0 (leftNet (a .1 .1 .1))
+
+abbrev pub comparedReply : ℕ × (ℕ × Net) → Reply
+comparedReply a = reply (a .0) (eqb (a .1 .0) 1 || eqb (a .1 .0) 2) (a .1 .0) 0 (a .1 .1)
 
 abbrev pub toldReply : Told → Reply
 toldReply t = flagReply (toldAs t)

@@ -8,8 +8,9 @@ ghost use Rattle.change.specs.Calls.{notedAs};
 ghost use Rattle.lookup.specs.Rules.{supernetAs, containsAs};
 ghost use Rattle.listing.specs.Calls.{followerAs};
 ghost use Rattle.text.specs.Answers.{writtenAs};
+ghost use Rattle.setfile_compare.specs.Comparing.{holderAs, comparedAs};
 ghost use Rattle.calls_replies.specs.Replies.{reply, noReply, oneReply, twoReply, flagReply, netReply, foundReply, reported, enterReply, writeReply, coverReply, containReply};
-ghost use Rattle.calls_replies.specs.Replies.{leftNet, bitsReply, bitReply, toldReply, entryReply};
+ghost use Rattle.calls_replies.specs.Replies.{leftNet, bitsReply, bitReply, toldReply, entryReply, comparedReply};
 use calls_bytes::Reply;
 use calls_bytes::records::flag_byte;
 use change::Noted;
@@ -26,6 +27,8 @@ use nets::Taken;
 use pool_state::Answer;
 use pool_state::Report;
 use pool_state::Told;
+use setfile_compare::Compared;
+use setfile_compare::Holder;
 use text::Written;
 
 const NO_NET: Net = Net {
@@ -262,5 +265,33 @@ pub fn of_bit(a: NextBit) -> Reply
     match a {
         NextBit::Bit(bit, left) => of_step(bit, left),
         NextBit::End => only(0),
+    }
+}
+
+// The address that only one of two files holds.
+fn of_differing(holder: Holder, net: Net) -> Reply
+    ensures { λ r. ⌜ r ≡ comparedReply (0, (holderAs holder, net)) ⌝ }
+{
+    let x = match holder {
+        Holder::First => 1,
+        Holder::Second => 2,
+    };
+    Reply {
+        no: 0,
+        flag: true,
+        x,
+        y: 0,
+        net,
+    }
+}
+
+pub fn of_compared(a: Compared) -> Reply
+    ensures { λ r. ⌜ r ≡ comparedReply (comparedAs a) ⌝ }
+{
+    match a {
+        Compared::Differs(holder, net) => of_differing(holder, net),
+        Compared::Longer => of_numbers(0, 3, 0),
+        Compared::Shortest => of_numbers(0, 4, 0),
+        Compared::Refused(no) => refused(no),
     }
 }

@@ -1,4 +1,4 @@
--- A set read from a tail. The pieces of the lines are where they are cut, and a reader keeps at most 19 bytes of a line, so that their number fits.
+-- Sets read from a tail. The pieces of the lines are where they are cut, and a reader keeps at most 19 bytes of a line, so that their number fits.
 use mathlib.Core.Bool.{Bool, true, false, cond}
 use mathlib.Core.List.{List, [], _∷_}
 use mathlib.Core.Path.{_≡_, refl, sym, ap, _∙_}
@@ -9,16 +9,18 @@ use lib.ListN.{length, take, drop, set, length-drop, drop-of-length-le}
 use lib.Seq.{take-all, drop-drop, drop-length}
 use borrow.Author.Tests.{ltb-true}
 use Rattle.pool_state.specs.Decode.{decode}
+use Rattle.setfile_format.specs.Files.{readFile}
 use Rattle.setfile.specs.Loading.{Loaded}
+use Rattle.setfile_compare.specs.Comparing.{Values, compared}
 use Rattle.lines.specs.Lines.{lineFeed, lineNo, trimmedIn, poolNo}
 use Rattle.lines.specs.Reading.{places, begun, kept, pushed, stopped, endedAs, ended, stepped, passed, closed, checked, fed, finished, fedAll, allRead}
 use Rattle.lines.specs.declared.Reader.{Reader}
 use Rattle.calls_bytes.proofs.Rows.{rest-is}
 use Rattle.calls_bytes.specs.declared.Call.{Call}
 use Rattle.calls_bytes.specs.declared.Reply.{Reply}
-use Rattle.calls_replies.specs.Replies.{oneReply}
+use Rattle.calls_replies.specs.Replies.{oneReply, comparedReply}
 use Rattle.calls_replies.proofs.Changing.{changed-is}
-use Rattle.calls_tailed.specs.Reading.{loadOf, piecesOf, readerReply, linesOf, Cut}
+use Rattle.calls_tailed.specs.Reading.{loadOf, piecesOf, readerReply, linesOf, compareOf, Cut}
 
 -- the bytes behind the fixed part are the file
 pub load-is : (w s : List ℕ) (c : Call) {v : List ℕ} {a : ℕ × ℕ} {x : Reply} → Loaded w (c .a) (take (length s - 35) (drop 35 s)) a v → x ≡ oneReply a → (x, v) ≡ loadOf w c s
@@ -113,3 +115,9 @@ module _ (w s : List ℕ) (c : Call) (cut : ℕ) {w₁ w₂ w₃ : List ℕ} {r�
   pub lines-is : {x : Reply} → x ≡ readerReply r₃ → (x, w₃) ≡ linesOf w c s
   unfolding linesOf
   lines-is h = rw h (ap (λ (x : Reader × List ℕ). (readerReply (x .0), x .1)) lines-read)
+
+-- two files, one behind the other
+pub compare-is : (s : List ℕ) (c : Call) (cut : ℕ) {z : ℕ × Values} {r : Reply} → Cut s (c .a) cut
+    → z ≡ compared (readFile (take (cut - 35) (drop 35 s))) (readFile (take (length s - cut) (drop cut s))) → r ≡ comparedReply z → r ≡ compareOf c s
+unfolding compareOf
+compare-is s c cut k e h = h ∙ ap comparedReply (rw (k .first, rest-is s cut, k .rest) at e)

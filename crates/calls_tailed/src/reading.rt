@@ -1,12 +1,13 @@
-// The calls that read a set from their tail: a set file, or lines.
+// The calls that read sets from their tail: a set file, lines, or two files.
 ghost use mathlib.Core.Path.{_≡_};
 ghost use Prim.Native.Nat.{_≤_};
 ghost use lib.ListN.{length};
-ghost use Rattle.calls_tailed.specs.Reading.{loadOf, linesOf, readerReply, Cut};
+ghost use Rattle.calls_tailed.specs.Reading.{loadOf, linesOf, readerReply, compareOf, Cut};
 use calls_bytes::Call;
 use calls_bytes::Reply;
 use calls_bytes::records::CALL;
 use calls_replies::of_answer;
+use calls_replies::of_compared;
 use lines::Reader;
 use nets::Net;
 
@@ -28,6 +29,15 @@ fn cut_of(s: &[u8], b: u32) -> usize
         return s.len();
     }
     CALL + first
+}
+
+// Compares the two files of the tail, of which the first has so many bytes.
+pub fn compare(c: Call, s: &[u8]) -> Reply
+    requires { ⌜ 35 ≤ length (now s) ⌝ }
+    ensures { λ r. ⌜ r ≡ compareOf c (now (s .entry)) ⌝ }
+{
+    let cut = cut_of(s, c.a);
+    of_compared(setfile_compare::compare(&s[CALL..cut], &s[cut..]))
 }
 
 // Where a reading has come to. A reader keeps at most 19 bytes, so their number fits.

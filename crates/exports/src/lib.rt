@@ -5,6 +5,7 @@ ghost use mathlib.Core.Path.{_≡_};
 ghost use Rattle.nets.specs.Networks.{netWords};
 
 pub mod changing;
+pub mod files;
 pub mod looking;
 pub mod reporting;
 pub mod texts;

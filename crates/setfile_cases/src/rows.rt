@@ -2,12 +2,18 @@
 use crate::files::ROOM;
 use nets::Refusal;
 use pool_state::Answer;
+use setfile_compare::Compared;
+use setfile_compare::Holder;
+use setfile_compare::compare;
 use test_counts::Tally;
 use test_counts::calls;
 use test_counts::calls::Got;
+use test_counts::calls::named;
 use test_counts::calls::taken;
 use test_counts::calls::tell;
 use test_counts::same;
+use test_counts::table::Word;
+use test_counts::table::number;
 
 // The words of the pools here: two sets, 140 nodes.
 pub const WORDS: usize = 1200;
@@ -104,6 +110,41 @@ fn load_or(pool: &mut [u32], row: &[u8], bytes: &[u8]) -> Got {
     }
 }
 
+// An answer of compare as the words of a row: which file alone holds the address, and the address; or which of the others it is.
+fn matched(c: Compared) -> Got {
+    match c {
+        Compared::Differs(h, n) => {
+            let second = Word {
+                form: n.family,
+                hi: n.hi,
+                lo: n.lo,
+            };
+            let first = match h {
+                Holder::First => named(b'f'),
+                Holder::Second => named(b'o'),
+            };
+            Got { first, second }
+        }
+        Compared::Longer => Got {
+            first: named(b'l'),
+            second: number(0),
+        },
+        Compared::Shortest => Got {
+            first: named(b's'),
+            second: number(0),
+        },
+        Compared::Refused(no) => calls::refusal(no),
+    }
+}
+
+// Two files, the first of so many bytes.
+fn matches(t: Tally, row: &[u8], must: &[u8], bytes: &[u8], n: usize) -> Tally {
+    if bytes.len() < n {
+        return tell(t, row, must, false);
+    }
+    calls::judge(t, row, must, matched(compare(&bytes[0..n], &bytes[n..])))
+}
+
 // A row of one call, which may change the pool.
 fn call(t: Tally, pool: &mut [u32; WORDS], row: &[u8], must: &[u8], bytes: &[u8]) -> Tally {
     let was = *pool;
@@ -128,6 +169,7 @@ fn with_file(t: Tally, pool: &mut [u32; WORDS], row: &[u8], must: &[u8], bytes: 
         ),
         b'o' => breaks(t, (n % 256) as u8, row, must, bytes),
         b'c' => cuts(t, (n % 256) as u8, row, must, bytes),
+        b'm' => matches(t, row, must, bytes, n as usize),
         b'b' => {
             let t = call(t, pool, row, must, bytes);
             saves(t, pool, row, must, bytes)

@@ -77,10 +77,12 @@ answer-spec =
     (λ c. search needs)
     (λ c κs. search needs)
     (λ c. search needs)
+    (λ c κs. search needs)
+    (λ c. search needs)
     (λ c κs.
     let t = c .before .before in
     let s = t .before .before .before .before .before .before .before in
-    let q = asked (t .before .before) (t .enum-told11 .given .1) in
+    let q = asked (t .before .before) (t .enum-told12 .given .1) in
     omega (arith, s .pre .room, ap (λ (x : Asks). x .bytes) q))
     (λ c. search needs)
     (λ c κs. search needs)
@@ -104,9 +106,10 @@ answer-spec =
     (λ c. let l = c .before .before in let t = l .before .before in plainly (t .before .before) (t .enum-told8 .given .1) refl (l .load .ensures))
     (λ c. search needs)
     (λ c. let l = c .before .before in let t = l .before .before in plainly (t .before .before) (t .enum-told9 .given .1) refl (l .lines .ensures))
+    (λ c. let t = c .before in telling (t .before .before) (t .enum-told10 .given .1) refl (c .compare .ensures))
     (λ c. search needs)
-    (λ c. let l = c .before .before in let t = l .before .before in plainly (t .before .before) (t .enum-told10 .given .1) refl (l .write .ensures))
+    (λ c. let l = c .before .before in let t = l .before .before in plainly (t .before .before) (t .enum-told11 .given .1) refl (l .write .ensures))
     (λ c. search needs)
     (λ c. search needs)
-    (λ c. let l = c .before .before in let t = l .before .before .before in tailing (t .before .before) (t .enum-told11 .given .1) refl (l .words .ensures .0) refl (l .words .ensures .1))
-    (λ c. let t = c .before in telling (t .before .before) (t .enum-told12 .given .1) refl (c .only .ensures)))
+    (λ c. let l = c .before .before in let t = l .before .before .before in tailing (t .before .before) (t .enum-told12 .given .1) refl (l .words .ensures .0) refl (l .words .ensures .1))
+    (λ c. let t = c .before in telling (t .before .before) (t .enum-told13 .given .1) refl (c .only .ensures)))
