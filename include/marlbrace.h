@@ -77,6 +77,7 @@ uint64_t marlbrace_next(const uint32_t *pool, size_t pool_len, uint32_t set, uin
 uint64_t marlbrace_nth(const uint32_t *pool, size_t pool_len, uint32_t set, uint32_t place, uint64_t row[3]);
 uint64_t marlbrace_last(const uint32_t *pool, size_t pool_len, uint32_t set, uint64_t row[3]);
 uint64_t marlbrace_list(const uint32_t *pool, size_t pool_len, uint32_t set, uint64_t *rows, size_t rows_len);
+uint64_t marlbrace_ranges(const uint32_t *pool, size_t pool_len, uint32_t set, uint64_t *rows, size_t rows_len);   /* value: ranges, four numbers for each: first and last address */
 uint64_t marlbrace_save(const uint32_t *pool, size_t pool_len, uint32_t set, uint8_t *out, size_t out_len);   /* value: bytes of the set file */
 
 /* Two set files, without a pool: yes where they cover different addresses, the smallest in the row. The value is the file that holds it, 1 or 2; or 3 where they cover

@@ -5,6 +5,7 @@ use crate::layout::decode;
 use crate::model::{apply, read_line};
 use crate::oracle::{reading, sides, Oracle};
 use crate::plan::{Dice, Plan};
+use crate::text6::{read_line6, reading6};
 use crate::wire::*;
 use std::collections::{BTreeMap, BTreeSet};
 
@@ -42,11 +43,11 @@ pub fn script(case: &Case) -> Result<Script, String> {
             }
         }
         let lines = match c.code {
-            READ_LINE => vec![&c.tail[..]],
+            READ_LINE | READ_LINE_6 | READ_LINE_EITHER => vec![&c.tail[..]],
             LINES => read_lines(&c.tail),
             _ => vec![],
         };
-        if let Some(what) = lines.iter().find_map(|l| reading(l, read_line(l))) {
+        if let Some(what) = lines.iter().find_map(|l| reading(l, read_line(l)).or_else(|| reading6(l, read_line6(l)))) {
             return Err(format!("call {i} {c:?}: model {a:?}, {what}"));
         }
         if let Some(what) = (c.code == COMPARE).then(|| sides(c, &a)).flatten() {
@@ -88,7 +89,7 @@ pub fn compare(case: &Case, tally: &mut Tally) -> Option<String> {
     let mut bytes = vec![];
     s.calls.iter().for_each(|c| c.put(&mut bytes));
     let size: usize = s.calls.iter().map(|c| 28 + c.answer_tail()).sum();
-    let rows = s.calls.iter().filter(|c| c.code == LIST).map(|c| c.b as usize).max().unwrap_or(0);
+    let rows = s.calls.iter().filter(|c| matches!(c.code, LIST | RANGES)).map(|c| c.b as usize).max().unwrap_or(0);
     let (mut pool, mut lent, mut out) = (vec![0u32; case.words], vec![7u64; rows], vec![0xa5u8; size + 9]);
     let r = run(&mut pool, &mut lent, &bytes, &mut out);
     if r != 8 * s.calls.len() as u64 {
@@ -267,7 +268,7 @@ fn tamper(d: &mut Dice, case: &mut Case) {
     let net = Net { family: words[1] as u8, ..Net::default() };
     let on = |code: u8| Call { b: 6, net: net.clone(), ..Call::new(code) };
     case.calls.extend([Call { a: at as u32, ..on(READ_WORDS) }, write(x)]);
-    case.calls.extend([HELD, CONTAINS, IS_EMPTY, EQUAL, LIST, SAVE, LAST, PAGE].map(on));
+    case.calls.extend([HELD, CONTAINS, IS_EMPTY, EQUAL, LIST, RANGES, SAVE, LAST, PAGE].map(on));
     case.calls.extend([write(words[at]), Call::new(FREE)]);
 }
 

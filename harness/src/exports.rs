@@ -30,9 +30,12 @@ extern "C" {
     fn marlbrace_nth(pool: *const u32, pool_len: usize, set: u32, place: u32, row: *mut [u64; 3]) -> u64;
     fn marlbrace_last(pool: *const u32, pool_len: usize, set: u32, row: *mut [u64; 3]) -> u64;
     fn marlbrace_list(pool: *const u32, pool_len: usize, set: u32, rows: *mut u64, rows_len: usize) -> u64;
+    fn marlbrace_ranges(pool: *const u32, pool_len: usize, set: u32, rows: *mut u64, rows_len: usize) -> u64;
     fn marlbrace_save(pool: *const u32, pool_len: usize, set: u32, out: *mut u8, out_len: usize) -> u64;
     fn marlbrace_compare(first: *const u8, first_len: usize, second: *const u8, second_len: usize, row: *mut [u64; 3]) -> u64;
     fn marlbrace_read_line(line: *const u8, line_len: usize, row: *mut [u64; 3]) -> u64;
+    fn marlbrace_read_line_6(line: *const u8, line_len: usize, row: *mut [u64; 3]) -> u64;
+    fn marlbrace_read_line_either(line: *const u8, line_len: usize, row: *mut [u64; 3]) -> u64;
     fn marlbrace_write_line(family: u8, hi: u64, lo: u64, len: u8, out: *mut u8, out_len: usize) -> u64;
 }
 
@@ -61,7 +64,7 @@ pub fn compare(first: &[u8], second: &[u8]) -> u64 {
 fn answered(pool: &mut [u32], c: &Call) -> Option<(u64, Vec<u8>)> {
     let (w, m, n) = (pool.as_mut_ptr(), pool.len(), &c.net);
     let (mut row, mut counts) = ([7u64; 3], [7u64; 2]);
-    let mut rows = vec![c.c as u64; if c.code == LIST { c.b as usize } else { 0 }];
+    let mut rows = vec![c.c as u64; if matches!(c.code, LIST | RANGES) { c.b as usize } else { 0 }];
     let mut bytes = vec![c.c as u8; if c.code == SAVE || c.code == WRITE_LINE { c.b as usize } else { 0 }];
     let number = unsafe {
         match c.code {
@@ -87,6 +90,7 @@ fn answered(pool: &mut [u32], c: &Call) -> Option<(u64, Vec<u8>)> {
             REPLAN => marlbrace_replan(w, m, c.a, c.b, c.c),
             EQUAL => marlbrace_equal(w, m, c.a, c.b),
             LIST => marlbrace_list(w, m, c.a, rows.as_mut_ptr(), rows.len()),
+            RANGES => marlbrace_ranges(w, m, c.a, rows.as_mut_ptr(), rows.len()),
             NEXT if c.b == 0 => marlbrace_first(w, m, c.a, &mut row),
             NEXT => marlbrace_next(w, m, c.a, n.family, n.hi, n.lo, n.len, &mut row),
             NTH => marlbrace_nth(w, m, c.a, c.b, &mut row),
@@ -99,6 +103,8 @@ fn answered(pool: &mut [u32], c: &Call) -> Option<(u64, Vec<u8>)> {
                 marlbrace_compare(first.as_ptr(), first.len(), second.as_ptr(), second.len(), &mut row)
             }
             READ_LINE => marlbrace_read_line(c.tail.as_ptr(), c.tail.len(), &mut row),
+            READ_LINE_6 => marlbrace_read_line_6(c.tail.as_ptr(), c.tail.len(), &mut row),
+            READ_LINE_EITHER => marlbrace_read_line_either(c.tail.as_ptr(), c.tail.len(), &mut row),
             WRITE_LINE => marlbrace_write_line(n.family, n.hi, n.lo, n.len, bytes.as_mut_ptr(), bytes.len()),
             _ => return None,
         }
@@ -126,13 +132,13 @@ pub fn exported(words: &[u32], c: &Call) -> Option<String> {
     let (mut pool, mut model) = (words.to_vec(), words.to_vec());
     let (number, bytes) = answered(&mut pool, c)?;
     let a = apply(&mut model, c);
-    let reports = matches!(c.code, SUPERNET | CONTAINS | ADD | REMOVE | READ_LINE | WRITE_LINE);
+    let reports = matches!(c.code, SUPERNET | CONTAINS | ADD | REMOVE | READ_LINE | READ_LINE_6 | READ_LINE_EITHER | WRITE_LINE);
     let (flag, x) = match c.code {
-        READ_LINE => (a.no == 0, a.net.family as u32),
+        READ_LINE | READ_LINE_6 | READ_LINE_EITHER => (a.no == 0, a.net.family as u32),
         LINES => (false, 0),
         _ => (a.flag == 1, a.x),
     };
-    let row = if flag && matches!(c.code, SUPERNET | NEXT | NTH | LAST | READ_LINE | COMPARE) { [a.net.hi, a.net.lo, a.net.len as u64] } else { [7; 3] };
+    let row = if flag && matches!(c.code, SUPERNET | NEXT | NTH | LAST | READ_LINE | READ_LINE_6 | READ_LINE_EITHER | COMPARE) { [a.net.hi, a.net.lo, a.net.len as u64] } else { [7; 3] };
     let counts = if c.code == LINES { [a.x as u64, a.net.lo] } else { [7; 2] };
     let mut lent = a.tail.clone();
     lent.extend(row.iter().chain(&counts).flat_map(|x| x.to_le_bytes()));

@@ -116,3 +116,12 @@ pub fn next(l: &List, from: Option<Member>) -> Option<Member> {
         Some(m) => l.range((std::ops::Bound::Excluded(m), std::ops::Bound::Unbounded)).next().copied(),
     }
 }
+
+/// The fewest ranges that cover the list, ascending: an address begins one where the address before it is not covered, and ends one where the address behind it is not. There is none before zero and
+/// none behind the last.
+pub fn ranges(w: u8, l: &List) -> Vec<(u128, u128)> {
+    let covered = |a: u128| supernet(w, l, (w, a)).is_some();
+    let first: BTreeSet<u128> = l.iter().map(|m| m.1).filter(|&a| a == 0 || !covered(a - 1)).collect();
+    let last: BTreeSet<u128> = l.iter().map(|m| m.1 | past(w, m.0)).filter(|&a| a == past(w, 0) || !covered(a + 1)).collect();
+    first.into_iter().zip(last).collect()
+}

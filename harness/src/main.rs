@@ -9,6 +9,7 @@ mod model;
 mod oracle;
 mod plan;
 mod runs;
+mod text6;
 mod wire;
 
 fn main() {

@@ -1,5 +1,6 @@
 //! What each call has to answer and to leave, by document 01, requests M-101, M-102 and M-107, and docs/CALLS.md: refusals, room, limits, shares, reports, files, text, damaged memory.
 use crate::files::{file, read_file, read_lines};
+use crate::text6::{read_line6, text6};
 use crate::layout::{decode, encode, header, held, room, State};
 use crate::lists::{self, cleared, width, List, Member};
 use crate::runs;
@@ -203,22 +204,25 @@ fn is_empty(w: &[u32], set: u32) -> Answer {
     }
 }
 
-fn list(s: &State, c: &Call) -> Answer {
-    let mut rows = vec![c.c as u64; c.b as usize];
+/// A call that writes rows of so many numbers, one for each of what the set has.
+fn rows(s: &State, c: &Call, wide: usize, of: impl FnOnce(&List) -> Vec<u64>) -> Answer {
+    let mut lent = vec![c.c as u64; c.b as usize];
     let a = if c.a as usize >= s.sets.len() {
         Answer::refused(3)
     } else {
-        let l = &s.sets[c.a as usize].list;
-        if 3 * l.len() > rows.len() {
+        let numbers = of(&s.sets[c.a as usize].list);
+        if numbers.len() > lent.len() {
             Answer::refused(11)
         } else {
-            for (k, m) in l.iter().enumerate() {
-                rows[3 * k..3 * k + 3].copy_from_slice(&[(m.1 >> 64) as u64, m.1 as u64, m.0 as u64]);
-            }
-            number(l.len() as u32)
+            lent[..numbers.len()].copy_from_slice(&numbers);
+            number((numbers.len() / wide) as u32)
         }
     };
-    Answer { tail: rows.iter().flat_map(|r| r.to_le_bytes()).collect(), ..a }
+    Answer { tail: lent.iter().flat_map(|r| r.to_le_bytes()).collect(), ..a }
+}
+
+fn words(a: u128) -> [u64; 2] {
+    [(a >> 64) as u64, a as u64]
 }
 
 fn next(s: &State, c: &Call) -> Answer {
@@ -230,7 +234,7 @@ fn next(s: &State, c: &Call) -> Answer {
 }
 
 /// `dec-octet` of RFC 3986, section 3.2.2, alternative by alternative.
-fn dec_octet(s: &[u8]) -> bool {
+pub fn dec_octet(s: &[u8]) -> bool {
     matches!(
         s,
         [b'0'..=b'9']
@@ -247,7 +251,7 @@ fn size(s: &[u8]) -> bool {
 }
 
 /// The number of digits that follow the rule.
-fn number_of(s: &str, rule: fn(&[u8]) -> bool) -> Option<u64> {
+pub fn number_of(s: &str, rule: fn(&[u8]) -> bool) -> Option<u64> {
     if rule(s.as_bytes()) { s.parse().ok() } else { None }
 }
 
@@ -260,6 +264,11 @@ pub fn read_line(line: &[u8]) -> Option<Net> {
     }
     let lo = parts.iter().fold(0, |x, &p| x * 256 + p);
     Some(Net { family: 4, hi: 0, lo, len: number_of(n, size)? as u8 })
+}
+
+/// The numbers of a line of either family.
+pub fn read_either(line: &[u8]) -> Option<Net> {
+    read_line(line).or_else(|| read_line6(line))
 }
 
 fn save(s: &State, c: &Call) -> Answer {
@@ -290,7 +299,7 @@ fn load(w: &mut [u32], s: State, c: &Call) -> Answer {
     change(w, s, c.a, no, |_| list)
 }
 
-/// The lines are added to set 0 up to the first that is refused; of that at most 19 bytes are kept. On unsound memory every call on a pool answers 2: the first line is not reached.
+/// The lines are added to set 0 up to the first that is refused; of that at most 50 bytes are kept. On unsound memory every call on a pool answers 2: the first line is not reached.
 fn lines(w: &mut [u32], c: &Call) -> Answer {
     if decode(w).is_none() {
         return Answer { no: 2, ..number(1) };
@@ -299,12 +308,12 @@ fn lines(w: &mut [u32], c: &Call) -> Answer {
     let mut cut = 0;
     let at = |k: usize, cut: u64| Answer { net: Net { lo: cut, ..Net::default() }, ..number(k as u32 + 1) };
     for (k, line) in all.iter().enumerate() {
-        let (no, bits) = match read_line(line) {
+        let (no, bits) = match read_either(line) {
             None => (4, 0),
             Some(net) => (apply(w, &Call { net: net.clone(), ..Call::new(ADD) }).no, trimmed(&net)),
         };
         if no != 0 {
-            return Answer { no, y: line.len().min(19) as u32, ..at(k, cut) };
+            return Answer { no, y: line.len().min(50) as u32, ..at(k, cut) };
         }
         cut += bits as u64;
     }
@@ -314,9 +323,10 @@ fn lines(w: &mut [u32], c: &Call) -> Answer {
 fn write_line(c: &Call) -> Answer {
     let mut out = vec![c.c as u8; c.b as usize];
     let n = &c.net;
-    let a = answered(if n.family != 4 { 6 } else { net_no(n) }, || {
-        let lo = member(n).1;
-        let text = format!("{}.{}.{}.{}/{}", lo >> 24 & 255, lo >> 16 & 255, lo >> 8 & 255, lo & 255, n.len);
+    let a = answered(net_no(n), || {
+        let v = member(n).1;
+        let dotted = || format!("{}.{}.{}.{}", v >> 24 & 255, v >> 16 & 255, v >> 8 & 255, v & 255);
+        let text = format!("{}/{}", if n.family == 4 { dotted() } else { text6(v) }, n.len);
         answered(if text.len() > out.len() { 11 } else { 0 }, || {
             out[..text.len()].copy_from_slice(text.as_bytes());
             Answer { y: trimmed(n), ..number(text.len() as u32) }
@@ -381,6 +391,8 @@ pub fn apply(w: &mut [u32], c: &Call) -> Answer {
         }
         IS_EMPTY => return is_empty(w, c.a),
         READ_LINE => return read_line(&c.tail).map_or(Answer::refused(4), |n| entered(&n)),
+        READ_LINE_6 => return read_line6(&c.tail).map_or(Answer::refused(4), |n| entered(&n)),
+        READ_LINE_EITHER => return read_either(&c.tail).map_or(Answer::refused(4), |n| entered(&n)),
         WRITE_LINE => return write_line(c),
         LINES => return lines(w, c),
         NEW..=WORDS => return alone(c),
@@ -401,7 +413,7 @@ pub fn apply(w: &mut [u32], c: &Call) -> Answer {
     }
     let Some(s) = decode(w) else {
         let tail = match c.code {
-            LIST => vec![c.c as u64; c.b as usize].iter().flat_map(|r| r.to_le_bytes()).collect(),
+            LIST | RANGES => vec![c.c as u64; c.b as usize].iter().flat_map(|r| r.to_le_bytes()).collect(),
             SAVE => vec![c.c as u8; c.b as usize],
             _ => vec![],
         };
@@ -425,7 +437,8 @@ pub fn apply(w: &mut [u32], c: &Call) -> Answer {
             let j = c.b as usize;
             answered(if known && j < s.sets.len() { 0 } else { 3 }, || told(s.sets[k].list == s.sets[j].list))
         }
-        LIST => list(&s, c),
+        LIST => rows(&s, c, 3, |l| l.iter().flat_map(|m| [words(m.1)[0], words(m.1)[1], m.0 as u64]).collect()),
+        RANGES => rows(&s, c, 4, |l| lists::ranges(width(f), l).into_iter().flat_map(|(a, e)| [words(a), words(e)].concat()).collect()),
         SAVE => save(&s, c),
         LOAD => load(w, s, c),
         NTH => answered(if known { 0 } else { 3 }, || found(f, s.sets[k].list.iter().nth(c.b as usize).copied())),

@@ -2,7 +2,7 @@
 use crate::layout::State;
 use crate::files::{read_file, read_lines};
 use crate::lists::{List, Member};
-use crate::model::{address, read_line};
+use crate::model::{address, read_either};
 use crate::runs::cut;
 use crate::wire::*;
 use ipnet::{Ipv4Net, Ipv6Net};
@@ -129,7 +129,7 @@ impl<N: Numbers + Clone> Ranges<N> {
             LOAD => self.0[i] = ranges(&read_file(&c.tail).unwrap().1),
             LINES => {
                 for line in &read_lines(&c.tail)[..a.x as usize - 1] {
-                    let m = read_line(line).unwrap();
+                    let m = read_either(line).unwrap();
                     self.0[0].add(N::of((m.len, address(&m))));
                 }
             }

@@ -3,6 +3,7 @@ use crate::files::{file, file_of};
 use crate::layout::{room, State};
 use crate::lists::{self, cleared, width, List, Member};
 use crate::model::net;
+use crate::text6::text6;
 use crate::wire::*;
 
 /// splitmix64
@@ -48,6 +49,34 @@ const ZEROS: [&str; 10] = [
     "10.0.0.0/8",
     "255.255.255.255/32",
     "100.200.0.9/10",
+];
+
+/// IPv6 lines: the forms of RFC 4291 section 2.2 and 2.3, and near misses.
+const FORMS: [&str; 24] = [
+    "2001:DB8:0:0:8:800:200C:417A/64",
+    "2001:db8::8:800:200c:417a/64",
+    "::1/128",
+    "::/0",
+    "1::/16",
+    "::ffff:129.144.52.38/96",
+    "1:2:3:4:5:6:1.2.3.4/128",
+    "1:2:3:4:5:6:7::/112",
+    "::2:3:4:5:6:7:8/0",
+    "2001:0DB8::CD30:0:0:0:0/60",
+    "ffff:ffff:ffff:ffff:ffff:ffff:255.255.255.255/128",
+    "1:2:3:4:5:6:7::8/64",
+    "1::2::3/64",
+    "1:2:3:4:5:6:7:8:9/64",
+    "12345::/64",
+    "::1.2.3.4:5/64",
+    "1.2.3.4::/64",
+    "fe80::1%1/64",
+    "[::]/0",
+    ":::/0",
+    "1:/16",
+    ":1/16",
+    "1:2:3:4:5:6:7:1.2.3.4/64",
+    "::01.2.3.4/96",
 ];
 
 #[derive(Clone)]
@@ -170,6 +199,43 @@ impl Plan {
         s
     }
 
+    /// A line of an IPv6 network in one of its forms, most often broken in one place.
+    fn line6(&self, d: &mut Dice) -> Vec<u8> {
+        if d.one_in(4) {
+            return d.pick(&FORMS).into();
+        }
+        let mut s = String::new();
+        let (count, gap) = (d.below(9), d.below(12));
+        for k in 0..count {
+            if k == gap {
+                s.push_str(if k == 0 { "::" } else { ":" });
+            }
+            let g = d.pick(&[0u64, 0, 1, 0xf, 0x10, 0xdb8, 0xffff, 0x10000]).min(d.below(0x10002));
+            let piece = match d.below(12) {
+                0 => format!("{g:04X}"),
+                1 => format!("0{g:x}"),
+                2 if k + 1 >= count => format!("{}.{}.{}.{}", d.below(257), d.below(256), d.below(300), d.below(256)),
+                _ => format!("{g:x}"),
+            };
+            s.push_str(&piece);
+            if k + 1 < count {
+                s.push(':');
+            }
+        }
+        if gap == count {
+            s.push_str("::");
+        }
+        let mut s = format!("{s}/{}", d.pick(&["0", "00", "064", "64", "128", "129", "48", "", "1"])).into_bytes();
+        if d.one_in(6) {
+            let at = d.below(s.len() as u64) as usize;
+            s[at] = d.pick(b"0/.: %[]g\nF\xff");
+        }
+        if d.one_in(10) {
+            s.insert(d.below(s.len() as u64) as usize, d.pick(b"0.:/1"));
+        }
+        s
+    }
+
     /// The file of a list of the pool, or of another one; most are broken in one place.
     fn file(&self, d: &mut Dice, s: &State) -> Vec<u8> {
         let family = if d.one_in(20) { 10 - self.family } else { self.family };
@@ -235,7 +301,10 @@ impl Plan {
         let mut s = vec![];
         for _ in 0..d.below(6) {
             if d.one_in(5) {
-                s.extend(self.line(d));
+                s.extend(if d.one_in(2) { self.line(d) } else { self.line6(d) });
+            } else if self.family == 6 {
+                let m = self.member(d);
+                s.extend(format!("{}/{}", text6(m.1), m.0).bytes());
             } else {
                 let m = self.member(d);
                 s.extend(format!("{}.{}.{}.{}/{}", m.1 >> 24 & 255, m.1 >> 16 & 255, m.1 >> 8 & 255, m.1 & 255, m.0.min(32)).bytes());
@@ -274,10 +343,13 @@ impl Plan {
             78 => FREE,
             79..=80 => REPLAN,
             81 => HELD,
-            82 => d.pick(&[PLAN, REPLAN]),
+            82 => d.pick(&[PLAN, REPLAN, RANGES]),
             83..=86 => NEXT,
-            87..=89 => LIST,
-            90..=92 => READ_LINE,
+            87..=88 => LIST,
+            89 => RANGES,
+            90 => READ_LINE,
+            91 => READ_LINE_6,
+            92 => READ_LINE_EITHER,
             93..=94 => WRITE_LINE,
             95..=98 => NEW + d.below(9) as u8,
             _ => LAYOUT,
@@ -302,7 +374,7 @@ impl Plan {
                 call.b = near(d, x);
                 call.c = if d.one_in(3) { near(d, call.b) } else { near(d, y) };
             }
-            LIST => {
+            LIST | RANGES => {
                 call.b = d.below(40) as u32;
                 call.c = d.roll() as u32;
             }
@@ -330,8 +402,10 @@ impl Plan {
                 call.tail = [first, second].concat();
             }
             READ_LINE => call.tail = self.line(d),
+            READ_LINE_6 => call.tail = self.line6(d),
+            READ_LINE_EITHER => call.tail = if d.one_in(3) { self.line(d) } else { self.line6(d) },
             WRITE_LINE => {
-                call.b = d.below(24) as u32;
+                call.b = d.below(50) as u32;
                 call.c = d.below(256) as u32;
                 if d.one_in(2) {
                     call.net = Net { family: 4, hi: 0, lo: d.below(1 << 32), len: d.below(34) as u8 };

@@ -54,6 +54,7 @@ pub const LAST: u8 = 23;
 pub const PAGE: u8 = 24;
 pub const EXCLUDE: u8 = 25;
 pub const REPLAN: u8 = 26;
+pub const RANGES: u8 = 28;
 pub const NEW: u8 = 32;
 pub const TO_NETWORK: u8 = 33;
 pub const WITH_NEW_PREFIX: u8 = 34;
@@ -63,6 +64,8 @@ pub const OCTETS: u8 = 37;
 pub const BYTES: u8 = 38;
 pub const GROUPS: u8 = 39;
 pub const WORDS: u8 = 40;
+pub const READ_LINE_6: u8 = 41;
+pub const READ_LINE_EITHER: u8 = 42;
 pub const COMPARE: u8 = 44;
 pub const WRITE_WORDS: u8 = 48;
 pub const READ_WORDS: u8 = 49;
@@ -88,7 +91,7 @@ impl Call {
     /// How long the answer's tail is, which the call alone decides.
     pub fn answer_tail(&self) -> usize {
         match self.code {
-            LIST => 8 * self.b as usize,
+            LIST | RANGES => 8 * self.b as usize,
             WRITE_LINE | SAVE => self.b as usize,
             READ_WORDS => 4 * self.b as usize,
             _ => 0,

@@ -112,7 +112,7 @@ less-add x a b m n = go (decLt a b) (decLt b a)
 number-high : (w : ℕ) (p : Bits) → length p ≤ w → number w p < 2 ^ w
 number-high w p h = let e : length p + (w - length p) ≡ w = omega arith in rw e at (shl-lt (length p) (w - length p) (val-high p))
 
-number-cons : (w : ℕ) (b : Bool) (p : Bits) → length p ≤ w → number (suc w) (b ∷ p) ≡ digit b * 2 ^ w + number w p
+pub number-cons : (w : ℕ) (b : Bool) (p : Bits) → length p ≤ w → number (suc w) (b ∷ p) ≡ digit b * 2 ^ w + number w p
 number-cons w b p h =
     let e : suc w - suc (length p) ≡ w - length p = omega arith in
     let g : length p + (w - length p) ≡ w = omega arith in

@@ -53,6 +53,8 @@ pub const REPLAN: u8 = 26;
 
 pub const MAKE_PUBLIC: u8 = 27;
 
+pub const RANGES: u8 = 28;
+
 pub const NEW: u8 = 32;
 
 pub const TO_NETWORK: u8 = 33;
@@ -70,6 +72,10 @@ pub const BYTES: u8 = 38;
 pub const GROUPS: u8 = 39;
 
 pub const WORDS: u8 = 40;
+
+pub const READ_LINE_6: u8 = 41;
+
+pub const READ_LINE_EITHER: u8 = 42;
 
 pub const COMPARE: u8 = 44;
 

@@ -39,7 +39,8 @@ table =
     ∷ code 21 kind.Lines
     ∷ codes 22 24 kind.Report
     ∷ codes 25 27 kind.Change
-    ∷ codes 32 40 kind.Network
+    ∷ code 28 kind.List
+    ∷ codes 32 42 kind.Network
     ∷ code 44 kind.Compare
     ∷ code 48 kind.WriteWords
     ∷ code 49 kind.ReadWords

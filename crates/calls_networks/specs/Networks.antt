@@ -1,4 +1,4 @@
--- What the calls without a pool answer, by their codes: 17, 32 to 40. s are the bytes of the call, c its fixed part.
+-- What the calls without a pool answer, by their codes: 17, 32 to 42. s are the bytes of the call, c its fixed part.
 --
 --   networkOf s c       the answer; madeOf: those from 37 on
 use mathlib.Core.Bool.{cond}
@@ -10,6 +10,8 @@ use Rattle.nets.specs.Refusals.{answered}
 use Rattle.nets.specs.Networks.{width, netWords, netOf, noNet, judged, refusalOf, withLen, withLenNo, cleared, entered, bigEndian, startOf, noBits, bitsWords, nextOf}
 use Rattle.nets.specs.declared.Net.{Net}
 use Rattle.text.specs.Answers.{enteredLine}
+use Rattle.text_ipv6_read.specs.Reader.{enteredLine6}
+use Rattle.text_either.specs.Either.{enteredEither}
 use Rattle.calls_bytes.specs.Bytes.{u16At}
 use Rattle.calls_bytes.specs.Tails.{wordsFrom}
 use Rattle.calls_bytes.specs.declared.Call.{Call}
@@ -44,4 +46,6 @@ networkOf s c =
     (cond (eqb (c .code) 34) (netReply (answered (withLenNo (c .net) (c .a % 256)) noNet (cleared (withLen (c .net) (c .a % 256)))))
     (cond (eqb (c .code) 35) (bitsReply (answered (refusalOf (c .net)) noBits (startOf (c .net))))
     (cond (eqb (c .code) 36) (bitReply (nextOf (bitsWords (c .net .hi) (c .net .lo) (c .net .len))))
-    (madeOf s c))))))
+    (cond (eqb (c .code) 41) (enterReply (enteredLine6 (drop 35 s)))
+    (cond (eqb (c .code) 42) (enterReply (enteredEither (drop 35 s)))
+    (madeOf s c))))))))

@@ -103,6 +103,8 @@ pub fn network(s: &[u8], c: Call) -> Reply
         table::WITH_NEW_PREFIX => of_taken(net.with_new_prefix((c.a % 256) as u8)),
         table::PREFIX_BITS => of_prefix(net.prefix_bits()),
         table::NEXT_BIT => of_bit(bits_of(net).next()),
+        table::READ_LINE_6 => of_entered(text_ipv6_read::read_line(&s[CALL..])),
+        table::READ_LINE_EITHER => of_entered(text_either::read_line(&s[CALL..])),
         _ => made(s, c),
     }
 }

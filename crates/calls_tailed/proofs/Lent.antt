@@ -1,5 +1,5 @@
--- What is lent to a call whose answer has a tail: rows or bytes that are all the same, which come back as the call leaves them. What is written over a place and then over the
--- same place again is as if it were written once.
+-- What is lent to a call whose answer has a tail: rows or bytes that are all the same, which come back as the call leaves them. A part that comes back
+-- is a write over its place.
 use mathlib.Core.Bool.{Bool, true, false, cond}
 use mathlib.Core.List.{List, [], _∷_, _++_}
 use mathlib.Core.Path.{_≡_, refl, sym, ap, _∙_}
@@ -9,8 +9,8 @@ use native.Mathlib.Omega.{arith}
 use lib.Dec.{eqb, leb}
 use lib.ListN.{length, getD, take, drop, replicate, length-replicate, length-append, length-drop}
 use lib.Seq.{drop-cons}
-use borrow.Author.Tests.{eqb-true, leb-true}
-use Rattle.nets.specs.Networks.{inRange, hasBitPast}
+use borrow.Author.Tests.{eqb-true, eq-eqb, ne-eqb, leb-true}
+use Rattle.nets.specs.Networks.{hasBitPast}
 use Rattle.nets.specs.Refusals.{answered}
 use Rattle.nets.specs.declared.Net.{Net}
 use Rattle.nodes.specs.Words.{put}
@@ -20,11 +20,15 @@ use Rattle.pool_state.specs.Rules.{answerAs}
 use Rattle.pool_state.specs.declared.Answer.{Answer}
 use Rattle.pool_state.specs.Changes.{listAt}
 use Rattle.trie_paths.specs.Rows as listing
+use Rattle.trie_paths.proofs.RowForm.{put-over}
 use Rattle.pool_state.proofs.Answered.{leftOn-either}
+use Rattle.ranges.specs.Addresses.{rangeRows}
+use Rattle.rangelist.specs.Calls as ranges
 use Rattle.listing.specs.Calls.{listRules, rowsAfter, Listed}
 use Rattle.setfile.specs.Calls.{fileAt, saveRules, bytesAfter, Saved}
-use Rattle.text.specs.Ipv4.{lineOf}
-use Rattle.text.specs.Answers.{noneWritten, writtenAs, lineRefusal, over, Wrote}
+use Rattle.text.specs.Answers.{noneWritten, writtenAs, over}
+use Rattle.text_either.specs.Either.{lineEither, eitherRefusal, WroteEither}
+use Rattle.text_either.proofs.RoundTrip.{eitherRefusal-zero}
 use Rattle.text.specs.declared.Written.{Written}
 use Rattle.calls_bytes.specs.Bytes.{u64Bytes}
 use Rattle.calls_bytes.specs.Tails.{wordsFrom, rowBytes}
@@ -32,18 +36,8 @@ use Rattle.calls_bytes.specs.declared.Call.{Call}
 use Rattle.calls_bytes.specs.declared.Reply.{Reply}
 use Rattle.calls_bytes.proofs.Rows.{take-put}
 use Rattle.calls_replies.specs.Replies.{oneReply, writeReply}
-use Rattle.calls_tailed.specs.Tailed.{rowsOf, listReply, lentBytes, lineBytes, lineReply, saveBytes, saveReply, Listing, Lining, Saving}
+use Rattle.calls_tailed.specs.Tailed.{lentRows, asksRanges, rowsOf, listReply, lentBytes, lineBytes, lineReply, saveBytes, saveReply, RowsBy, Listing, Lining, Saving}
 
-pub put-over : (w : List ℕ) (p : ℕ) (xs ys : List ℕ) → length xs ≡ length ys → put (put w p xs) p ys ≡ put w p ys
-unfolding put
-put-over [] p xs ys e = refl
-put-over (z ∷ w) (suc p) xs ys e = rw (put-over w p xs ys e)
-put-over (z ∷ w) zero [] [] e = refl
-put-over (z ∷ w) zero [] (y ∷ ys) e = absurd (omega arith)
-put-over (z ∷ w) zero (x ∷ xs) [] e = absurd (omega arith)
-put-over (z ∷ w) zero (x ∷ xs) (y ∷ ys) e = rw (put-over w zero xs ys (omega arith))
-
--- a part that was lent and comes back is a write over its place
 pub splice : (w : List ℕ) (p k : ℕ) (ys : List ℕ) → length ys ≡ k → p + k ≤ length w → take p w ++ (ys ++ drop k (drop p w)) ≡ put w p ys
 unfolding put
 splice [] zero zero [] e h = refl
@@ -69,23 +63,32 @@ wordsFrom-take w p zero h = refl
 wordsFrom-take w p (suc n) h =
     rw (drop-cons w p 0 (omega arith)) (ap (λ (l : List ℕ). getD w p 0 ∷ l) (wordsFrom-take w (p + 1) n (omega arith) ∙ rw add-one))
 
-length-rowsAfter : (v : List ℕ) (d : Decoded) (k : ℕ) → length (rowsAfter v d k) ≡ length v
-unfolding rowsAfter
-length-rowsAfter v d k = leftOn-either (λ u. length u ≡ length v) (listRules k (length v)) v _ d refl (λ S. length-put v 0 (listing.rowsOf (S .family) (listAt S k)))
+length-rowsBy : (v : List ℕ) (d : Decoded) (k : ℕ) (x : Bool) → length (cond x (ranges.rowsAfter v d k) (rowsAfter v d k)) ≡ length v
+unfolding rowsAfter ranges.rowsAfter
+length-rowsBy v d k true = leftOn-either (λ u. length u ≡ length v) (ranges.rangesRules k (length v)) v _ d refl (λ S. length-put v 0 (rangeRows (ranges.rangesAt S k)))
+length-rowsBy v d k false = leftOn-either (λ u. length u ≡ length v) (listRules k (length v)) v _ d refl (λ S. length-put v 0 (listing.rowsOf (S .family) (listAt S k)))
 
--- the rows of a list
+-- a call by its code
+module _ {w : List ℕ} {c : Call} {v u : List ℕ} {a : Answer} where
+  pub by-ranges : c .code ≡ 28 → ranges.Ranges w (c .a) v a u → RowsBy w c v a u
+  by-ranges e h = let q = eq-eqb (c .code) 28 e in record { answer = rw q (h .answer); rows = rw q (h .rows) }
+
+  pub by-list : (c .code ≡ 28 → ⊥) → Listed w (c .a) v a u → RowsBy w c v a u
+  by-list n h = let q = ne-eqb (c .code) 28 n in record { answer = rw q (h .answer); rows = rw q (h .rows) }
+
+-- the rows of a list, or of ranges
 module _ (w v : List ℕ) (c : Call) (o : List ℕ) (at : ℕ) (fits : c .b ≤ length v) where
-  pub listing-is : {v₁ u o′ : List ℕ} {a : Answer} {r : Reply} → v₁ ≡ put v 0 (replicate (c .b) (c .c)) → Listed w (c .a) (take (c .b) v₁) a u
+  pub listing-is : {v₁ u o′ : List ℕ} {a : Answer} {r : Reply} → v₁ ≡ put v 0 (lentRows c) → RowsBy w c (take (c .b) v₁) a u
       → o′ ≡ put o at (rowBytes u64Bytes (wordsFrom (u ++ drop (c .b) v₁) 0 (c .b))) → r ≡ oneReply (answerAs a) → Listing w v c o at r (u ++ drop (c .b) v₁) o′
   unfolding rowsOf listReply
   listing-is {v₁} {u} e l f g =
-      let n : length (replicate (c .b) (c .c)) ≡ c .b = length-replicate (c .b) (c .c) in
-      let t : take (c .b) v₁ ≡ replicate (c .b) (c .c) = rw e (take-put v (replicate (c .b) (c .c)) (c .b) n fits) in
-      let x : u ≡ rowsAfter (replicate (c .b) (c .c)) (decode w) (c .a) = rw t at (l .rows) in
-      let m : length u ≡ c .b = rw x (length-rowsAfter (replicate (c .b) (c .c)) (decode w) (c .a) ∙ n) in
-      let k : length v₁ ≡ length v = rw e (length-put v 0 (replicate (c .b) (c .c))) in
+      let n : length (lentRows c) ≡ c .b = length-replicate (c .b) (c .c) in
+      let t : take (c .b) v₁ ≡ lentRows c = rw e (take-put v (lentRows c) (c .b) n fits) in
+      let x : u ≡ rowsOf w c = rw t at (l .rows) in
+      let m : length u ≡ c .b = rw x (length-rowsBy (lentRows c) (decode w) (c .a) (asksRanges c) ∙ n) in
+      let k : length v₁ ≡ length v = rw e (length-put v 0 (lentRows c)) in
       let s : u ++ drop (c .b) v₁ ≡ put v₁ 0 u = splice v₁ 0 (c .b) u m (omega arith) in
-      let z : put v₁ 0 u ≡ put v 0 u = rw e (put-over v 0 (replicate (c .b) (c .c)) u (n ∙ sym m)) in
+      let z : put v₁ 0 u ≡ put v 0 u = rw e (put-over v 0 (lentRows c) u (n ∙ sym m)) in
       let y : wordsFrom (u ++ drop (c .b) v₁) 0 (c .b) ≡ u =
       rw s (wordsFrom-take (put v₁ 0 u) 0 (c .b) (rw (length-put v₁ 0 u) (omega arith)) ∙ take-put v₁ u (c .b) m (omega arith)) in
       record { reply = g ∙ ap oneReply (l .answer ∙ rw (t, n)); rows = s ∙ (z ∙ ap (put v 0) x); tail = f ∙ ap (λ q. put o at (rowBytes u64Bytes q)) (y ∙ x) }
@@ -104,11 +107,11 @@ module _ (c : Call) (o o₁ : List ℕ) (at k : ℕ) (fits : at + c .b ≤ lengt
       let j : length o₁ ≡ length o = rw filled (length-put o at (lentBytes c)) in
       splice o₁ at k new l (omega arith) ∙ rw filled (put-over o at (lentBytes c) new (length-lent ∙ (sym all ∙ sym l)))
 
-  pub lining-is : {new : List ℕ} {a : Written} {r : Reply} → length new ≡ length (take k (drop at o₁)) → Wrote (c .net) (take k (drop at o₁)) new a → r ≡ writeReply (writtenAs a)
+  pub lining-is : {new : List ℕ} {a : Written} {r : Reply} → length new ≡ length (take k (drop at o₁)) → WroteEither (c .net) (take k (drop at o₁)) new a → r ≡ writeReply (writtenAs a)
       → Lining c o at r (take at o₁ ++ (new ++ drop k (drop at o₁)))
   unfolding lineBytes lineReply
   lining-is {new} {a} m w g =
-      let e : writtenAs a ≡ answered (lineRefusal (c .net) (c .b)) noneWritten (length (lineOf (c .net)), hasBitPast (c .net)) = w .answer ∙ rw (lent-is, length-lent) in
+      let e : writtenAs a ≡ answered (eitherRefusal (c .net) (c .b)) noneWritten (length (lineEither (c .net)), hasBitPast (c .net)) = w .answer ∙ rw (lent-is, length-lent) in
       record { reply = g ∙ ap writeReply e; tail = back-is new m ∙ ap (put o at) (w .bytes ∙ rw (lent-is, length-lent)) }
 
   pub saving-is : {w new : List ℕ} {a : Answer} {r : Reply} → length new ≡ length (take k (drop at o₁)) → Saved w (c .a) (take k (drop at o₁)) a new → r ≡ oneReply (answerAs a)
@@ -120,17 +123,7 @@ module _ (c : Call) (o o₁ : List ℕ) (at k : ℕ) (fits : at + c .b ≤ lengt
 -- a tail has as many numbers or bytes as the call asks for
 pub length-rowsOf : (w : List ℕ) (c : Call) → length (rowsOf w c) ≡ c .b
 unfolding rowsOf
-length-rowsOf w c = length-rowsAfter (replicate (c .b) (c .c)) (decode w) (c .a) ∙ length-replicate (c .b) (c .c)
-
-fits-of : (p q r : Bool) → _≡_ {A = ℕ} (cond p (cond q (cond r 0 11) 7) 6) 0 → r ≡ true
-fits-of false q r e = absurd (omega arith)
-fits-of true false r e = absurd (omega arith)
-fits-of true true false e = absurd (omega arith)
-fits-of true true true e = refl
-
-line-fits : (n : Net) (room : ℕ) → lineRefusal n room ≡ 0 → length (lineOf n) ≤ room
-unfolding lineRefusal
-line-fits n room e = leb-true _ _ (fits-of (eqb (n .family) 4) (inRange n) (leb (length (lineOf n)) room) e)
+length-rowsOf w c = length-rowsBy (lentRows c) (decode w) (c .a) (asksRanges c) ∙ length-replicate (c .b) (c .c)
 
 length-line : (t : Bool) (s old : List ℕ) → (t ≡ true → length s ≤ length old) → length (cond t (over s old) old) ≡ length old
 length-line false s old h = refl
@@ -148,4 +141,4 @@ pub length-lineBytes : (c : Call) → length (lineBytes c) ≡ c .b
 unfolding lineBytes
 length-lineBytes c =
     let n : length (replicate (c .b) (c .c % 256)) ≡ c .b = length-replicate (c .b) (c .c % 256) in
-    length-line (eqb (lineRefusal (c .net) (c .b)) 0) (lineOf (c .net)) (replicate (c .b) (c .c % 256)) (λ e. rw n (line-fits (c .net) (c .b) (eqb-true _ _ e))) ∙ n
+    length-line (eqb (eitherRefusal (c .net) (c .b)) 0) (lineEither (c .net)) (replicate (c .b) (c .c % 256)) (λ e. rw n (eitherRefusal-zero (c .net) (c .b) (eqb-true _ _ e) .1)) ∙ n

@@ -1,4 +1,4 @@
--- Sets read from a tail. The pieces of the lines are where they are cut, and a reader keeps at most 19 bytes of a line, so that their number fits.
+-- Sets read from a tail. The pieces of the lines are where they are cut, and a reader keeps at most 50 bytes of a line, so that their number fits.
 use mathlib.Core.Bool.{Bool, true, false, cond}
 use mathlib.Core.List.{List, [], _∷_}
 use mathlib.Core.Path.{_≡_, refl, sym, ap, _∙_}
@@ -38,7 +38,7 @@ cut-end s b h i =
     let m : length (drop 35 s) ≤ b = rw length-drop (omega arith) in
     record { low = h; high = omega arith; first = rest-is s 35 ∙ sym (take-all b (drop 35 s) m); rest = drop-length s ∙ sym (drop-of-length-le (drop 35 s) m) }
 
--- a reader keeps at most 19 bytes
+-- a reader keeps at most 50 bytes
 small-pushed : (r : Reader) (b : ℕ) → r .len ≤ places → pushed r b .len ≤ places
 unfolding pushed
 small-pushed r b h = go (ltb (r .len) places) refl

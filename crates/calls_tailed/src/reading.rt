@@ -40,9 +40,9 @@ pub fn compare(c: Call, s: &[u8]) -> Reply
     of_compared(setfile_compare::compare(&s[CALL..cut], &s[cut..]))
 }
 
-// Where a reading has come to. A reader keeps at most 19 bytes, so their number fits.
+// Where a reading has come to. A reader keeps at most 50 bytes, so their number fits.
 fn of_reader(r: Reader) -> Reply
-    requires { ⌜ r .len ≤ 19 ⌝ }
+    requires { ⌜ r .len ≤ 50 ⌝ }
     ensures { λ a. ⌜ a ≡ readerReply r ⌝ }
 {
     Reply {

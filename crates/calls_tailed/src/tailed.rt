@@ -6,9 +6,10 @@ ghost use Rattle.nodes.specs.Words.{put};
 ghost use Rattle.calls_bytes.specs.Bytes.{u32Bytes};
 ghost use Rattle.calls_bytes.specs.Tails.{wordsFrom, rowBytes};
 ghost use Rattle.calls_replies.specs.Replies.{noReply};
-ghost use Rattle.calls_tailed.specs.Tailed.{lentBytes, Listing, Lining, Saving};
+ghost use Rattle.calls_tailed.specs.Tailed.{lentBytes, RowsBy, Listing, Lining, Saving};
 use calls_bytes::Call;
 use calls_bytes::Reply;
+use calls_bytes::table;
 use calls_bytes::tails::fill_bytes;
 use calls_bytes::tails::fill_rows;
 use calls_bytes::tails::put_rows;
@@ -16,15 +17,26 @@ use calls_bytes::tails::put_words;
 use calls_replies::of_answer;
 use calls_replies::of_written;
 use calls_replies::only;
+use pool_state::Answer;
 
-// The networks of a set, in rows that were all c before.
+// The networks of a set or its ranges, by the code, into rows that are lent for it.
+fn rows_by(pool: &[u32], c: Call, rows: &mut [u64]) -> Answer
+    ensures { λ r. ⌜ RowsBy (now (pool .entry)) c (now (rows .entry)) r (now (rows .exit)) ⌝ }
+{
+    if c.code == table::RANGES {
+        return rangelist::ranges(pool, c.a, rows);
+    }
+    listing::list(pool, c.a, rows)
+}
+
+// The networks of a set, or its ranges, in rows that were all c before.
 pub fn list(pool: &[u32], rows: &mut [u64], c: Call, out: &mut [u8], at: usize) -> Reply
     requires { ⌜ (c .b ≤ length (now rows)) × (at + 8 * c .b ≤ length (now out)) ⌝ }
     ensures { λ r. ⌜ Listing (now (pool .entry)) (now (rows .entry)) c (now (out .entry)) at r (now (rows .exit)) (now (out .exit)) ⌝ }
 {
     let n = c.b as usize;
     fill_rows(rows, n, c.c as u64);
-    let a = listing::list(pool, c.a, &mut rows[..n]);
+    let a = rows_by(pool, c, &mut rows[..n]);
     put_rows(rows, n, out, at);
     of_answer(a)
 }
@@ -44,7 +56,7 @@ pub fn line(c: Call, out: &mut [u8], at: usize) -> Reply
 {
     fill(out, at, c);
     let end = at + c.b as usize;
-    of_written(text::write_line(c.net, &mut out[at..end]))
+    of_written(text_either::write_line(c.net, &mut out[at..end]))
 }
 
 // The file of a set, in bytes that were all c before.

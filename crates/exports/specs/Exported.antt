@@ -11,7 +11,8 @@ use Prim.Native.Nat.{ℕ}
 use Rattle.lines.specs.Reading.{allRead}
 use Rattle.calls_bytes.specs.declared.Reply.{Reply}
 use Rattle.nets.specs.declared.Net.{Net}
-use Rattle.text.specs.Answers.{Wrote, writtenAs}
+use Rattle.text.specs.Answers.{writtenAs}
+use Rattle.text_either.specs.Either.{WroteEither}
 use Rattle.text.specs.declared.Written.{Written}
 use Rattle.calls_replies.specs.Replies.{noReply, writeReply}
 use Rattle.calls_packed.specs.Packed.{packed, rowAfter}
@@ -25,10 +26,10 @@ pub record WithRow (q : Reply) (r : ℕ) (v u : List ℕ) : Type 0 where
   pub number : r ≡ packed q
   pub row : u ≡ rowAfter v q
 
--- text::write_line, whose answer goes by its own type
+-- text_either::write_line, whose answer goes by its own type
 pub record WritesLine (n : Net) (r : ℕ) (v u : List ℕ) : Type 0 where
   pub answer : Written
-  pub call : Wrote n v u answer
+  pub call : WroteEither n v u answer
   pub number : r ≡ packed (writeReply (writtenAs answer))
 
 pub record ReadsLines (w s : List ℕ) (r : ℕ) (v c : List ℕ) : Type 0 where

@@ -5,6 +5,8 @@ ghost use Rattle.nets.specs.Networks.{netWords};
 ghost use Rattle.pool_state.specs.Decode.{decode};
 ghost use Rattle.listing.specs.Calls.{listRule, rowsAfter, nextRule};
 ghost use Rattle.listing.specs.declared.From.the-variants.{Start, Past};
+ghost use Rattle.rangelist.specs.Calls.{rangesRule};
+ghost use Rattle.rangelist.specs.Calls as ranges;
 ghost use Rattle.setfile.specs.Calls.{saveRule, bytesAfter};
 ghost use Rattle.walk.specs.Places.{nthRule, lastRule};
 ghost use Rattle.calls_replies.specs.Replies.{oneReply, foundReply};
@@ -71,6 +73,15 @@ pub extern "C" fn marlbrace_list(pool: &[u32], set: u32, rows: &mut [u64]) -> u6
     ensures { λ _. ⌜ now (rows .exit) ≡ rowsAfter (now (rows .entry)) (decode (now (pool .entry))) set ⌝ }
 {
     packed(of_answer(listing::list(pool, set, rows)))
+}
+
+// Writes the fewest ranges of addresses that cover a set, four numbers for each: high and low word of the first address and of the last. The value is how many ranges.
+#[no_mangle]
+pub extern "C" fn marlbrace_ranges(pool: &[u32], set: u32, rows: &mut [u64]) -> u64
+    ensures { λ r. ⌜ r ≡ packed (oneReply (rangesRule (decode (now (pool .entry))) set (length (now (rows .entry))))) ⌝ }
+    ensures { λ _. ⌜ now (rows .exit) ≡ ranges.rowsAfter (now (rows .entry)) (decode (now (pool .entry))) set ⌝ }
+{
+    packed(of_answer(rangelist::ranges(pool, set, rows)))
 }
 
 // Writes the set file of a set. The value is how many bytes it has.

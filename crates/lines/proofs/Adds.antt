@@ -12,7 +12,7 @@ use Rattle.nets.specs.Bits.{Bits}
 use Rattle.nets.specs.Lists.{addL, nodesL}
 use Rattle.nets.specs.Networks.{netBits}
 use Rattle.nets.specs.declared.Net.{Net}
-use Rattle.text.specs.Ipv4.{readLine}
+use Rattle.text_either.specs.Either.{readEither}
 use Rattle.pool_state.specs.States.{SetState, State}
 use Rattle.pool_state.specs.Decode.{sound, decode}
 use Rattle.pool_state.specs.Rules.{noSet}
@@ -47,7 +47,7 @@ line-adds : (w l : List ℕ) → Some w (wordsWith w l)
 line-adds w l = go (eqb (lineNo w l) 0) refl
   where
     go : (b : Bool) → eqb (lineNo w l) 0 ≡ b → Some w (wordsWith w l)
-    go true q = let x = line-added w l (eqb-true (lineNo w l) 0 q) in (readLine l .1 ∷ [], (x .0, x .1))
+    go true q = let x = line-added w l (eqb-true (lineNo w l) 0 q) in (readEither l .1 ∷ [], (x .0, x .1))
     go false q = ([], wordsWith-refused w l (eqb-false (lineNo w l) 0 q))
 
 ended-adds : (w : List ℕ) (r : Reader) → Some w (ended w r .1)

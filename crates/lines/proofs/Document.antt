@@ -8,9 +8,10 @@ use Rattle.nets.specs.Bits.{Bits, bits, before}
 use Rattle.nets.specs.Tries.{size, levels, listOf, insertT, trieOf, simplifyT}
 use Rattle.nets.specs.Lists.{nodesL, addL, simplifyL}
 use Rattle.nets.specs.Networks.{netBits, hasBitPast, width}
-use Rattle.text.specs.Decimal.{isDigit, allDigits, decimalFrom, plain, isNumber, leading, behind, readNumber}
-use Rattle.text.specs.Answers.{enteredLine}
+use Rattle.text.specs.Spans.{allOf, leadingOf, behindOf}
+use Rattle.text.specs.Decimal.{isDigit, decimalFrom, plain, isNumber, readNumber}
 use Rattle.text.specs.Ipv4.{address, ipv4, readNext, readQuad, readLine}
+use Rattle.text_either.specs.Either.{readEither, enteredEither}
 use Rattle.lines.specs.Lines.{linesOf, trimmedIn, withNets, withLines}
 
 abbrev bytes : String → List ℕ
@@ -29,10 +30,10 @@ unfolding linesOf
 document-lines = refl
 
 pub document-list : (simplifyL (withLines [] (linesOf input)) ≡ printed) × (nodesL printed ≡ 32)
-unfolding linesOf withNets isDigit allDigits decimalFrom plain isNumber leading behind readNumber readNext readQuad readLine netBits width bits before size levels listOf insertT trieOf simplifyT addL simplifyL nodesL
+unfolding linesOf withNets isDigit allOf decimalFrom plain isNumber leadingOf behindOf readNumber readNext readQuad readLine readEither netBits width bits before size levels listOf insertT trieOf simplifyT addL simplifyL nodesL
 document-list = (refl, refl)
 
 -- one of the three lines has a set bit past its length
 pub document-trimmed : map trimmedIn (linesOf input) ≡ 0 ∷ 0 ∷ 1 ∷ []
-unfolding linesOf trimmedIn enteredLine isDigit allDigits decimalFrom plain isNumber leading behind readNumber readNext readQuad readLine hasBitPast width
+unfolding linesOf trimmedIn enteredEither isDigit allOf decimalFrom plain isNumber leadingOf behindOf readNumber readNext readQuad readLine readEither hasBitPast width
 document-trimmed = refl

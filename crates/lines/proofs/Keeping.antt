@@ -1,4 +1,4 @@
--- A line of which the first 19 bytes are kept: it is taken as the whole line is, since both are too long for a network where they differ. Assumes nothing.
+-- A line of which the first 50 bytes are kept: it is taken as the whole line is, since both are too long for a network where they differ. Assumes nothing.
 use mathlib.Core.Bool.{Bool, true, false, cond}
 use mathlib.Core.List.{List, _++_, _∷_, []}
 use mathlib.Core.Path.{_≡_, refl, ap, sym, _∙_}
@@ -9,21 +9,20 @@ use lib.Dec.{leb, ltb}
 use lib.ListN.{length, take, set, length-append}
 use lib.Seq.{take-all, take-suc-set, take-append-le, length-take-le}
 use borrow.Author.Tests.{leb-true, leb-false, ltb-true, ltb-false}
-use Rattle.text.specs.Ipv4.{readLine}
-use Rattle.text.specs.Answers.{enteredLine}
-use Rattle.text.proofs.Grammar.{readLine-long}
+use Rattle.text_either.specs.Either.{readEither, enteredEither}
+use Rattle.text_either.proofs.Firsts.{readEither-kept}
 use Rattle.lines.specs.Lines.{lineNo, trimmedIn, wordsWith}
 use Rattle.lines.specs.Reading.{places, kept, pushed}
 use Rattle.lines.specs.declared.Reader.{Reader}
 
 -- A byte more.
-push-room : (l : List ℕ) (n b : ℕ) → length l ≡ 19 → n < 19 → take (n + 1) (set l n b) ≡ take 19 (take n l ++ (b ∷ []))
+push-room : (l : List ℕ) (n b : ℕ) → length l ≡ 50 → n < 50 → take (n + 1) (set l n b) ≡ take 50 (take n l ++ (b ∷ []))
 push-room l n b e h =
-    let m : length (take n l ++ (b ∷ [])) ≤ 19 = omega (arith, length-append (take n l) (b ∷ []), length-take-le n l (omega arith)) in
-    rw (add-one n, take-suc-set l n b (omega arith), take-all 19 (take n l ++ (b ∷ [])) m)
+    let m : length (take n l ++ (b ∷ [])) ≤ 50 = omega (arith, length-append (take n l) (b ∷ []), length-take-le n l (omega arith)) in
+    rw (add-one n, take-suc-set l n b (omega arith), take-all 50 (take n l ++ (b ∷ [])) m)
 
-push-full : (l : List ℕ) (n b : ℕ) → length l ≡ 19 → 19 ≤ n → take n l ≡ take 19 (take n l ++ (b ∷ []))
-push-full l n b e h = rw (take-all n l (omega arith), take-append-le 19 l (b ∷ []) (omega arith), take-all 19 l (omega arith))
+push-full : (l : List ℕ) (n b : ℕ) → length l ≡ 50 → 50 ≤ n → take n l ≡ take 50 (take n l ++ (b ∷ []))
+push-full l n b e h = rw (take-all n l (omega arith), take-append-le 50 l (b ∷ []) (omega arith), take-all 50 l (omega arith))
 
 pub kept-pushed : (r : Reader) (b : ℕ) → length (r .line) ≡ places → kept (pushed r b) ≡ take places (kept r ++ (b ∷ []))
 unfolding pushed
@@ -45,24 +44,14 @@ take-more n t b = go (leb (length t) n) refl
         take-append-le n (take n t) (b ∷ []) (omega arith) ∙ take-all n (take n t) (omega arith) ∙ sym (take-append-le n t (b ∷ []) (omega arith))
 
 -- The line that is kept is read as the whole line is.
-readLine-kept : (t : List ℕ) → readLine (take places t) ≡ readLine t
-readLine-kept t = go (leb (length t) places) refl
-  where
-    go : (x : Bool) → leb (length t) places ≡ x → readLine (take places t) ≡ readLine t
-    go true h = ap readLine (take-all places t (leb-true (length t) places h))
-    go false h =
-        let k = leb-false (length t) places h in
-        let l : length (take places t) ≡ places = length-take-le places t (omega arith) in
-        readLine-long (take places t) (omega arith) ∙ sym (readLine-long t (omega arith))
-
 pub lineNo-kept : (w t : List ℕ) → lineNo w (take places t) ≡ lineNo w t
 unfolding lineNo
-lineNo-kept w t = rw (readLine-kept t)
+lineNo-kept w t = rw (readEither-kept t)
 
 pub trimmedIn-kept : (t : List ℕ) → trimmedIn (take places t) ≡ trimmedIn t
-unfolding trimmedIn enteredLine
-trimmedIn-kept t = rw (readLine-kept t)
+unfolding trimmedIn enteredEither
+trimmedIn-kept t = rw (readEither-kept t)
 
 pub wordsWith-kept : (w t : List ℕ) → wordsWith w (take places t) ≡ wordsWith w t
 unfolding wordsWith
-wordsWith-kept w t = rw (readLine-kept t)
+wordsWith-kept w t = rw (readEither-kept t)

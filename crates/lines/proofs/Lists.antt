@@ -4,15 +4,16 @@ use mathlib.Core.List.{List}
 use mathlib.Core.Path.{_≡_, refl, ap, sym, _∙_}
 use Prim.Native.Nat.{ℕ}
 use native.Mathlib.Omega.{arith}
-use lib.Dec.{eqb}
-use borrow.Author.Tests.{eqb-true, eqb-false}
+use lib.Dec.{eqb, leb}
+use lib.ListN.{length}
+use borrow.Author.Tests.{eqb-true, eqb-false, ne-eqb}
 use Rattle.nets.specs.Lists.{addL, nodesL}
 use Rattle.nets.specs.Networks.{netBits}
 use Rattle.nets.specs.declared.Net.{Net}
-use Rattle.text.specs.Ipv4.{readLine}
+use Rattle.text_either.specs.Either.{readEither}
 use Rattle.pool_state.specs.States.{State}
 use Rattle.pool_state.specs.Decode.{Decoded, damaged, sound, decode}
-use Rattle.pool_state.specs.Changes.{setAt, listAt, withSet, changeRule, setWith, relistRules, relistSet, relistNo, netRules}
+use Rattle.pool_state.specs.Changes.{setAt, listAt, withSet, changeRules, changeRule, setWith, relistRules, relistSet, relistNo, netRules}
 use Rattle.pool_state.specs.Rules.{answerOn}
 use Rattle.change.specs.Calls.{listWith, Added}
 use Rattle.change.proofs.Outcomes.{add-leaves}
@@ -33,20 +34,29 @@ module _ (w : List ℕ) (S : State) (n : Net) (d : decode w ≡ sound S) (e : ad
   decode-added = add-leaves n d added .leaves .holds ∙ ap (λ m. sound (cond (eqb m 0) (withSet S 0 (setWith (setAt S 0) (listWith 0 n S))) S)) granted
 
 -- An added line.
-pub line-added : (w l : List ℕ) → lineNo w l ≡ 0 → (addNo w (readLine l .1) ≡ 0) × (wordsWith w l ≡ addWords w (readLine l .1))
+pub line-added : (w l : List ℕ) → lineNo w l ≡ 0 → (addNo w (readEither l .1) ≡ 0) × (wordsWith w l ≡ addWords w (readEither l .1))
 unfolding lineNo wordsWith
-line-added w l e = go (eqb (readLine l .0) 0) refl e
+line-added w l e = go (eqb (readEither l .0) 0) refl e
   where
     n : Net
-    n = readLine l .1
+    n = readEither l .1
 
-    go : (b : Bool) → eqb (readLine l .0) 0 ≡ b → cond b (addNo w n) (readLine l .0) ≡ 0 → (addNo w n ≡ 0) × (cond b (addWords w n) w ≡ addWords w n)
+    go : (b : Bool) → eqb (readEither l .0) 0 ≡ b → cond b (addNo w n) (readEither l .0) ≡ 0 → (addNo w n ≡ 0) × (cond b (addWords w n) w ≡ addWords w n)
     go true q h = (h, refl)
-    go false q h = absurd (eqb-false (readLine l .0) 0 q h)
+    go false q h = absurd (eqb-false (readEither l .0) 0 q h)
+
+-- A line of another family than the pool's gets 6, where it is a line at all.
+pub lineNo-other : (w l : List ℕ) (S : State) (n : Net) → decode w ≡ sound S → leb (length (S .sets)) 0 ≡ false → readEither l ≡ (0, n) → (n .family ≡ S .family → ⊥) → lineNo w l ≡ 6
+unfolding lineNo changeRule answerOn changeRules relistRules netRules
+lineNo-other w l S n d k e h =
+    let a : lineNo w l ≡ addNo w n = rw e in
+    let b : addNo w n ≡ changeRule (sound S) 0 (relistRules 0 (netRules n) (listWith 0 n)) (relistSet 0 (listWith 0 n)) .0
+    = ap (λ D. changeRule D 0 (relistRules 0 (netRules n) (listWith 0 n)) (relistSet 0 (listWith 0 n)) .0) d in
+    a ∙ b ∙ rw (k, ne-eqb (n .family) (S .family) h)
 
 pub decode-line : (w l : List ℕ) (S : State) → decode w ≡ sound S → lineNo w l ≡ 0
-    → decode (wordsWith w l) ≡ sound (withSet S 0 (setWith (setAt S 0) (addL (listAt S 0) (netBits (readLine l .1)))))
-decode-line w l S d e = let x = line-added w l e in ap decode (x .1) ∙ decode-added w S (readLine l .1) d (x .0)
+    → decode (wordsWith w l) ≡ sound (withSet S 0 (setWith (setAt S 0) (addL (listAt S 0) (netBits (readEither l .1)))))
+decode-line w l S d e = let x = line-added w l e in ap decode (x .1) ∙ decode-added w S (readEither l .1) d (x .0)
 
 -- Sound words stay sound.
 pub poolNo-zero : (d : Decoded) → poolNo d ≡ 0 → (S : State) × (d ≡ sound S)

@@ -23,19 +23,18 @@ use Rattle.change.specs.Calls.{listWith, Added}
 use Rattle.change.specs.Steps.{Grows}
 use Rattle.change.specs.declared.adding.Grown.{Grown}
 use Rattle.change.specs.declared.adding.Grown.the-variants as grown
-use Rattle.text.specs.Ipv4.{readLine}
-use Rattle.text.specs.Answers.{enteredLine}
-use Rattle.text.proofs.RoundTrip.{enteredLine-no}
-use Rattle.text.proofs.RoundTrip as lines
+use Rattle.text_either.specs.Either.{readEither, enteredEither}
+use Rattle.text_either.proofs.Reading.{enteredEither-no}
+use Rattle.text_either.proofs.RoundTrip as lines
 use Rattle.lines.specs.Lines.{addNo, addWords, lineNo, wordsWith}
 use Rattle.lines.specs.Steps.{Takes}
 
 -- A line that is no network.
-pub took-refused : {t : Entered} {x : Refusal} {no : ℕ} {w : List ℕ} {f : Survey} (l : List ℕ) → Surveyed w 0 f → t ≡ entering.Refused x → enteredAs t ≡ enteredLine l → no ≡ number x
+pub took-refused : {t : Entered} {x : Refusal} {no : ℕ} {w : List ℕ} {f : Survey} (l : List ℕ) → Surveyed w 0 f → t ≡ entering.Refused x → enteredAs t ≡ enteredEither l → no ≡ number x
     → Takes w l (record { no = no; cut = false; found = f }) w
 unfolding lineNo wordsWith
 took-refused {t} {x} l g e h n =
-    let q : readLine l .0 ≡ number x = sym (enteredLine-no l) ∙ ap (λ p. p .0) (sym h ∙ ap enteredAs e) in
+    let q : readEither l .0 ≡ number x = sym (enteredEither-no l) ∙ ap (λ p. p .0) (sym h ∙ ap enteredAs e) in
     let z = ne-eqb (number x) 0 (number-some x) in
     record { no = rw (q, z) n; cut = ap (λ p. p .1 .1) (sym (ap enteredAs e) ∙ h); words = rw (q, z) refl; found = g }
 
@@ -55,7 +54,7 @@ module _ (n : Net) (z : refusalOf n ≡ 0) where
   lists-cleared = λ i S. list-at S i
 
 -- A network, refused or added.
-module _ {t : Entered} {n : Net} {b : Bool} {w v : List ℕ} (l : List ℕ) (e : t ≡ entering.Network n b) (h : enteredAs t ≡ enteredLine l) where
+module _ {t : Entered} {n : Net} {b : Bool} {w v : List ℕ} (l : List ℕ) (e : t ≡ entering.Network n b) (h : enteredAs t ≡ enteredEither l) where
   took : {a : ℕ × ℕ} {no : ℕ} {f : Survey} → Added w 0 n a v → no ≡ a .0 → Surveyed v 0 f → Takes w l (record { no = no; cut = b; found = f }) v
   unfolding lineNo wordsWith
   took {a} {no} d k g =
@@ -76,12 +75,12 @@ module _ {t : Entered} {n : Net} {b : Bool} {w v : List ℕ} (l : List ℕ) (e :
 -- A refused line leaves the words.
 pub wordsWith-refused : (w l : List ℕ) → (lineNo w l ≡ 0 → ⊥) → wordsWith w l ≡ w
 unfolding lineNo wordsWith changeRule wordsAfter
-wordsWith-refused w l ne = go (eqb (readLine l .0) 0) ne
+wordsWith-refused w l ne = go (eqb (readEither l .0) 0) ne
   where
     n : Net
-    n = readLine l .1
+    n = readEither l .1
 
-    go : (b : Bool) → (cond b (addNo w n) (readLine l .0) ≡ 0 → ⊥)
+    go : (b : Bool) → (cond b (addNo w n) (readEither l .0) ≡ 0 → ⊥)
         → cond b (addWords w n) w ≡ w
     go true h = leftOn-refused _ 0 _ w _ (decode w) h
     go false h = refl

@@ -1,7 +1,8 @@
 -- Lines of networks: each is ended by a line feed, which the last may lack, and is added to set 0 of a pool.
 --
 --   linesOf s          the lines of the input s
---   lineNo w l         the refusal that the line l gets where the pool's words are w: 4 for no network, then that of adding the network; 0 where it is added
+--   lineNo w l         the refusal that the line l gets where the pool's words are w: 4 for no network of either family, then that of adding the network, which is 6 for
+--                      one of another family than the pool's; 0 where it is added
 --   wordsWith w l      the words afterwards
 --   trimmedIn l        1 where a set bit past the length of its network is cut, else 0
 --   taken k c w ls     the lines ls, the first of them number k, taken one after the other from the words w on, up to the first that is refused: its number and
@@ -18,8 +19,7 @@ use Rattle.nets.specs.Bits.{Bits}
 use Rattle.nets.specs.Lists.{addL}
 use Rattle.nets.specs.Networks.{netBits}
 use Rattle.nets.specs.declared.Net.{Net}
-use Rattle.text.specs.Ipv4.{readLine}
-use Rattle.text.specs.Answers.{enteredLine}
+use Rattle.text_either.specs.Either.{readEither, enteredEither}
 use Rattle.pool_state.specs.Decode.{Decoded, damaged, sound, decode}
 use Rattle.pool_state.specs.Changes.{changeRule, wordsAfter, relistRules, relistSet, netRules}
 use Rattle.change.specs.Calls.{listWith}
@@ -44,14 +44,14 @@ abbrev pub addWords : List ℕ → Net → List ℕ
 addWords w n = wordsAfter w (decode w) 0 (relistRules 0 (netRules n) (listWith 0 n)) (relistSet 0 (listWith 0 n))
 
 unfoldable pub lineNo : List ℕ → List ℕ → ℕ
-lineNo w l = let r = readLine l in cond (eqb (r .0) 0) (addNo w (r .1)) (r .0)
+lineNo w l = let r = readEither l in cond (eqb (r .0) 0) (addNo w (r .1)) (r .0)
 
 -- 1 where taking in the network of the line cuts a set bit past its length, else 0
 unfoldable pub trimmedIn : List ℕ → ℕ
-trimmedIn l = cond (enteredLine l .1 .1) 1 0
+trimmedIn l = cond (enteredEither l .1 .1) 1 0
 
 unfoldable pub wordsWith : List ℕ → List ℕ → List ℕ
-wordsWith w l = let r = readLine l in cond (eqb (r .0) 0) (addWords w (r .1)) w
+wordsWith w l = let r = readEither l in cond (eqb (r .0) 0) (addWords w (r .1)) w
 
 pub record Result : Type 0 where
   pub number : ℕ
@@ -78,7 +78,7 @@ withNets l (n ∷ ns) = withNets (addL l (netBits n)) ns
 
 abbrev pub netsOf : List (List ℕ) → List Net
 netsOf [] = []
-netsOf (l ∷ ls) = readLine l .1 ∷ netsOf ls
+netsOf (l ∷ ls) = readEither l .1 ∷ netsOf ls
 
 abbrev pub withLines : List Bits → List (List ℕ) → List Bits
 withLines l ls = withNets l (netsOf ls)

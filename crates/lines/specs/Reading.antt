@@ -1,4 +1,4 @@
--- What the calls do: the reader and the pool's words after each byte. Of the line that is being read the first 19 bytes are kept.
+-- What the calls do: the reader and the pool's words after each byte. Of the line that is being read the first 50 bytes are kept.
 --
 --   begun              before the first byte
 --   kept r             the bytes kept of the line
@@ -21,7 +21,7 @@ use Rattle.lines.specs.Lines.{lineFeed, lineNo, trimmedIn, wordsWith, po
 use Rattle.lines.specs.declared.Reader.{Reader}
 
 abbrev pub places : ℕ
-places = 19
+places = 50
 
 abbrev pub begun : Reader
 begun = record { line = replicate places 0; len = 0; number = 1; trimmed = 0; no = 0 }

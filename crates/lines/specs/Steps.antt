@@ -6,7 +6,7 @@ use mathlib.Core.List.{List}
 use mathlib.Core.Path.{_≡_}
 use Prim.Native.Nat.{ℕ}
 use Rattle.pool_state.specs.Steps.{Surveyed}
-use Rattle.text.specs.Answers.{enteredLine}
+use Rattle.text_either.specs.Either.{enteredEither}
 use Rattle.lines.specs.Lines.{lineNo, wordsWith}
 use Rattle.lines.specs.declared.Going.{Going}
 use Rattle.lines.specs.declared.Reader.{Reader}
@@ -14,7 +14,7 @@ use Rattle.lines.specs.declared.Took.{Took}
 
 pub record Takes (w l : List ℕ) (t : Took) (v : List ℕ) : Type 0 where
   pub no : t .no ≡ lineNo w l
-  pub cut : t .cut ≡ enteredLine l .1 .1
+  pub cut : t .cut ≡ enteredEither l .1 .1
   pub words : v ≡ wordsWith w l
   pub found : Surveyed v 0 (t .found)
 

@@ -1,4 +1,4 @@
-// Lines of IPv4 networks, added to set 0 of a pool. The input comes in pieces of any length: start, then feed with each piece, then finish.
+// Lines of networks of either family, added to set 0 of a pool. The input comes in pieces of any length: start, then feed with each piece, then finish.
 use change::adding::Grown;
 use change::adding::add_found;
 use nets::Entered;
@@ -11,8 +11,8 @@ ghost use Rattle.pool_state.specs.Steps.{Surveyed};
 ghost use Rattle.lines.specs.Reading.{begun, kept, pushed, stopped, ended, stepped, passed, fed, finished};
 ghost use Rattle.lines.specs.Steps.{Takes, Leads};
 
-// The bytes kept of a line: one more than the longest line of a network has, so that a line too long for one is still too long here.
-const KEPT: usize = 19;
+// The bytes kept of a line: one more than the longest line of a network of either family has, so that a line too long for one is still too long here.
+const KEPT: usize = 50;
 
 // The line that is being read: its bytes so far, how many, its number from 1 on; how many lines before it were trimmed, a set bit past the length being cut; and the
 // refusal that ended the reading, or 0.
@@ -76,7 +76,7 @@ fn take(pool: &mut [u32], found: Survey, line: &[u8]) -> Took
     requires { ⌜ Surveyed (now pool) 0 found ⌝ }
     ensures { λ t. ⌜ Takes (now (pool .entry)) (now (line .entry)) t (now (pool .exit)) ⌝ }
 {
-    let taken = text::read_line(line);
+    let taken = text_either::read_line(line);
     match taken {
         Entered::Refused(no) => Took {
             no: no.number(),

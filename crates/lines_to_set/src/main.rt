@@ -1,4 +1,4 @@
-// Writes the set file of lines of IPv4 networks: lines-to-set LINES SETFILE, two names of files, where - is standard input or standard output.
+// Writes the set file of lines of networks, all of the family of the first: lines-to-set LINES SETFILE, two names of files, where - is standard input or standard output.
 //
 // The list is the one that add gives, line after line: a network inside another goes, and two halves of a block are not joined. Where a line is refused,
 // standard error says which and why, and no file is written. The set has at most 100,000 nodes: a line that needs more is refused, OverLimit.
@@ -11,9 +11,10 @@ use tool_io::WORDS;
 
 mod writing;
 
-// Adds the networks of the lines to the set. Whether none is refused.
+// Lays the pool out, and adds the networks of the lines to its set. Whether none is refused.
 fn take(fd: i32, path: &[u8], pool: &mut [u32]) -> bool {
-    let input = tool_io::read_lines(fd, pool);
+    let lines = tool_io::read_lines(fd, pool, NODES);
+    let input = lines.input;
     match input {
         Input::Added(_) => true,
         Input::Refused(number, no) => {
@@ -65,22 +66,20 @@ fn save(pool: &[u32], path: &[u8], bytes: &mut [u8]) {
 }
 
 // The same to the file that the second argument names.
-fn save_file(pool: &[u32]) {
+fn save_file(pool: &[u32], bytes: &mut [u8]) {
     let mut path = io::buffer();
     let n = os::arg(2, &mut path);
     if os::errno() != 0 {
         tool_io::say_failed(b"lines-to-set", b"SETFILE");
         return;
     }
-    let mut bytes = [0u8; BYTES];
-    save(pool, &path[..n], &mut bytes);
+    save(pool, &path[..n], bytes);
 }
 
-// The whole work, in the words of a pool.
-fn run(pool: &mut [u32]) {
-    pool::layout(pool, 4, 1, NODES, &[NODES], &[NODES]);
+// The whole work, in the words of a pool and the bytes of a file.
+fn run(pool: &mut [u32], bytes: &mut [u8]) {
     if take_file(pool) {
-        save_file(pool);
+        save_file(pool, bytes);
     }
 }
 
@@ -90,5 +89,6 @@ fn main() {
         return;
     }
     let mut pool = [0u32; WORDS];
-    run(&mut pool);
+    let mut bytes = [0u8; BYTES];
+    run(&mut pool, &mut bytes);
 }

@@ -1,11 +1,13 @@
-// Reads lines of IPv4 networks into a set, simplifies it once and prints it: the shortest list of the same addresses, by the theorem simplify-fewest of nets.
+// Reads lines of networks into a set, all of the family of the first, simplifies it once and prints it: the shortest list of the same addresses, by the theorem simplify-fewest of nets.
 //
 // Where a line is refused, standard output has the scope document's one line, and standard error says it too, with the refusal's name.
 use tool_io::Input;
 
 mod report;
 
-// The words of a pool of one set and 1,000 nodes.
+const NODES: u32 = 1000;
+
+// The words of a pool of one set and so many nodes.
 const WORDS: usize = 8072;
 
 // Says so where standard output was not written.
@@ -17,8 +19,8 @@ fn tell(is_written: bool) {
 
 fn main() {
     let mut pool = [0u32; WORDS];
-    pool::layout(&mut pool, 4, 1, 1000, &[1000], &[1000]);
-    let input = tool_io::read_lines(0, &mut pool);
+    let lines = tool_io::read_lines(0, &mut pool, NODES);
+    let input = lines.input;
     match input {
         Input::Unreadable => {
             tool_io::say_failed(b"netlist", b"standard input");
@@ -29,7 +31,7 @@ fn main() {
         }
         Input::Added(trimmed) => {
             change::simplify(&mut pool, 0);
-            tell(report::set(&pool, trimmed));
+            tell(report::set(&pool, lines.family, trimmed));
         }
     }
 }

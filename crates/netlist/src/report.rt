@@ -29,11 +29,11 @@ fn counts(pool: &[u32], trimmed: u64) -> bool {
         && io::write_all(OUT, b" trimmed\n")
 }
 
-// Set 0: its counts, and its networks.
-pub fn set(pool: &[u32], trimmed: u64) -> bool {
+// Set 0: its counts, and its networks, which are of the family.
+pub fn set(pool: &[u32], family: u8, trimmed: u64) -> bool {
     if !counts(pool, trimmed) {
         return false;
     }
     let mut rows = [0u64; ROWS];
-    tool_io::print_set(pool, 0, &mut rows)
+    tool_io::print_set(pool, family, 0, &mut rows)
 }

@@ -1,8 +1,10 @@
-// Prints an IPv4 set file as lines, in the order of its list: set-to-lines SETFILE, the name of a file, where - is standard input.
+// Prints a set file as lines, in the order of its list: set-to-lines SETFILE, the name of a file, where - is standard input.
 //
 // Where the file is refused, standard error says why and nothing is printed. The set has at most 100,000 nodes: a file with more is refused, OverLimit. One
 // with more bytes than the file of such a set can have is not read whole, and standard error says so.
 use libc::STDERR_FILENO;
+use nets::IPV4;
+use nets::IPV6;
 use pool_state::Answer;
 use tool_io::BYTES;
 use tool_io::NODES;
@@ -15,66 +17,75 @@ fn past(fd: i32) -> isize {
     libc::read(fd, &mut one)
 }
 
-// Gives the set the list of a file. Whether it is granted.
-fn load(pool: &mut [u32], bytes: &[u8]) -> bool {
+// The family that the header of a file says. Another number than 6 is that of IPv4, or of no file.
+fn family_of(bytes: &[u8]) -> u8 {
+    if bytes.len() >= 4 && bytes[3] == IPV6 {
+        return IPV6;
+    }
+    IPV4
+}
+
+// Lays the pool out for the file, and gives its set the list of it. The family, or 0 where it is refused.
+fn load(pool: &mut [u32], bytes: &[u8]) -> u8 {
+    let family = family_of(bytes);
+    pool::layout(pool, family, 1, NODES, &[NODES], &[NODES]);
     let loaded = setfile::load(pool, 0, bytes);
     match loaded {
-        Answer::Granted(_) => true,
+        Answer::Granted(_) => family,
         Answer::Refused(no) => {
             tool_io::say_refused(b"set-to-lines", no.number());
-            false
+            0
         }
     }
 }
 
-// The same from an open file.
-fn load_from(fd: i32, path: &[u8], pool: &mut [u32]) -> bool {
-    let mut bytes = [0u8; BYTES];
-    let n = io::read_full(fd, &mut bytes);
+// The same from an open file, by way of lent bytes.
+fn load_from(fd: i32, path: &[u8], pool: &mut [u32], bytes: &mut [u8]) -> u8 {
+    let n = io::read_full(fd, bytes);
     let more = past(fd);
     if more < 0 {
         tool_io::say_failed(b"set-to-lines", path);
-        return false;
+        return 0;
     }
     if more > 0 {
         io::write_all(
             STDERR_FILENO,
-            b"set-to-lines: the file has more than 250016 bytes\n",
+            b"set-to-lines: the file has more than 850016 bytes\n",
         );
-        return false;
+        return 0;
     }
     load(pool, &bytes[..n])
 }
 
 // The same from the file that the argument names.
-fn load_file(pool: &mut [u32]) -> bool {
+fn load_file(pool: &mut [u32], bytes: &mut [u8]) -> u8 {
     let mut path = io::buffer();
     let n = os::arg(1, &mut path);
     if os::errno() != 0 {
         tool_io::say_failed(b"set-to-lines", b"SETFILE");
-        return false;
+        return 0;
     }
     let fd = tool_io::open_source(&path[..n]);
     if fd < 0 {
         tool_io::say_failed(b"set-to-lines", &path[..n]);
-        return false;
+        return 0;
     }
-    load_from(fd, &path[..n], pool)
+    load_from(fd, &path[..n], pool, bytes)
 }
 
 // Prints the networks of the set, by way of lent rows.
-fn print(pool: &[u32], rows: &mut [u64]) {
-    if !tool_io::print_set(pool, 0, rows) {
+fn print(pool: &[u32], family: u8, rows: &mut [u64]) {
+    if !tool_io::print_set(pool, family, 0, rows) {
         tool_io::say_failed(b"set-to-lines", b"standard output");
     }
 }
 
-// The whole work, in the words of a pool.
-fn run(pool: &mut [u32]) {
-    pool::layout(pool, 4, 1, NODES, &[NODES], &[NODES]);
-    if load_file(pool) {
+// The whole work, in the words of a pool and the bytes of a file.
+fn run(pool: &mut [u32], bytes: &mut [u8]) {
+    let family = load_file(pool, bytes);
+    if family != 0 {
         let mut rows = [0u64; ROWS];
-        print(pool, &mut rows);
+        print(pool, family, &mut rows);
     }
 }
 
@@ -84,5 +95,6 @@ fn main() {
         return;
     }
     let mut pool = [0u32; WORDS];
-    run(&mut pool);
+    let mut bytes = [0u8; BYTES];
+    run(&mut pool, &mut bytes);
 }

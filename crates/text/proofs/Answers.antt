@@ -5,20 +5,22 @@ use mathlib.Core.Path.{_≡_, refl, ap, sym, _∙_}
 use Prim.Native.Nat.{ℕ, _≤_, _<_}
 use native.Mathlib.Nat.{zero-add}
 use native.Mathlib.Omega.{arith}
-use lib.ListN.{length}
-use lib.Seq.{sets-eq}
+use lib.ListN.{length, take, drop}
+use lib.Seq.{sets-eq, take-append-seam}
 use borrow.Author.Tests.{eq-eqb, ne-eqb, le-leb, lt-leb}
 use Rattle.nets.proofs.Answers.{number-one, number-some, answered-granted, enteredAs-one}
-use Rattle.nets.specs.Networks.{inRange, refusalOf, cleared, hasBitPast, noEntry, enteredAs, entered}
+use Rattle.nets.specs.Networks.{inRange, refusalOf, cleared, hasBitPast, noNet, takenAs, noEntry, enteredAs, takenIn, entered}
 use Rattle.nets.specs.Refusals.{number, answered}
 use Rattle.nets.specs.declared.Net.{Net}
 use Rattle.nets.specs.declared.Refusal.{Refusal}
 use Rattle.nets.specs.declared.Refusal.the-variants.{WrongFamily, BadNetwork, ShortBuffer}
+use Rattle.nets.specs.declared.Taken.{Taken}
+use Rattle.nets.specs.declared.Taken.the-variants as taken
 use Rattle.nets.specs.declared.Entered.{Entered}
 use Rattle.nets.specs.declared.Entered.the-variants as entering
 use Rattle.text.specs.Ipv4.{lineOf}
 use Rattle.text.specs.Places.{Stored}
-use Rattle.text.specs.Answers.{enteredLine, writtenAs, lineRefusal, Wrote}
+use Rattle.text.specs.Answers.{enteredLine, noneWritten, writtenAs, lineRefusal, over, WroteOver, Wrote}
 use Rattle.text.specs.declared.Written.{Written}
 use Rattle.text.specs.declared.Written.the-variants.{Bytes, Refused}
 
@@ -30,6 +32,13 @@ entered-granted {t} {m} {b} n e h =
 
 pub entered-refused : {t : Entered} {r : Refusal} (n : Net) → t ≡ entering.Refused r → enteredAs t ≡ entered n → refusalOf n ≡ 0 → ⊥
 entered-refused {t} {r} n e h z = number-some r (ap (λ p. p .0) (sym (ap enteredAs e) ∙ h) ∙ z)
+
+-- What is read is taken in, where it is a network, and what is refused is refused.
+pub takenIn-network : {t : Taken} {n : Net} (p : ℕ × Net) (r : Entered) → t ≡ taken.Network n → takenAs t ≡ p → refusalOf n ≡ 0 → enteredAs r ≡ entered n → enteredAs r ≡ takenIn (p .0) (p .1)
+takenIn-network {t} {n} p r e h g k = let q : p ≡ (0, n) = sym h ∙ ap takenAs e in rw q (rw g at k)
+
+pub takenIn-refused : {t : Taken} {x : Refusal} (p : ℕ × Net) → t ≡ taken.Refused x → takenAs t ≡ p → (number x, noEntry) ≡ takenIn (p .0) (p .1)
+takenIn-refused {t} {x} p e h = let q : p ≡ (number x, noNet) = sym h ∙ ap takenAs e in rw (q, ne-eqb (number x) 0 (number-some x))
 
 -- The refusal of each test.
 pub lineRefusal-family : (n : Net) (room : ℕ) → (n .family ≡ 4 → ⊥) → lineRefusal n room ≡ number WrongFamily
@@ -68,17 +77,20 @@ unfolding lineRefusal
 lineRefusal-granted n room e h k = rw (eq-eqb (n .family) 4 e, inRange-granted n e h, le-leb (length (lineOf n)) room k)
 
 -- A refusal leaves the bytes; a grant writes the line.
-pub wrote-refused : (n : Net) (old : List ℕ) (r : Refusal) → lineRefusal n (length old) ≡ number r → Wrote n old old (Refused r)
-wrote-refused n old r e = let h = ne-eqb (number r) 0 (number-some r) in record { answer = rw (e, h); bytes = rw (e, h) }
+pub over-refused : (k : ℕ) (s : List ℕ) (b : Bool) (old : List ℕ) (r : Refusal) → k ≡ number r → WroteOver k s b old old (Refused r)
+over-refused k s b old r e = let h = ne-eqb (number r) 0 (number-some r) in record { answer = rw (e, h); bytes = rw (e, h) }
 
-pub wrote-line : (n : Net) (old new : List ℕ) (q : ℕ) (b : Bool) → lineRefusal n (length old) ≡ 0 → length (lineOf n) ≤ length old → Stored old 0 (lineOf n) new q → b ≡ hasBitPast n
-    → Wrote n old new (Bytes q b)
-wrote-line n old new q b e h k d =
-    let z = zero-add (length (lineOf n)) in
-    record {
-      answer = rw (e, d) (ap (λ x. (0, (x, hasBitPast n))) (k .place ∙ z));
-      bytes = rw e (k .bytes ∙ sets-eq (lineOf n) old 0 (rw z h) ∙ rw z);
-    }
+pub over-line : (k : ℕ) (s old new : List ℕ) (q : ℕ) (b c : Bool) → k ≡ 0 → length s ≤ length old → Stored old 0 s new q → c ≡ b → WroteOver k s b old new (Bytes q c)
+over-line k s old new q b c e h t d =
+    let z = zero-add (length s) in
+    record { answer = rw (e, d) (ap (λ x. (0, (x, b))) (t .place ∙ z)); bytes = rw e (t .bytes ∙ sets-eq s old 0 (rw z h) ∙ rw z) }
+
+pub over-granted : (k : ℕ) (s : List ℕ) (b : Bool) (old new : List ℕ) (q : ℕ) (c : Bool) → WroteOver k s b old new (Bytes q c) → (k ≡ 0) × (q ≡ length s) × (take q new ≡ s) × (c ≡ b)
+over-granted k s b old new q c w =
+    let a = answered-granted k noneWritten (length s, b) (q, c) (w .answer) in
+    let e : new ≡ over s old = rw (a .0) at (w .bytes) in
+    let l : q ≡ length s = ap (λ p. p .0) (a .1) in
+    (a .0, l, rw (e, l) (take-append-seam s (drop (length s) old)), ap (λ p. p .1) (a .1))
 
 -- Two answers that a contract allows are equal, and so are the bytes that they leave.
 writtenAs-one : (r t : Written) → writtenAs r ≡ writtenAs t → r ≡ t
@@ -90,5 +102,8 @@ writtenAs-one (Refused x) (Refused y) e = ap Refused (number-one x y (ap (λ p. 
 pub read-determined : (s : List ℕ) (r t : Entered) → enteredAs r ≡ enteredLine s → enteredAs t ≡ enteredLine s → r ≡ t
 read-determined s r t e f = enteredAs-one r t (e ∙ sym f)
 
+pub over-determined : {k : ℕ} {s : List ℕ} {b : Bool} {old new last : List ℕ} {r t : Written} → WroteOver k s b old new r → WroteOver k s b old last t → (r ≡ t) × (new ≡ last)
+over-determined {r = r} {t = t} h g = (writtenAs-one r t (h .answer ∙ sym (g .answer)), h .bytes ∙ sym (g .bytes))
+
 pub write-determined : (n : Net) (old new last : List ℕ) (r t : Written) → Wrote n old new r → Wrote n old last t → (r ≡ t) × (new ≡ last)
-write-determined n old new last r t h k = (writtenAs-one r t (h .answer ∙ sym (k .answer)), h .bytes ∙ sym (k .bytes))
+write-determined n old new last r t h k = over-determined h k

@@ -11,6 +11,7 @@ use lib.ListN.{length}
 use borrow.Author.Tests.{leb-true, le-leb, not-false}
 use Rattle.nets.proofs.Strings.{and-left, and-right}
 use Rattle.nets.specs.declared.Net.{Net}
+use Rattle.text.specs.Spans.{allOf, startsOf}
 use Rattle.text.specs.Decimal.{isDigit, allDigits, decimal, plain, isNumber}
 use Rattle.text.specs.DecOctet.{isDecOctet}
 use Rattle.text.specs.Ipv4.{dot, slash, joined, Line, IsLine, badText, readLine}
@@ -49,12 +50,12 @@ was-number k m s h p = let w = was-is k m s h in is-isNumber m s (record { digit
 
 -- Leading zeros in a line: they stand in its numbers.
 zeroLedFrom-digits : (s t : List ℕ) → allDigits s ≡ true → zeroLedFrom true (s ++ t) ≡ zeroLedFrom true t
-unfolding zeroLedFrom allDigits
+unfolding zeroLedFrom allOf
 zeroLedFrom-digits [] t a = refl
 zeroLedFrom-digits (c ∷ s) t a = rw (and-left (isDigit c) (allDigits s) a) (zeroLedFrom-digits s t (and-right (isDigit c) (allDigits s) a))
 
 zeroLed-append : (s t : List ℕ) → allDigits s ≡ true → 1 ≤ length s → startsDigit t ≡ false → zeroLed (s ++ t) ≡ (not (plain s) || zeroLedFrom true t)
-unfolding zeroLedFrom startsZero startsDigit plain allDigits
+unfolding zeroLedFrom startsZero startsOf plain allOf
 zeroLed-append [] t a l d = absurd (omega arith)
 zeroLed-append (c ∷ []) t a l d = rw (and-left (isDigit c) true a, d) (go (eqb c 48))
   where
@@ -72,11 +73,11 @@ zeroLed-append (c ∷ e ∷ s) t a l d =
 
 zeroLed-ended : (s : List ℕ) (e : ℕ) (t : List ℕ) → allDigits s ≡ true → 1 ≤ length s → isDigit e ≡ false
     → zeroLed (s ++ (e ∷ t)) ≡ (not (plain s) || zeroLed t)
-unfolding zeroLedFrom startsDigit
+unfolding zeroLedFrom startsOf
 zeroLed-ended s e t a l d = zeroLed-append s (e ∷ t) a l d ∙ rw d
 
 zeroLed-last : (s : List ℕ) → allDigits s ≡ true → 1 ≤ length s → zeroLed s ≡ not (plain s)
-unfolding zeroLedFrom startsDigit
+unfolding zeroLedFrom startsOf
 zeroLed-last s a l = rw (append-nil s, or-false (not (plain s))) at (zeroLed-append s [] a l refl)
 
 zeroLed-line : (s : List ℕ) (n : Net) (l : WasLine s n)

@@ -10,6 +10,7 @@ use lib.Dec.{eqb, leb, ltb}
 use lib.ListN.{length}
 use borrow.Author.Tests.{leb-true, le-leb, lt-leb, eqb-false, ne-eqb, ltb-true, ltb-false, not-true}
 use Rattle.nets.proofs.Strings.{and-left, and-right, and-both, or-cases, bool-iff}
+use Rattle.text.specs.Spans.{allOf}
 use Rattle.text.specs.Decimal.{isDigit, allDigits, decimal, decimalFrom, plain, isNumber, byteOf, digitsOf}
 use Rattle.text.specs.DecOctet.{within, follows, followsOne, decOctet, isDecOctet}
 use Rattle.text.proofs.Numbers.{isDigit-is, is-isDigit, isNumber-is, is-isNumber}
@@ -27,7 +28,7 @@ within-is : (r : ℕ × ℕ) (c : ℕ) → within r c ≡ true → (r .0 ≤ c) 
 within-is r c e = (leb-true (r .0) c (and-left (leb (r .0) c) (leb c (r .1)) e), leb-true c (r .1) (and-right (leb (r .0) c) (leb c (r .1)) e))
 
 follows-digits : (p : List (ℕ × ℕ)) (s : List ℕ) → allDigits (starts p) ≡ true → allDigits (ends p) ≡ true → follows p s ≡ true → allDigits s ≡ true
-unfolding follows allDigits starts ends
+unfolding follows allOf starts ends
 follows-digits [] [] a b f = refl
 follows-digits [] (c ∷ s) a b f = absurd (true≢false (sym f))
 follows-digits (r ∷ p) [] a b f = absurd (true≢false (sym f))
@@ -40,7 +41,7 @@ follows-digits (r ∷ p) (c ∷ s) a b f =
     (and-left (follows p s) (within r c) f))
 
 follows-plain : (p : List (ℕ × ℕ)) (s : List ℕ) → allDigits (starts p) ≡ true → plain (starts p) ≡ true → follows p s ≡ true → plain s ≡ true
-unfolding follows plain allDigits starts
+unfolding follows plain allOf starts
 follows-plain [] [] a b f = refl
 follows-plain [] (c ∷ s) a b f = absurd (true≢false (sym f))
 follows-plain (r ∷ p) [] a b f = absurd (true≢false (sym f))
@@ -93,7 +94,7 @@ followsOne-number m (p ∷ ps) s n f =
     (followsOne-number m ps s (and-right (isNumber m (starts p) && isNumber m (ends p)) (areNumbers m ps) n)) (or-cases (follows p s) (followsOne ps s) f)
 
 pub octet-number : (s : List ℕ) → isDecOctet s ≡ true → isNumber 255 s ≡ true
-unfolding isDecOctet areNumbers starts ends isNumber allDigits isDigit plain decimalFrom
+unfolding isDecOctet areNumbers starts ends isNumber allOf isDigit plain decimalFrom
 octet-number s f = followsOne-number 255 decOctet s refl f
 
 -- The digits of a number up to 255 follow one of the alternatives.

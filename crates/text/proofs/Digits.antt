@@ -8,6 +8,7 @@ use lib.Dec.{eqb}
 use lib.ListN.{length}
 use borrow.Author.Tests.{eqb-false, not-true}
 use Rattle.nets.proofs.Strings.{and-left, and-right}
+use Rattle.text.specs.Spans.{allOf}
 use Rattle.text.specs.Decimal.{isDigit, allDigits, decimal, decimalFrom, plain, isNumber, byteOf, digitsOf}
 use Rattle.text.proofs.Numbers.{isDigit-is, decimalFrom-least, isNumber-is}
 use Rattle.text.proofs.Writing.{digitsOf-one, digitsOf-two, digitsOf-three, length-digitsOf, length-digitsOf-two}
@@ -36,7 +37,7 @@ unfolding plain
 first c d s a p = let h = isDigit-is c a in let z = eqb-false c 48 (not-true (eqb c 48) p) in (omega arith, omega arith)
 
 plain-known : (s : List ℕ) → allDigits s ≡ true → 1 ≤ length s → plain s ≡ true → decimal s < 1000 → s ≡ digitsOf (decimal s)
-unfolding allDigits decimalFrom
+unfolding allOf decimalFrom
 plain-known [] a h p l = absurd (omega arith)
 plain-known (c ∷ []) a h p l = one-digit c (decimal (c ∷ [])) (isDigit-is c (and-left (isDigit c) true a)) (omega arith)
 plain-known (c ∷ d ∷ []) a h p l =

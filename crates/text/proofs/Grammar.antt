@@ -9,6 +9,7 @@ use lib.Dec.{eqb}
 use lib.ListN.{length}
 use borrow.Author.Tests.{eqb-true, eq-eqb}
 use Rattle.nets.specs.declared.Net.{Net}
+use Rattle.text.specs.Spans.{startsOf}
 use Rattle.text.specs.Decimal.{isDigit, decimal, isNumber, Parsed, parsed, nothing, andThen, readNumber}
 use Rattle.text.specs.Ipv4.{dot, slash, address, ipv4, joined, IsLine, endedBy, readNext, readQuad, badText, withLength, withAddress, readLine}
 use Rattle.text.specs.Places.{startsDigit}
@@ -18,12 +19,12 @@ use Rattle.text.proofs.Digits.{length-number, length-number-two}
 use Rattle.text.proofs.DecOctet.{octet-number, number-octet}
 
 -- A line of the grammar is read.
-readNext-append : (e v : ℕ) (s t : List ℕ) → isDigit e ≡ false → isNumber 255 s ≡ true → readNext e (parsed v (s ++ (e ∷ t))) ≡ parsed (v * 256 + decimal s) t
-unfolding readNext startsDigit
+pub readNext-append : (e v : ℕ) (s t : List ℕ) → isDigit e ≡ false → isNumber 255 s ≡ true → readNext e (parsed v (s ++ (e ∷ t))) ≡ parsed (v * 256 + decimal s) t
+unfolding readNext startsOf
 readNext-append e v s t d h = rw (readNumber-append 255 s (e ∷ t) h d, eq-eqb e e refl)
 
-readNumber-all : (m : ℕ) (s : List ℕ) → isNumber m s ≡ true → readNumber m s ≡ parsed (decimal s) []
-unfolding startsDigit
+pub readNumber-all : (m : ℕ) (s : List ℕ) → isNumber m s ≡ true → readNumber m s ≡ parsed (decimal s) []
+unfolding startsOf
 readNumber-all m s h = rw (append-nil s) at (readNumber-append m s [] h refl)
 
 is-readLine : (s : List ℕ) (n : Net) → IsLine s n → readLine s ≡ (0, n)
@@ -44,10 +45,10 @@ is-readLine s n l =
     )
 
 -- What is read is a line of the grammar.
-parsed-one : (v w : ℕ) (s t : List ℕ) → parsed v s ≡ parsed w t → (v ≡ w) × (s ≡ t)
+pub parsed-one : (v w : ℕ) (s t : List ℕ) → parsed v s ≡ parsed w t → (v ≡ w) × (s ≡ t)
 parsed-one v w s t e = (cc, cc)
 
-parsed-some : (v : ℕ) (s : List ℕ) → nothing ≡ parsed v s → ⊥
+pub parsed-some : (v : ℕ) (s : List ℕ) → nothing ≡ parsed v s → ⊥
 parsed-some v s e = let z : _≡_ {A = ℕ} 0 1 = cc in absurd (omega arith)
 
 endedBy-is : (e v : ℕ) (u : List ℕ) (w : ℕ) (t : List ℕ) → endedBy e v u ≡ parsed w t → (v ≡ w) × (u ≡ e ∷ t)
@@ -58,16 +59,16 @@ endedBy-is e v (c ∷ u) w t h = go (eqb c e) refl h
     go true k g = let p = parsed-one v w u t g in let q = eqb-true c e k in (p .0, cc)
     go false k g = absurd (parsed-some w t g)
 
-record ReadNext (e : ℕ) (p : Parsed) (w : ℕ) (t : List ℕ) : Type 0 where
-  value : ℕ
-  rest : List ℕ
-  digits : List ℕ
-  before : p ≡ parsed value rest
-  rule : isNumber 255 digits ≡ true
-  number : value * 256 + decimal digits ≡ w
-  bytes : rest ≡ digits ++ (e ∷ t)
+pub record ReadNext (e : ℕ) (p : Parsed) (w : ℕ) (t : List ℕ) : Type 0 where
+  pub value : ℕ
+  pub rest : List ℕ
+  pub digits : List ℕ
+  pub before : p ≡ parsed value rest
+  pub rule : isNumber 255 digits ≡ true
+  pub number : value * 256 + decimal digits ≡ w
+  pub bytes : rest ≡ digits ++ (e ∷ t)
 
-readNext-is : (e : ℕ) (p : Parsed) (w : ℕ) (t : List ℕ) → readNext e p ≡ parsed w t → ReadNext e p w t
+pub readNext-is : (e : ℕ) (p : Parsed) (w : ℕ) (t : List ℕ) → readNext e p ≡ parsed w t → ReadNext e p w t
 unfolding readNext
 readNext-is e nothing w t h = absurd (parsed-some w t h)
 readNext-is e (parsed v s) w t h = go (readNumber 255 s) refl h

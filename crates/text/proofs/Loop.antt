@@ -10,9 +10,11 @@ use lib.Dec.{leb}
 use lib.ListN.{length, drop, getD}
 use lib.Seq.{drop-cons}
 use borrow.Author.Tests.{le-leb, lt-leb}
+use Rattle.text.specs.Spans.{leadingOf, behindOf}
 use Rattle.text.specs.Decimal.{isDigit, allDigits, decimal, decimalFrom, plain, isNumber, leading, behind, Parsed, parsed, nothing, readNumber}
 use Rattle.text.specs.Places.{startsDigit, startsZero}
-use Rattle.text.proofs.Numbers.{decimalFrom-least, allDigits-leading, plain-leading, leading-none, behind-none}
+use Rattle.text.proofs.Spans.{all-leading, leading-none, behind-none}
+use Rattle.text.proofs.Numbers.{decimalFrom-least, plain-leading}
 use Rattle.text.proofs.Places.{Digit}
 
 -- what is read where n digits that write v stand before s
@@ -21,10 +23,10 @@ readOn m n v s = cond (leb 1 (n + length (leading s)) && leb (decimalFrom v (lea
 
 readOn-start : (m : ℕ) (s : List ℕ) → startsZero s ≡ false → readOn m 0 0 s ≡ readNumber m s
 unfolding readOn readNumber isNumber
-readOn-start m s e = rw (zero-add (length (leading s)), allDigits-leading s, plain-leading s, e)
+readOn-start m s e = rw (zero-add (length (leading s)), all-leading isDigit s, plain-leading s, e)
 
 readOn-digit : (m n v c : ℕ) (s : List ℕ) → isDigit c ≡ true → readOn m n v (c ∷ s) ≡ readOn m (n + 1) (v * 10 + (c - 48)) s
-unfolding readOn leading behind decimalFrom
+unfolding readOn leadingOf behindOf decimalFrom
 readOn-digit m n v c s e = let h : n + suc (length (leading s)) ≡ n + 1 + length (leading s) = omega arith in rw (e, h)
 
 -- it ends in nothing where the number is too large
@@ -39,11 +41,11 @@ readOn-over m n v s h = go (leb 1 (n + length (leading s)))
 -- and where no digit follows, with the number, if there was one
 readOn-none : (m v : ℕ) (s : List ℕ) → startsDigit s ≡ false → readOn m 0 v s ≡ nothing
 unfolding readOn
-readOn-none m v s e = rw (leading-none s e)
+readOn-none m v s e = rw (leading-none isDigit s e)
 
 readOn-end : (m n v : ℕ) (s : List ℕ) → startsDigit s ≡ false → 1 ≤ n → v ≤ m → readOn m n v s ≡ parsed v s
 unfolding readOn decimalFrom
-readOn-end m n v s e h f = let z : n + 0 ≡ n = omega arith in rw (leading-none s e, behind-none s e, z, le-leb 1 n h, le-leb v m f)
+readOn-end m n v s e h f = let z : n + 0 ≡ n = omega arith in rw (leading-none isDigit s e, behind-none isDigit s e, z, le-leb 1 n h, le-leb v m f)
 
 -- Before the loop: nothing is read where a 0 leads.
 pub readNumber-zero : (m : ℕ) (s : List ℕ) → startsZero s ≡ true → nothing ≡ readNumber m s

@@ -8,8 +8,10 @@ use lib.Dec.{eqb, leb}
 use lib.ListN.{length}
 use borrow.Author.Tests.{eqb-true, leb-true, le-leb}
 use Rattle.nets.proofs.Strings.{and-left, and-right, and-both}
+use Rattle.text.specs.Spans.{startsOf, leadingOf}
 use Rattle.text.specs.Decimal.{isDigit, allDigits, decimal, decimalFrom, plain, isNumber, leading, behind, parsed, nothing, readNumber}
 use Rattle.text.specs.Places.{startsDigit, startsZero}
+use Rattle.text.proofs.Spans.{leading-behind, leading-append, behind-append}
 
 pub isDigit-is : (c : ℕ) → isDigit c ≡ true → (48 ≤ c) × (c ≤ 57)
 unfolding isDigit
@@ -24,45 +26,6 @@ unfolding decimalFrom
 decimalFrom-least v [] = omega arith
 decimalFrom-least v (c ∷ s) = let h = decimalFrom-least (v * 10 + (c - 48)) s in omega arith
 
--- Leading digits, and what follows them.
-leading-behind : (s : List ℕ) → leading s ++ behind s ≡ s
-unfolding leading behind
-leading-behind [] = refl
-leading-behind (c ∷ s) = go (isDigit c) (leading-behind s)
-  where
-    go : (b : Bool) → leading s ++ behind s ≡ s → cond b (c ∷ leading s) [] ++ cond b (behind s) (c ∷ s) ≡ c ∷ s
-    go true e = ap (λ t. c ∷ t) e
-    go false e = refl
-
-pub allDigits-leading : (s : List ℕ) → allDigits (leading s) ≡ true
-unfolding leading allDigits
-allDigits-leading [] = refl
-allDigits-leading (c ∷ s) = go (isDigit c) refl (allDigits-leading s)
-  where
-    go : (b : Bool) → isDigit c ≡ b → allDigits (leading s) ≡ true → allDigits (cond b (c ∷ leading s) []) ≡ true
-    go true e h = and-both (isDigit c) (allDigits (leading s)) e h
-    go false e h = refl
-
-pub leading-none : (s : List ℕ) → startsDigit s ≡ false → leading s ≡ []
-unfolding leading startsDigit
-leading-none [] e = refl
-leading-none (c ∷ s) e = rw e
-
-pub behind-none : (s : List ℕ) → startsDigit s ≡ false → behind s ≡ s
-unfolding behind startsDigit
-behind-none [] e = refl
-behind-none (c ∷ s) e = rw e
-
-leading-append : (s t : List ℕ) → allDigits s ≡ true → startsDigit t ≡ false → leading (s ++ t) ≡ s
-unfolding leading allDigits
-leading-append [] t h e = leading-none t e
-leading-append (c ∷ s) t h e = rw (and-left (isDigit c) (allDigits s) h) (ap (λ u. c ∷ u) (leading-append s t (and-right (isDigit c) (allDigits s) h) e))
-
-behind-append : (s t : List ℕ) → allDigits s ≡ true → startsDigit t ≡ false → behind (s ++ t) ≡ t
-unfolding behind allDigits
-behind-append [] t h e = behind-none t e
-behind-append (c ∷ s) t h e = rw (and-left (isDigit c) (allDigits s) h) (behind-append s t (and-right (isDigit c) (allDigits s) h) e)
-
 -- leading digits have no leading zero exactly where no digit stands behind a first 0
 digit-not-zero : (c : ℕ) → isDigit c ≡ false → eqb c 48 ≡ false
 unfolding isDigit
@@ -73,7 +36,7 @@ digit-not-zero c e = go (eqb c 48) refl
     go true h = absurd (true≢false (sym (ap isDigit (eqb-true c 48 h)) ∙ e))
 
 pub plain-leading : (s : List ℕ) → plain (leading s) ≡ not (startsZero s)
-unfolding plain leading startsZero startsDigit
+unfolding plain leadingOf startsZero startsOf
 plain-leading [] = refl
 plain-leading (c ∷ []) = go (isDigit c) (eqb c 48)
   where
@@ -120,7 +83,7 @@ is-isNumber m s h = rw (h .digits, le-leb 1 (length s) (h .some), h .plain, le-l
 -- A number is read with any bytes behind it that do not go on with a digit; and what is read is one.
 pub readNumber-append : (m : ℕ) (s t : List ℕ) → isNumber m s ≡ true → startsDigit t ≡ false → readNumber m (s ++ t) ≡ parsed (decimal s) t
 unfolding readNumber
-readNumber-append m s t h e = let d = isNumber-is m s h .digits in rw (leading-append s t d e, behind-append s t d e, h)
+readNumber-append m s t h e = let d = isNumber-is m s h .digits in rw (leading-append isDigit s t d e, behind-append isDigit s t d e, h)
 
 pub record ReadNumber (m : ℕ) (s : List ℕ) (v : ℕ) (t : List ℕ) : Type 0 where
   pub digits : List ℕ
@@ -133,7 +96,7 @@ unfolding readNumber
 readNumber-is m s v t e = go (isNumber m (leading s)) refl e
   where
     go : (b : Bool) → isNumber m (leading s) ≡ b → cond b (parsed (decimal (leading s)) (behind s)) nothing ≡ parsed v t → ReadNumber m s v t
-    go true h e = record { digits = leading s; rule = h; value = cc; bytes = sym (leading-behind s) ∙ ap (λ u. leading s ++ u) (cc) }
+    go true h e = record { digits = leading s; rule = h; value = cc; bytes = sym (leading-behind isDigit s) ∙ ap (λ u. leading s ++ u) (cc) }
     go false h e = let z : _≡_ {A = ℕ} 0 1 = cc in absurd (omega arith)
 
 pub readNumber-most : (m : ℕ) (s : List ℕ) (v : ℕ) (t : List ℕ) → parsed v t ≡ readNumber m s → v ≤ m

@@ -8,6 +8,7 @@ use lib.Dec.{eqb, ltb}
 use lib.ListN.{length, drop, getD, drop-of-length-le}
 use lib.Seq.{drop-cons}
 use borrow.Author.Tests.{ltb-true, ltb-false}
+use Rattle.text.specs.Spans.{startsOf}
 use Rattle.text.specs.Decimal.{isDigit}
 use Rattle.text.specs.Places.{startsDigit, startsByte, startsZero}
 use Rattle.text.proofs.Numbers.{isDigit-is}
@@ -24,6 +25,10 @@ module _ (f : List ℕ → Bool) (none : f [] ≡ false) (s : List ℕ) (at : �
       go true h = ltb-true at (length s) h
       go false h = absurd (false≢true (sym (starts-past (ltb-false at (length s) h)) ∙ e))
 
+pub startsOf-at : (f : ℕ → Bool) (s : List ℕ) (at : ℕ) → startsOf f (drop at s) ≡ true → (at < length s) × (f (getD s at 0) ≡ true)
+unfolding startsOf
+startsOf-at f s at e = let h = starts-within (startsOf f) refl s at e in (h, rw (drop-cons s at 0 h) at e)
+
 pub record Digit (s : List ℕ) (at : ℕ) : Type 0 where
   pub within : at < length s
   pub test : isDigit (getD s at 0) ≡ true
@@ -31,12 +36,10 @@ pub record Digit (s : List ℕ) (at : ℕ) : Type 0 where
   pub most : getD s at 0 ≤ 57
 
 pub startsDigit-is : (s : List ℕ) (at : ℕ) → startsDigit (drop at s) ≡ true → Digit s at
-unfolding startsDigit
 startsDigit-is s at e =
-    let h = starts-within startsDigit refl s at e in
-    let d : isDigit (getD s at 0) ≡ true = rw (drop-cons s at 0 h) at e in
-    let b = isDigit-is (getD s at 0) d in
-    record { within = h; test = d; least = b .0; most = b .1 }
+    let h = startsOf-at isDigit s at e in
+    let b = isDigit-is (getD s at 0) (h .1) in
+    record { within = h .0; test = h .1; least = b .0; most = b .1 }
 
 -- A 0 with a digit behind it.
 pub startsZero-other : (s : List ℕ) → startsByte 48 s ≡ false → startsZero s ≡ false

@@ -18,7 +18,7 @@ pub readAs-is : (s : List ℕ) {r y : Read} {x : Parsed} → r ≡ y → readAs 
 readAs-is s e h = sym (ap (readAs s) e) ∙ h
 
 -- A number that is ended by a byte.
-endedBy-other : (e v : ℕ) (s : List ℕ) → startsByte e s ≡ false → endedBy e v s ≡ nothing
+pub endedBy-other : (e v : ℕ) (s : List ℕ) → startsByte e s ≡ false → endedBy e v s ≡ nothing
 unfolding startsByte
 endedBy-other e v [] h = refl
 endedBy-other e v (c ∷ s) h = rw h

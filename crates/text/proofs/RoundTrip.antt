@@ -9,8 +9,8 @@ use native.Mathlib.Omega.{arith}
 use lib.Dec.{eqb, leb, ltb}
 use lib.ListN.{length, take, drop}
 use lib.Seq.{take-append-seam}
-use borrow.Author.Tests.{leb-true, ltb-true, eqb-true, ne-eqb, le-leb, lt-ltb}
-use Rattle.nets.proofs.Answers.{number-some, answered-granted}
+use borrow.Author.Tests.{leb-true, ltb-true, eqb-true, le-leb, lt-ltb}
+use Rattle.nets.proofs.Answers.{answered-granted}
 use Rattle.nets.proofs.Numbers.{refusalOf-cleared, cleared-one, cleared-cleared, family-cleared}
 use Rattle.nets.proofs.Strings.{and-left, and-right}
 use Rattle.nets.proofs.TwoWords.{inRange-4, cleared-same, hasBitPast-cleared}
@@ -31,7 +31,7 @@ use Rattle.text.proofs.Writing.{length-digitsOf-two, isNumber-digitsOf,
 use Rattle.text.proofs.Digits.{number-known}
 use Rattle.text.proofs.DecOctet.{octet-number, number-octet}
 use Rattle.text.proofs.Grammar.{readLine-accepts}
-use Rattle.text.proofs.Answers.{inRange-granted}
+use Rattle.text.proofs.Answers.{inRange-granted, takenIn-network, takenIn-refused, over-granted}
 
 -- The numbers of an IPv4 network.
 record Ipv4 (n : Net) : Type 0 where
@@ -121,15 +121,11 @@ readLine-granted s n e = isLine-granted s n (readLine-accepts s n .0 e)
 -- so it is taken in, and what is refused is refused
 pub enteredLine-network : {t : Taken} {n : Net} (s : List ℕ) (r : Entered) → t ≡ taken.Network n → takenAs t ≡ readLine s → enteredAs r ≡ entered n → enteredAs r ≡ enteredLine s
 unfolding enteredLine
-enteredLine-network {t} {n} s r e h k =
-    let q : readLine s ≡ (0, n) = sym h ∙ ap takenAs e in
-    rw q (rw (readLine-granted s n q .1) at k)
+enteredLine-network {t} {n} s r e h k = takenIn-network (readLine s) r e h (readLine-granted s n (sym h ∙ ap takenAs e) .1) k
 
 pub enteredLine-refused : {t : Taken} {x : Refusal} (s : List ℕ) → t ≡ taken.Refused x → takenAs t ≡ readLine s → (number x, noEntry) ≡ enteredLine s
 unfolding enteredLine
-enteredLine-refused {t} {x} s e h =
-    let q : readLine s ≡ (number x, noNet) = sym h ∙ ap takenAs e in
-    rw (q, ne-eqb (number x) 0 (number-some x))
+enteredLine-refused s e h = takenIn-refused (readLine s) e h
 
 pub enteredLine-no : (s : List ℕ) → enteredLine s .0 ≡ readLine s .0
 unfolding enteredLine
@@ -177,11 +173,9 @@ module _ (n : Net) (f : n .family ≡ 4) (e : refusalOf n ≡ 0) where
 -- the bytes that a call has written do so, and its report says whether a bit was cut
 pub written-reads : (n : Net) (old new : List ℕ) (k : ℕ) (b : Bool) → Wrote n old new (Bytes k b) → (enteredLine (take k new) ≡ (0, (cleared n, false))) × (b ≡ hasBitPast n)
 written-reads n old new k b w =
-    let a = answered-granted (lineRefusal n (length old)) noneWritten (length (lineOf n), hasBitPast n) (k, b) (w .answer) in
+    let a = over-granted (lineRefusal n (length old)) (lineOf n) (hasBitPast n) old new k b w in
     let g = lineRefusal-zero n (length old) (a .0) in
-    let e : new ≡ over (lineOf n) old = rw (a .0) at (w .bytes) in
-    let q : k ≡ length (lineOf n) = ap (λ p. p .0) (a .1) in
-    (rw (e, q, take-append-seam (lineOf n) (drop (length (lineOf n)) old)) (enteredLine-lineOf n (g .0) (g .1)), ap (λ p. p .1) (a .1))
+    (ap enteredLine (a .2) ∙ enteredLine-lineOf n (g .0) (g .1), a .3)
 
 -- Networks of one family with the same bits are written alike: so every line of a network, read and written again, is one line.
 pub lineOf-one : (m n : Net) → m .family ≡ n .family → netBits m ≡ netBits n → lineOf m ≡ lineOf n

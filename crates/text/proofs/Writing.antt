@@ -10,6 +10,7 @@ use lib.ListN.{length, set, length-append}
 use lib.Seq.{sets}
 use borrow.Author.Tests.{ltb-true, ltb-false, lt-ltb, le-ltb, ne-eqb}
 use Rattle.nets.specs.declared.Net.{Net}
+use Rattle.text.specs.Spans.{allOf}
 use Rattle.text.specs.Decimal.{isDigit, allDigits, decimal, decimalFrom, isNumber, plain, byteOf, digitsOf}
 use Rattle.text.specs.Ipv4.{dot, slash, joined, octetOf, lineAs}
 use Rattle.text.specs.Places.{Stored}
@@ -50,7 +51,7 @@ isDigit-byteOf : (d : ℕ) → d < 10 → isDigit (byteOf d) ≡ true
 isDigit-byteOf d h = is-isDigit (byteOf d) (omega arith) (omega arith)
 
 allDigits-digitsOf : (x : ℕ) → x < 1000 → allDigits (digitsOf x) ≡ true
-unfolding allDigits
+unfolding allOf
 allDigits-digitsOf x g =
     digitsOf-cases (λ s. allDigits s ≡ true) x (λ h. rw (isDigit-byteOf x h))
     (λ h k. rw (isDigit-byteOf (x / 10) (omega arith), isDigit-byteOf (x % 10) (omega arith)))

@@ -3,7 +3,8 @@
 --   enteredLine s          the line s taken in: its refusal, or the cleared network and whether a bit was cut
 --   writtenAs r            number, count and report of an answer: a refusal reports no
 --   lineRefusal n room     why a network cannot be written to room bytes, or 0
---   Wrote n old new r      the answer r and the bytes new, where n is written over the bytes old
+--   WroteOver k s b old new r   the answer r and the bytes new, where the line s is written over the bytes old: its refusal is k, or 0, and b says whether a bit was cut
+--   Wrote n old new r      so for the line of n
 use mathlib.Core.Bool.{Bool, false, cond}
 use mathlib.Core.List.{List, _++_}
 use mathlib.Core.Path.{_≡_}
@@ -37,6 +38,9 @@ lineRefusal n room =
 abbrev pub over : List ℕ → List ℕ → List ℕ
 over s old = s ++ drop (length s) old
 
-pub record Wrote (n : Net) (old new : List ℕ) (r : Written) : Type 0 where
-  pub answer : writtenAs r ≡ answered (lineRefusal n (length old)) noneWritten (length (lineOf n), hasBitPast n)
-  pub bytes : new ≡ cond (eqb (lineRefusal n (length old)) 0) (over (lineOf n) old) old
+pub record WroteOver (no : ℕ) (line : List ℕ) (cut : Bool) (old new : List ℕ) (r : Written) : Type 0 where
+  pub answer : writtenAs r ≡ answered no noneWritten (length line, cut)
+  pub bytes : new ≡ cond (eqb no 0) (over line old) old
+
+abbrev pub Wrote : Net → List ℕ → List ℕ → Written → Type 0
+Wrote n old new r = WroteOver (lineRefusal n (length old)) (lineOf n) (hasBitPast n) old new r

@@ -12,13 +12,13 @@ use mathlib.Core.List.{List, [], _∷_}
 use Prim.Native.Nat.{ℕ, _+_, _-_, _*_, _/_, _%_}
 use lib.Dec.{eqb, leb, ltb}
 use lib.ListN.{length}
+use Rattle.text.specs.Spans.{allOf, leadingOf, behindOf}
 
 unfoldable pub isDigit : ℕ → Bool
 isDigit c = leb 48 c && leb c 57
 
-unfoldable pub allDigits : List ℕ → Bool
-allDigits [] = true
-allDigits (c ∷ s) = isDigit c && allDigits s
+abbrev pub allDigits : List ℕ → Bool
+allDigits s = allOf isDigit s
 
 unfoldable pub decimalFrom : ℕ → List ℕ → ℕ
 decimalFrom v [] = v
@@ -35,13 +35,11 @@ plain (c ∷ d ∷ s) = not (eqb c 48)
 unfoldable pub isNumber : ℕ → List ℕ → Bool
 isNumber m s = allDigits s && (leb 1 (length s) && (plain s && leb (decimal s) m))
 
-unfoldable pub leading : List ℕ → List ℕ
-leading [] = []
-leading (c ∷ s) = cond (isDigit c) (c ∷ leading s) []
+abbrev pub leading : List ℕ → List ℕ
+leading s = leadingOf isDigit s
 
-unfoldable pub behind : List ℕ → List ℕ
-behind [] = []
-behind (c ∷ s) = cond (isDigit c) (behind s) (c ∷ s)
+abbrev pub behind : List ℕ → List ℕ
+behind s = behindOf isDigit s
 
 -- what reading finds: a number and what stands behind it, or nothing
 pub data Parsed : Type 0 where

@@ -11,13 +11,13 @@ use Prim.Native.Nat.{ℕ, _+_}
 use lib.Dec.{eqb}
 use lib.ListN.{length, drop}
 use lib.Seq.{sets}
+use Rattle.text.specs.Spans.{startsOf}
 use Rattle.text.specs.Decimal.{isDigit, Parsed, parsed, nothing}
 use Rattle.text.specs.declared.cursor.Read.{Read}
 use Rattle.text.specs.declared.cursor.Read.the-variants.{Number, Nothing}
 
-unfoldable pub startsDigit : List ℕ → Bool
-startsDigit [] = false
-startsDigit (c ∷ s) = isDigit c
+abbrev pub startsDigit : List ℕ → Bool
+startsDigit s = startsOf isDigit s
 
 unfoldable pub startsByte : ℕ → List ℕ → Bool
 startsByte b [] = false

@@ -15,7 +15,7 @@ use nets::Refusal;
 use nets::Taken;
 
 // What was read with one more of the four numbers behind it, and the byte that ends that number.
-fn next(s: &[u8], read: Read, end: u8) -> Read
+pub fn next(s: &[u8], read: Read, end: u8) -> Read
     requires { ⌜ valueOf read < 2 ^ 24 ⌝ }
     ensures { λ r. ⌜ readAs (now (s .entry)) r ≡ readNext end (readAs (now (s .entry)) read) ⌝ }
     ensures { λ r. ⌜ valueOf r ≤ valueOf read * 256 + 255 ⌝ }

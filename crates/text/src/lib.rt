@@ -8,9 +8,9 @@ use nets::Net;
 use nets::Refusal;
 use nets::Taken;
 
-mod cursor;
-mod decimal;
-mod ipv4;
+pub mod cursor;
+pub mod decimal;
+pub mod ipv4;
 
 // How many bytes were written, and whether a set bit past the length was cleared.
 pub enum Written {

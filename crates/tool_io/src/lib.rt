@@ -10,6 +10,7 @@ pub use crate::opening::is_dash;
 pub use crate::opening::open_source;
 pub use crate::printing::print_set;
 pub use crate::reading::Input;
+pub use crate::reading::Lines;
 pub use crate::reading::read_lines;
 pub use crate::room::BYTES;
 pub use crate::room::NODES;

@@ -1,5 +1,9 @@
 // Reading lines from an open file.
 use lines::Reader;
+use text_either::first::family;
+
+// The bytes that tell the family of an input: a line that is longer is none.
+const HEAD: usize = 50;
 
 // What became of the input: each line's network is added, and so many lines were trimmed, a set bit past the length being cut; or the number of the first refused
 // line, from 1 on, and its refusal; or it cannot be read.
@@ -7,6 +11,12 @@ pub enum Input {
     Added(u64),
     Refused(u64, u8),
     Unreadable,
+}
+
+// The family of the first line, and what became of the input.
+pub struct Lines {
+    pub family: u8,
+    pub input: Input,
 }
 
 // Where the reading is after one more piece of the input: got is what the read answered.
@@ -26,8 +36,8 @@ fn read_some(fd: i32, pool: &mut [u32], r: Reader) -> Turn {
 
 // Reads to the end of the input or to the first refused line. A proved loop has to end, and nothing says that the input does: the loop counts its turns down,
 // from a number that no run uses up.
-fn read_all(fd: i32, pool: &mut [u32]) -> Turn {
-    let mut turn = read_some(fd, pool, lines::start());
+fn read_all(fd: i32, pool: &mut [u32], start: Reader) -> Turn {
+    let mut turn = read_some(fd, pool, start);
     let mut turns = u64::MAX;
     while turns > 0 && turn.got > 0 && turn.reader.no == 0 {
         let r = turn.reader;
@@ -37,9 +47,10 @@ fn read_all(fd: i32, pool: &mut [u32]) -> Turn {
     turn
 }
 
-// Adds the networks of the lines to set 0, up to the first that is refused.
-pub fn read_lines(fd: i32, pool: &mut [u32]) -> Input {
-    let turn = read_all(fd, pool);
+// Adds the networks of the lines to set 0, up to the first that is refused; those of the head first.
+fn add_lines(fd: i32, pool: &mut [u32], head: &[u8]) -> Input {
+    let start = lines::feed(pool, lines::start(), head);
+    let turn = read_all(fd, pool, start);
     if turn.got < 0 {
         return Input::Unreadable;
     }
@@ -48,4 +59,14 @@ pub fn read_lines(fd: i32, pool: &mut [u32]) -> Input {
         return Input::Refused(r.number, r.no);
     }
     Input::Added(r.trimmed)
+}
+
+// Lays out a pool of one set, whose share and limit are all its nodes, for the family of the first line, and adds the networks of the lines to it.
+pub fn read_lines(fd: i32, pool: &mut [u32], nodes: u32) -> Lines {
+    let mut head = [0u8; HEAD];
+    let n = io::read_full(fd, &mut head);
+    let family = family(&head[..n]);
+    pool::layout(pool, family, 1, nodes, &[nodes], &[nodes]);
+    let input = add_lines(fd, pool, &head[..n]);
+    Lines { family, input }
 }

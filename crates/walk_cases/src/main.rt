@@ -1,8 +1,9 @@
-// Goes through whole sets, place by place, to the end and on a page, against lists made by hand: the rows of its input, each against what it must answer.
+// Goes through whole sets, place by place, to the end, on a page and by ranges, against lists made by hand: the rows of its input, each against what it must answer.
 use listing::Follower;
 use netrows::Page;
 use netrows::page_of;
 use nets::Net;
+use rangelist::ranges;
 use test_counts::Tally;
 use test_counts::calls;
 use test_counts::calls::Got;
@@ -65,6 +66,59 @@ fn zeros(p: Page, from: usize) -> Got {
     calls::numbers(right as u64, 0)
 }
 
+// How many ranges a set has, where so many of 32 numbers are lent.
+fn cover(pool: &[u32], set: u32, lent: usize) -> Got {
+    let mut rows = [7u64; 32];
+    if 32 < lent {
+        return calls::numbers(0, 0);
+    }
+    calls::answer(ranges(pool, set, &mut rows[..lent]))
+}
+
+// The numbers that the call leaves in 32 that were 7.
+fn left(pool: &[u32], set: u32) -> [u64; 32] {
+    let mut rows = [7u64; 32];
+    ranges(pool, set, &mut rows);
+    rows
+}
+
+// First and last address of the range at a place, in the family.
+fn bounds(pool: &[u32], set: u32, i: usize, family: u8) -> Got {
+    if 7 < i {
+        return calls::numbers(0, 0);
+    }
+    let rows = left(pool, set);
+    let k = 4 * i;
+    let first = Word {
+        form: family,
+        hi: rows[k],
+        lo: rows[k + 1],
+    };
+    let second = Word {
+        form: family,
+        hi: rows[k + 2],
+        lo: rows[k + 3],
+    };
+    Got { first, second }
+}
+
+// The number at a place of the rows afterwards.
+fn kept(pool: &[u32], set: u32, i: usize) -> Got {
+    if 31 < i {
+        return calls::numbers(0, 0);
+    }
+    let rows = left(pool, set);
+    calls::numbers(rows[i], 0)
+}
+
+// The family of a pool, as its second word has it.
+fn family(pool: &[u32]) -> u8 {
+    if pool.len() < 2 {
+        return 0;
+    }
+    (pool[1] % 256) as u8
+}
+
 // The call that the row begins with, by its first letter.
 fn call(pool: &mut [u32], row: &[u8]) -> Got {
     let set = taken(row, 1);
@@ -75,6 +129,9 @@ fn call(pool: &mut [u32], row: &[u8]) -> Got {
         b'p' => answer_of(page_of(pool, set)),
         b'e' => entry(page_of(pool, set), i as usize),
         b'z' => zeros(page_of(pool, set), i as usize),
+        b'c' => cover(pool, set, i as usize),
+        b'b' => bounds(pool, set, i as usize, family(pool)),
+        b'k' => kept(pool, set, i as usize),
         _ => calls::call(pool, row),
     }
 }

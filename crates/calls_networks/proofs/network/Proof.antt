@@ -28,6 +28,16 @@ network-spec =
     (λ c κs. search needs)
     (λ c κs. search needs)
     (λ c κs. search needs)
+    (λ c. search needs)
+    (λ c. search needs)
+    (λ c. search needs)
+    (λ c κs. search needs)
+    (λ c κs. search needs)
+    (λ c. search needs)
+    (λ c. search needs)
+    (λ c. search needs)
+    (λ c κs. search needs)
+    (λ c κs. search needs)
     (λ c κs. search needs)
     (λ c.
     let l = c .before in
@@ -39,5 +49,13 @@ network-spec =
     (λ c. rw (c .before .before .match .keys5) (rw (c .before .prefix-bits .ensures) at (c .of-prefix .ensures)))
     (λ c. rw (c .before .before .before .match .keys6) (rw (c .before .next .ensures, c .before .before .bits-of .ensures) at (c .of-bit .ensures)))
     (λ c.
+    let l = c .before in
+    let s = l .before .before .before .before .before .args .s .now in
+    rw (l .before .before .match .keys7) (rw (l .read-line2 .ensures, rest-is s 35) at (c .of-entered3 .ensures)))
+    (λ c.
+    let l = c .before in
+    let s = l .before .before .before .before .before .args .s .now in
+    rw (l .before .before .match .keys8) (rw (l .read-line3 .ensures, rest-is s 35) at (c .of-entered4 .ensures)))
+    (λ c.
     let r = c .before .match .rest in
-    rw (ne-eqb _ _ (r .0 .0 .0 .0 .0 .1), ne-eqb _ _ (r .0 .0 .0 .0 .1), ne-eqb _ _ (r .0 .0 .0 .1), ne-eqb _ _ (r .0 .0 .1), ne-eqb _ _ (r .0 .1), ne-eqb _ _ (r .1)) (c .made .ensures)))
+    rw (ne-eqb _ _ (r .0 .0 .0 .0 .0 .0 .0 .1), ne-eqb _ _ (r .0 .0 .0 .0 .0 .0 .1), ne-eqb _ _ (r .0 .0 .0 .0 .0 .1), ne-eqb _ _ (r .0 .0 .0 .0 .1), ne-eqb _ _ (r .0 .0 .0 .1), ne-eqb _ _ (r .0 .0 .1), ne-eqb _ _ (r .0 .1), ne-eqb _ _ (r .1)) (c .made .ensures)))

@@ -1,4 +1,4 @@
--- `main` is safe and ends. The words of the pool are too many to be counted one by one: a law gives their number. Assumes nothing.
+-- `main` is safe and ends. The words of the pool and the bytes of a file are too many to be counted one by one: a law gives their number. Assumes nothing.
 use borrow.Author.Needs.{needs}
 use Rattle.tool_io.proofs.Zeros.{count-zeros}
 use Rattle.set_to_lines.proofs.main.Statement.{statement}
@@ -13,5 +13,6 @@ main-spec =
     (λ c κs. search needs)
     (λ c. search needs)
     (λ c. count-zeros 800072)
+    (λ c. count-zeros 850016)
     (λ c κs. search needs)
     (λ c. search needs))

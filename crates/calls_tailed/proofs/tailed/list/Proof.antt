@@ -27,4 +27,4 @@ list-spec =
     let f = l .before .before .before .before in
     let s = f .before .before .before .before .before .before .before in
     let a = s .args in
-    listing-is (a .pool .now) (a .rows .now) (a .c) (a .out .now) (a .at) (s .pre .0) (f .fill-rows .ensures) (l .list .ensures) (p .put-rows .ensures) (c .of-answer .ensures)))
+    listing-is (a .pool .now) (a .rows .now) (a .c) (a .out .now) (a .at) (s .pre .0) (f .fill-rows .ensures) (l .rows-by .ensures) (p .put-rows .ensures) (c .of-answer .ensures)))

@@ -4,6 +4,7 @@ use lib.ListN.{getD}
 use lib.Seq.{drop-cons}
 use borrow.Author.Needs.{needs}
 use borrow.Author.Tests.{le-leb, lt-leb}
+use Rattle.text.specs.Spans.{startsOf}
 use Rattle.text.specs.Decimal.{isDigit}
 use Rattle.text.specs.Places.{startsDigit}
 use Rattle.text.proofs.Places.{starts-past}
@@ -11,7 +12,7 @@ use Rattle.text.proofs.cursor.digit_at.Statement.{statement}
 use Rattle.text.proofs.cursor.digit_at.Tie as tie
 
 pub digit-at-spec : {M : Type 1} → statement M
-unfolding isDigit startsDigit
+unfolding isDigit startsOf
 digit-at-spec =
     tie.close
     (tie.spec

@@ -12,7 +12,7 @@ use Rattle.tool_io.proofs.printing.network.Tie as tie
 fits : (c : tie.After-known-told) → c .before .written .given .0 .0 ≤ length (c .before .before .before .before .before .write-line .last .1 .0)
 fits c =
     let w = c .before .before .before .before .before .write-line in
-    omega (arith, wrote-fits (w .ensures) (c .before .written .given .1), w .kept .1 .0)
+    omega (arith, wrote-fits (c .before .before .before .before .before .before .before .before .args .net) (w .ensures) (c .before .written .given .1), w .kept .1 .0)
 
 pub network-spec : {M : Type 1} → statement M
 network-spec =

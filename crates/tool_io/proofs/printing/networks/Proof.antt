@@ -6,10 +6,10 @@ use Rattle.tool_io.proofs.printing.networks.Statement.{statement}
 use Rattle.tool_io.proofs.printing.networks.Tie as tie
 
 abbrev Inv-loop : tie.InvT-loop
-Inv-loop rows count i₀ i = (i ≤ count) × (3 * count ≤ length rows)
+Inv-loop family rows count i₀ i = (i ≤ count) × (3 * count ≤ length rows)
 
 abbrev μ-loop : tie.MeasureT-loop
-μ-loop rows count i₀ i = count - i
+μ-loop family rows count i₀ i = count - i
 
 pub networks-spec : {M : Type 1} → statement M
 networks-spec =

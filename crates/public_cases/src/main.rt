@@ -1,0 +1,79 @@
+// Runs cases of public-only sets through the public calls: each inner network at its ends, and members around and inside them; the rows of its input, each against what it must
+// answer.
+use test_counts::Tally;
+use test_counts::calls;
+use test_counts::calls::Got;
+use test_counts::calls::taken;
+use test_counts::table;
+use test_counts::table::Place;
+
+// The words of the largest pool here: three sets, 250 nodes.
+const WORDS: usize = 2120;
+
+// The call with three numbers that the row begins with.
+fn on_sets(pool: &mut [u32], row: &[u8], letter: u8) -> Got {
+    let a = taken(row, 1);
+    let b = taken(row, 2);
+    let c = taken(row, 3);
+    match letter {
+        b'm' => calls::answer(combine::merge(pool, a, b, c)),
+        b'i' => calls::answer(combine::intersect(pool, a, b, c)),
+        b'e' => calls::answer(combine::exclude(pool, a, b, c)),
+        b'k' => calls::answer(combine::exclude_apart(pool, a, b, c)),
+        _ => calls::answer(replan::replan(pool, a, b, c)),
+    }
+}
+
+// The call that the row begins with, by its first letter.
+fn call(pool: &mut [u32], row: &[u8]) -> Got {
+    let letter = calls::letter(row);
+    match letter {
+        b'p' => calls::answer(make_public::make_public(pool, taken(row, 1))),
+        b'm' | b'i' | b'e' | b'k' | b'g' => on_sets(pool, row, letter),
+        _ => calls::call(pool, row),
+    }
+}
+
+fn case(t: Tally, pool: &mut [u32; WORDS], row: &[u8], must: &[u8]) -> Tally {
+    let was = *pool;
+    let got = call(pool, row);
+    let t = calls::judge(t, row, must, got);
+    calls::keeps(t, row, must, &was, pool)
+}
+
+// The row, where it is whole. The places are in order: the tests say so to the proof.
+fn at_end(t: Tally, pool: &mut [u32; WORDS], text: &[u8], p: Place) -> Tally {
+    let sign = p.sign;
+    let end = p.end;
+    let start = p.start;
+    if !p.whole {
+        return t;
+    }
+    if sign < start {
+        return t;
+    }
+    if end < sign {
+        return t;
+    }
+    if text.len() < end {
+        return t;
+    }
+    case(t, pool, &text[start..sign], &text[sign..end])
+}
+
+fn run(text: &[u8]) -> Tally {
+    let mut pool = [0u32; WORDS];
+    let mut t = test_counts::none();
+    let mut p = table::begin();
+    for at in 0..text.len() {
+        p = table::next(p, text[at], at);
+        t = at_end(t, &mut pool, text, p);
+    }
+    t
+}
+
+fn main() {
+    let mut text = io::large_buffer();
+    let n = io::read_full(0, &mut text);
+    test_counts::say(run(&text[..n]));
+}
