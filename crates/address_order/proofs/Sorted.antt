@@ -24,7 +24,7 @@ use Rattle.address_order.proofs.PathNodes.{pathNodes-flat}
 use Rattle.address_order.proofs.Lengths.{ofLength-one}
 
 -- The members.
-anyOf-put : (f : Bits → Bool) (n : Bits) (l : List Bits) → anyOf f (putInOrder n l) ≡ (f n || anyOf f l)
+pub anyOf-put : (f : Bits → Bool) (n : Bits) (l : List Bits) → anyOf f (putInOrder n l) ≡ (f n || anyOf f l)
 unfolding putInOrder
 anyOf-put f n [] = refl
 anyOf-put f n (m ∷ l) = go (earlier n m) (anyOf-put f n l)

@@ -1,7 +1,7 @@
 // The file that a row quotes: its bytes in hexadecimal.
 
-// The longest file here has less.
-pub const ROOM: usize = 128;
+// The longest that a row quotes has less.
+pub const ROOM: usize = 192;
 
 // How far the row is read: whether in the quotes, how many digits, and the last two of them.
 struct Digits {

@@ -1,10 +1,11 @@
-// Runs set files made by hand from the scope document through save and load: the rows of its input, each against what it must answer.
+// Runs set files made by hand from the scope document through save, load and salvage: the rows of its input, each against what it must answer.
 use test_counts::Tally;
 use test_counts::table;
 use test_counts::table::Place;
 
 mod files;
 mod rows;
+mod salvaging;
 
 // A row, as a whole and in its two parts.
 fn row(t: Tally, pool: &mut [u32; rows::WORDS], whole: &[u8], row: &[u8], must: &[u8]) -> Tally {

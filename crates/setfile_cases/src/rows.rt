@@ -1,5 +1,6 @@
 // What each kind of row runs.
 use crate::files::ROOM;
+use crate::salvaging;
 use nets::Refusal;
 use pool_state::Answer;
 use setfile_compare::Compared;
@@ -46,7 +47,7 @@ fn save_to(pool: &[u32], set: u32, out: &mut [u8], room: usize) -> Answer {
 }
 
 // Whether the buffer begins with the bytes and is behind them as it was.
-fn begins(out: &[u8], bytes: &[u8], was: &[u8]) -> bool {
+pub fn begins(out: &[u8], bytes: &[u8], was: &[u8]) -> bool {
     let n = bytes.len();
     if out.len() < n || was.len() < n {
         return false;
@@ -169,7 +170,8 @@ fn with_file(t: Tally, pool: &mut [u32; WORDS], row: &[u8], must: &[u8], bytes: 
         ),
         b'o' => breaks(t, (n % 256) as u8, row, must, bytes),
         b'c' => cuts(t, (n % 256) as u8, row, must, bytes),
-        b'm' => matches(t, row, must, bytes, n as usize),
+        b'e' => matches(t, row, must, bytes, n as usize),
+        b'm' => salvaging::mend(t, row, must, bytes),
         b'b' => {
             let t = call(t, pool, row, must, bytes);
             saves(t, pool, row, must, bytes)

@@ -107,7 +107,7 @@ module _ (n : Net) (clean : isClean n ≡ true) (low : address n < 2 ^ width (n 
   pub clean-number : val (netBits n) * 2 ^ (width (n .family) - length (netBits n)) ≡ address n
   clean-number = rw clean-length (clean-high (width (n .family) - n .len) past)
 
-Bytes-drop : (n : ℕ) (d : List ℕ) → Bytes d → Bytes (drop n d)
+pub Bytes-drop : (n : ℕ) (d : List ℕ) → Bytes d → Bytes (drop n d)
 Bytes-drop n d h i = rw (getD-drop n d i 0) (h (n + i))
 
 take-more : (k : ℕ) (xs : List ℕ) → k < length xs → take (k + 1) xs ≡ take k xs ++ (getD xs k 0 ∷ [])
@@ -128,7 +128,7 @@ module _ (d : List ℕ) (bytes : Bytes d) where
         rw (split (bigEndian 256 (drop (entryAt f i) d) (addressBytes f)) 64, ← address-bytes f)
         (bigEndian-lt (drop (entryAt f i) d) (Bytes-drop (entryAt f i) d bytes) (addressBytes f))
 
-    entry-written : (i : ℕ) → entryAt f (suc i) ≤ length d → isClean (entryNet f d i) ≡ true → entryOf f (netBits (entryNet f d i)) ≡ take (entryBytes f) (drop (entryAt f i) d)
+    pub entry-written : (i : ℕ) → entryAt f (suc i) ≤ length d → isClean (entryNet f d i) ≡ true → entryOf f (netBits (entryNet f d i)) ≡ take (entryBytes f) (drop (entryAt f i) d)
     unfolding entryOf entryNet entryBytes
     entry-written i h c =
         let xs = drop (entryAt f i) d in
@@ -140,7 +140,7 @@ module _ (d : List ℕ) (bytes : Bytes d) where
         let last : getD d (entryAt f i + k) 0 ≡ getD xs k 0 = sym (getD-drop (entryAt f i) d k 0) in
         rw (clean-number n c (entry-low i), split a 64, clean-length n c (entry-low i), b, last) (sym (take-more k xs long))
 
-    entries-written : (i k : ℕ) → entryAt f (i + k) ≡ length d → areClean f d i k ≡ true → entriesOf f (networksIn f d i k) ≡ drop (entryAt f i) d
+    pub entries-written : (i k : ℕ) → entryAt f (i + k) ≡ length d → areClean f d i k ≡ true → entriesOf f (networksIn f d i k) ≡ drop (entryAt f i) d
     unfolding entriesOf networksIn areClean
     entries-written i zero h c = let g : length d ≤ entryAt f i = omega (arith, rw (add-zero i) at h) in sym (drop-of-length-le d g)
     entries-written i (suc k) h c =

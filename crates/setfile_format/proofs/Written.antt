@@ -59,13 +59,13 @@ module _ (f : ℕ) (p : Bits) (h : length p ≤ width f) where
   pub number-lt : val p * 2 ^ (width f - length p) < 2 ^ width f
   number-lt = let e : length p + (width f - length p) ≡ width f = omega arith in rw e at (shl-lt (length p) (width f - length p) (val-high p))
 
-  isClean-netFrom : isClean (netFrom f p) ≡ true
+  pub isClean-netFrom : isClean (netFrom f p) ≡ true
   unfolding isClean hasBitPast netFrom
   isClean-netFrom =
       let k = width f - length p in
       rw (le-leb (length p) (width f) h, split (val p * 2 ^ k) 64, mul-mod-left (val p) (2 ^ k))
 
-  entryNet-entryOf : (i : ℕ) (xs ys : List ℕ) → length xs ≡ entryAt f i → entryNet f (xs ++ (entryOf f p ++ ys)) i ≡ netFrom f p
+  pub entryNet-entryOf : (i : ℕ) (xs ys : List ℕ) → length xs ≡ entryAt f i → entryNet f (xs ++ (entryOf f p ++ ys)) i ≡ netFrom f p
   unfolding entryNet entryOf netFrom
   entryNet-entryOf i xs ys e =
       let a = val p * 2 ^ (width f - length p) in

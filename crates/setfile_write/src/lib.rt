@@ -1,3 +1,3 @@
 // The file of a trie in words, as bytes. Each function asks in its contract what makes it safe.
 pub mod saving;
-mod writing;
+pub mod writing;

@@ -32,7 +32,7 @@ pub fn put_word(out: &mut [u8], at: usize, x: u64)
 }
 
 // Writes the entry of a network from the byte k on.
-fn put_at(out: &mut [u8], k: usize, x: Net)
+pub fn put_at(out: &mut [u8], k: usize, x: Net)
     requires { ⌜ Entry x × (k + entryBytes (x .family) ≤ length (now out)) ⌝ }
     ensures { λ _. ⌜ EntryPut (now (out .entry)) k x (now (out .exit)) ⌝ }
 {

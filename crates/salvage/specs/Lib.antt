@@ -1,0 +1,3 @@
+-- The call; then what the inner functions cite.
+pub mod Calls
+pub mod Parts

@@ -1,0 +1,2 @@
+-- What the steps of a batch ask and leave.
+pub mod Buffers
