@@ -61,6 +61,7 @@ uint64_t marlbrace_intersect(uint32_t *pool, size_t pool_len, uint32_t to, uint3
 uint64_t marlbrace_exclude(uint32_t *pool, size_t pool_len, uint32_t to, uint32_t first, uint32_t second);         /* simplified */
 uint64_t marlbrace_exclude_apart(uint32_t *pool, size_t pool_len, uint32_t to, uint32_t first, uint32_t second);   /* members left apart; with an empty second set: a copy */
 uint64_t marlbrace_replan(uint32_t *pool, size_t pool_len, uint32_t set, uint32_t share, uint32_t limit);
+uint64_t marlbrace_make_public(uint32_t *pool, size_t pool_len, uint32_t set);
 uint64_t marlbrace_load(uint32_t *pool, size_t pool_len, uint32_t set, const uint8_t *file, size_t file_len);
 /* Lines of text into set 0, up to the first that is refused: counts[0] is that line, or the one behind the last; counts[1] how many were trimmed. */
 uint64_t marlbrace_lines(uint32_t *pool, size_t pool_len, const uint8_t *text, size_t text_len, uint64_t counts[2]);
@@ -84,8 +85,10 @@ uint64_t marlbrace_save(const uint32_t *pool, size_t pool_len, uint32_t set, uin
  * the same, and 4 where the second is also the shortest list that does. */
 uint64_t marlbrace_compare(const uint8_t *first, size_t first_len, const uint8_t *second, size_t second_len, uint64_t row[3]);
 
-/* Text, without a pool. read_line: yes, the row, and the family as the value; write_line: the bytes as the value, no zero at their end. */
+/* Text, without a pool. read_line of IPv4, of IPv6 or of either: yes, the row, and the family as the value. write_line: the bytes as the value, no zero at their end. */
 uint64_t marlbrace_read_line(const uint8_t *line, size_t line_len, uint64_t row[3]);
+uint64_t marlbrace_read_line_6(const uint8_t *line, size_t line_len, uint64_t row[3]);
+uint64_t marlbrace_read_line_either(const uint8_t *line, size_t line_len, uint64_t row[3]);
 uint64_t marlbrace_write_line(uint8_t family, uint64_t hi, uint64_t lo, uint8_t len, uint8_t *out, size_t out_len);
 
 #ifdef __cplusplus

@@ -2,7 +2,7 @@
 use crate::exports::{compare, contains, list, load, save};
 use crate::files::{file, file_of};
 use crate::layout::{encode, held, Set, State, MARK};
-use crate::lists::{cleared, holds, past, supernet, width, List, Member};
+use crate::lists::{cleared, holds, meets_inner, past, supernet, width, List, Member};
 use crate::model::net;
 use crate::oracle::{ranges, Numbers};
 use crate::plan::Dice;
@@ -104,8 +104,8 @@ const NODES: u32 = 4_194_304;
 
 /// A pool of the most nodes with these lists, and empty sets up to four.
 fn pool(family: u8, lists: &[&List]) -> Vec<u32> {
-    let mut sets: Vec<Set> = lists.iter().map(|&l| Set { share: 0, limit: NODES, list: l.clone() }).collect();
-    sets.resize(4, Set { share: 0, limit: NODES, list: List::new() });
+    let mut sets: Vec<Set> = lists.iter().map(|&l| Set { share: 0, limit: NODES, public: false, list: l.clone() }).collect();
+    sets.resize(4, Set { share: 0, limit: NODES, public: false, list: List::new() });
     let mut w = vec![0u32; 64 + 8 * sets.len() + 8 * NODES as usize];
     w[..4].copy_from_slice(&[MARK, family as u32, sets.len() as u32, NODES]);
     for k in 0..sets.len() {
@@ -224,6 +224,36 @@ fn combinations<N: Numbers + Clone>(d: &mut Dice, family: u8, a: &List) {
     row("simplify", family, n, n, turns(ours, theirs));
 }
 
+/// What a mark costs: the same calls into a set that is public-only and into one that is not.
+fn marks(d: &mut Dice, family: u8, a: &List) {
+    let b = second(d, family, a);
+    let clear = |l: &List| l.iter().copied().filter(|&m| !meets_inner(family, &List::from([m]))).collect::<List>();
+    let (a, b) = (clear(a), clear(&b));
+    let one = net(family, *b.iter().next_back().unwrap());
+    for (public, said) in [(0, "not marked"), (1, "public-only")] {
+        let mut start = pool(family, &[&a, &b]);
+        (start[67], start[67 + 16]) = (public, public);
+        let mut p = start.clone();
+        let merge = turns(
+            || {
+                p.copy_from_slice(&start);
+                call(&mut p, &Call { a: 2, b: 0, c: 1, ..Call::new(MERGE) })
+            },
+            || 0.0,
+        );
+        let add = turns(
+            || {
+                p.copy_from_slice(&start);
+                call(&mut p, &Call { net: one.clone(), ..Call::new(ADD) })
+            },
+            || 0.0,
+        );
+        let n = a.len() + b.len();
+        println!("| merge, {said} | IPv{family} | {n} | {:.1} | {:.1} | | | |", merge.0.least * 1e9 / n as f64, merge.0.median * 1e9 / n as f64);
+        println!("| add, {said}, the whole call | IPv{family} | {n} | {:.0} | {:.0} | | | |", add.0.least * 1e9, add.0.median * 1e9);
+    }
+}
+
 /// The largest files: as many entries as a file may have, which no pool has nodes for, and the most that one can hold.
 fn files() {
     let most = NODES as usize;
@@ -305,6 +335,8 @@ pub fn main() -> bool {
     // two tables and their union have to fit the most nodes that a pool may have
     let half = table(d, 6, 100_000);
     combinations::<Ipv6Net>(d, 6, &half);
+    marks(d, 4, &four);
+    marks(d, 6, &half);
     for n in [20_000, 200_000, 2_000_000] {
         measure::<Ipv4Net>(d, 4, &(0..n).map(|k| (24, k << 8)).collect());
     }

@@ -175,7 +175,7 @@ pub fn damage(d: &mut Dice) -> Case {
                 if c.code == LAYOUT {
                     c = Call::new(FREE);
                 }
-                let changes = (ADD..=EXCLUDE_APART).contains(&c.code) || c.code == EXCLUDE || c.code == REPLAN || c.code == LOAD || c.code == LINES;
+                let changes = (ADD..=EXCLUDE_APART).contains(&c.code) || c.code == EXCLUDE || c.code == REPLAN || c.code == MAKE_PUBLIC || c.code == LOAD || c.code == LINES;
                 if !changes || x == old {
                     c.net.family = state.family;
                     case.calls.push(c);

@@ -19,6 +19,7 @@ extern "C" {
     fn marlbrace_exclude(pool: *mut u32, pool_len: usize, to: u32, first: u32, second: u32) -> u64;
     fn marlbrace_exclude_apart(pool: *mut u32, pool_len: usize, to: u32, first: u32, second: u32) -> u64;
     fn marlbrace_replan(pool: *mut u32, pool_len: usize, set: u32, share: u32, limit: u32) -> u64;
+    fn marlbrace_make_public(pool: *mut u32, pool_len: usize, set: u32) -> u64;
     fn marlbrace_load(pool: *mut u32, pool_len: usize, set: u32, file: *const u8, file_len: usize) -> u64;
     fn marlbrace_lines(pool: *mut u32, pool_len: usize, text: *const u8, text_len: usize, counts: *mut [u64; 2]) -> u64;
     fn marlbrace_contains(pool: *const u32, pool_len: usize, set: u32, family: u8, hi: u64, lo: u64, len: u8) -> u64;
@@ -88,6 +89,7 @@ fn answered(pool: &mut [u32], c: &Call) -> Option<(u64, Vec<u8>)> {
             EXCLUDE => marlbrace_exclude(w, m, c.a, c.b, c.c),
             EXCLUDE_APART => marlbrace_exclude_apart(w, m, c.a, c.b, c.c),
             REPLAN => marlbrace_replan(w, m, c.a, c.b, c.c),
+            MAKE_PUBLIC => marlbrace_make_public(w, m, c.a),
             EQUAL => marlbrace_equal(w, m, c.a, c.b),
             LIST => marlbrace_list(w, m, c.a, rows.as_mut_ptr(), rows.len()),
             RANGES => marlbrace_ranges(w, m, c.a, rows.as_mut_ptr(), rows.len()),

@@ -1,5 +1,5 @@
 //! The words of a pool, by docs/LAYOUT.md alone: what they hold, and what a state is written as.
-use crate::lists::{nodes, width, List};
+use crate::lists::{meets_inner, nodes, width, List};
 
 pub const MARK: u32 = 1296126540;
 
@@ -7,6 +7,7 @@ pub const MARK: u32 = 1296126540;
 pub struct Set {
     pub share: u32,
     pub limit: u32,
+    pub public: bool,
     pub list: List,
 }
 
@@ -70,7 +71,7 @@ pub fn decode(w: &[u32]) -> Option<State> {
     let mut state = State { family, nodes: nodes_, sets: vec![] };
     let (mut next, mut claimed) = (1u64, 0u64);
     for s in 0..sets {
-        let (root, share, limit) = (w[64 + 8 * s] as u64, w[65 + 8 * s], w[66 + 8 * s]);
+        let (root, share, limit, mark) = (w[64 + 8 * s] as u64, w[65 + 8 * s], w[66 + 8 * s], w[67 + 8 * s]);
         let mut list = List::new();
         let first = next;
         if root != 0 {
@@ -80,11 +81,11 @@ pub fn decode(w: &[u32]) -> Option<State> {
             next = r.trie(next, 0, 0, &mut list)?;
         }
         let held = next - first;
-        if share > limit || held > limit as u64 {
+        if share > limit || held > limit as u64 || mark > 1 || (mark == 1 && meets_inner(family, &list)) {
             return None;
         }
         claimed += held.max(share as u64);
-        state.sets.push(Set { share, limit, list });
+        state.sets.push(Set { share, limit, public: mark == 1, list });
     }
     if claimed > nodes_ as u64 {
         return None;
@@ -122,6 +123,7 @@ pub fn encode(w: &mut [u32], s: &State) {
         w[64 + 8 * k] = if members.is_empty() { 0 } else { words.len() as u32 + 1 };
         w[65 + 8 * k] = set.share;
         w[66 + 8 * k] = set.limit;
+        w[67 + 8 * k] = set.public as u32;
         if !members.is_empty() {
             encode_at(width(s.family), 0, &members, &mut words);
         }

@@ -24,6 +24,23 @@ pub fn holds(w: u8, m: Member, n: Member) -> bool {
     m.0 <= n.0 && cleared(w, m.0, n.1) == m.1
 }
 
+/// The inner networks of a family, as request M-112 lists them.
+pub fn inner(family: u8) -> Vec<Member> {
+    let four = ["10.0.0.0/8", "172.16.0.0/12", "192.168.0.0/16", "127.0.0.0/8", "169.254.0.0/16", "100.64.0.0/10"];
+    let six = ["::1/128", "fe80::/10", "::ffff:0:0/96", "fc00::/7"];
+    let parts = |s: &'static str| s.split_once('/').map(|(a, n)| (n.parse::<u8>().unwrap(), a)).unwrap();
+    match family {
+        4 => four.map(parts).iter().map(|(n, a)| (*n, u32::from(a.parse::<std::net::Ipv4Addr>().unwrap()) as u128)).collect(),
+        _ => six.map(parts).iter().map(|(n, a)| (*n, u128::from(a.parse::<std::net::Ipv6Addr>().unwrap()))).collect(),
+    }
+}
+
+/// A member and an inner network have an address in common.
+pub fn meets_inner(family: u8, l: &List) -> bool {
+    let w = width(family);
+    inner(family).iter().any(|&q| l.iter().any(|&m| holds(w, m, q) || holds(w, q, m)))
+}
+
 pub fn supernet(w: u8, l: &List, n: Member) -> Option<Member> {
     (0..=n.0).map(|k| (k, cleared(w, k, n.1))).find(|m| l.contains(m))
 }

@@ -1,4 +1,4 @@
-//! What each call has to answer and to leave, by document 01, requests M-101, M-102 and M-107, and docs/CALLS.md: refusals, room, limits, shares, reports, files, text, damaged memory.
+//! What each call has to answer and to leave, by document 01, requests M-101, M-102, M-105, M-107 and M-112, and docs/CALLS.md: refusals, room, limits, shares, reports, files, text, damaged memory.
 use crate::files::{file, read_file, read_lines};
 use crate::text6::{read_line6, text6};
 use crate::layout::{decode, encode, header, held, room, State};
@@ -108,6 +108,9 @@ fn change(w: &mut [u32], mut s: State, k: u32, no: u8, list: impl FnOnce(&State)
     }
     let l = list(&s);
     let n = lists::nodes(width(s.family), &l);
+    if s.sets[k].public && lists::meets_inner(s.family, &l) {
+        return Answer::refused(14);
+    }
     if n > s.sets[k].limit as u64 {
         return Answer::refused(9);
     }
@@ -140,6 +143,20 @@ fn replan(w: &mut [u32], mut s: State, c: &Call) -> Answer {
     }
     encode(w, &s);
     number(own as u32)
+}
+
+/// Set a becomes public-only, where it is empty.
+fn make_public(w: &mut [u32], mut s: State, c: &Call) -> Answer {
+    let k = c.a as usize;
+    if k >= s.sets.len() {
+        return Answer::refused(3);
+    }
+    if !s.sets[k].list.is_empty() {
+        return Answer::refused(8);
+    }
+    s.sets[k].public = true;
+    encode(w, &s);
+    number(0)
 }
 
 fn combine(w: &mut [u32], s: State, c: &Call, f: fn(u8, &List, &List) -> List) -> Answer {
@@ -433,6 +450,7 @@ pub fn apply(w: &mut [u32], c: &Call) -> Answer {
         EXCLUDE => combine(w, s, c, lists::exclude),
         EXCLUDE_APART => combine(w, s, c, lists::exclude_apart),
         REPLAN => replan(w, s, c),
+        MAKE_PUBLIC => make_public(w, s, c),
         EQUAL => {
             let j = c.b as usize;
             answered(if known && j < s.sets.len() { 0 } else { 3 }, || told(s.sets[k].list == s.sets[j].list))

@@ -135,6 +135,13 @@ impl Plan {
                 (len, d.pick(&[0, all, any, 1u128 << (w - 1), flipped, all ^ flipped]))
             }
         };
+        // now and then one around, beside or inside an inner network
+        if d.one_in(10) {
+            let (n, at) = d.pick(&lists::inner(self.family));
+            let len = d.pick(&[n, n.saturating_sub(1), (n + 1).min(w), w, n / 2]);
+            let at = d.pick(&[at, at | lists::past(w, n), at.wrapping_sub(1) & all, (at | lists::past(w, n)).wrapping_add(1) & all]);
+            return (len, cleared(w, len, at));
+        }
         (len, cleared(w, len, a))
     }
 
@@ -340,7 +347,7 @@ impl Plan {
             68..=72 => CONTAINS,
             73..=74 => IS_EMPTY,
             75..=77 => EQUAL,
-            78 => FREE,
+            78 => d.pick(&[FREE, MAKE_PUBLIC]),
             79..=80 => REPLAN,
             81 => HELD,
             82 => d.pick(&[PLAN, REPLAN, RANGES]),
@@ -362,6 +369,12 @@ impl Plan {
                     call.a = d.pick(&empty);
                 } else if !d.one_in(6) {
                     return Call { a, net: Net { family: self.family, ..Net::default() }, ..Call::new(REMOVE) };
+                }
+            }
+            MAKE_PUBLIC => {
+                let empty: Vec<u32> = (0..self.sets).filter(|&k| s.sets[k as usize].list.is_empty()).collect();
+                if !empty.is_empty() && !d.one_in(4) {
+                    call.a = d.pick(&empty);
                 }
             }
             REPLAN => {

@@ -54,6 +54,7 @@ pub const LAST: u8 = 23;
 pub const PAGE: u8 = 24;
 pub const EXCLUDE: u8 = 25;
 pub const REPLAN: u8 = 26;
+pub const MAKE_PUBLIC: u8 = 27;
 pub const RANGES: u8 = 28;
 pub const NEW: u8 = 32;
 pub const TO_NETWORK: u8 = 33;

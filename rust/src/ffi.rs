@@ -37,7 +37,7 @@ extern "C" {
     fn marlbrace_equal(pool: *const u32, pool_len: usize, first: u32, second: u32) -> u64;
     fn marlbrace_list(pool: *const u32, pool_len: usize, set: u32, rows: *mut u64, rows_len: usize) -> u64;
     fn marlbrace_save(pool: *const u32, pool_len: usize, set: u32, out: *mut u8, out_len: usize) -> u64;
-    fn marlbrace_read_line(line: *const u8, line_len: usize, row: *mut [u64; 3]) -> u64;
+    fn marlbrace_read_line_either(line: *const u8, line_len: usize, row: *mut [u64; 3]) -> u64;
     fn marlbrace_write_line(family: u8, hi: u64, lo: u64, len: u8, out: *mut u8, out_len: usize) -> u64;
 }
 
@@ -160,7 +160,7 @@ pub(crate) fn save(pool: &[u32], set: u32) -> Result<Vec<u8>, Refusal> {
 /// The network of a line, and whether a bit was cut.
 pub(crate) fn read_line(line: &[u8]) -> Result<(Row, bool), Refusal> {
     let mut row = [0; 3];
-    let a = granted(unsafe { marlbrace_read_line(line.as_ptr(), line.len(), &mut row) })?;
+    let a = granted(unsafe { marlbrace_read_line_either(line.as_ptr(), line.len(), &mut row) })?;
     Ok((row_of(a.value() as u8, &row), a.trimmed()))
 }
 

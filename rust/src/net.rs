@@ -144,10 +144,8 @@ impl FromStr for IpNet {
 impl fmt::Display for IpNet {
     fn fmt(&self, f: &mut fmt::Formatter) -> fmt::Result {
         let mut line = [0; LINE];
-        match self.write_line(&mut line) {
-            Ok(written) => f.pad(std::str::from_utf8(written).map_err(|_| fmt::Error)?),
-            Err(_) => write!(f, "{}/{}", self.addr, self.prefix_len),
-        }
+        let written = self.write_line(&mut line).map_err(|_| fmt::Error)?;
+        f.pad(std::str::from_utf8(written).map_err(|_| fmt::Error)?)
     }
 }
 

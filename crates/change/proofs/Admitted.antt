@@ -1,18 +1,14 @@
 -- What a set may have as far as its mark goes: a network is added exactly if it is clear itself, and what is left after removing or simplifying is clear as the set was. So
 -- neither of these two is ever refused as 14. Assumes nothing.
-use mathlib.Core.Path.{_≡_, refl, sym, ap, _∙_}
+use mathlib.Core.Path.{_≡_, refl, _∙_}
 use mathlib.Core.Bool.{Bool, true, false, not, _||_}
 use mathlib.Core.List.{List, [], _∷_}
-use Prim.Native.Nat.{ℕ, _<_}
-use native.Mathlib.Omega.{arith}
+use Prim.Native.Nat.{ℕ}
 use Rattle.nets.specs.Bits.{Bits}
 use Rattle.nets.specs.Lists.{addL, removeL, simplifyL}
-use Rattle.nets.specs.Networks.{netBits}
-use Rattle.nets.specs.declared.Net.{Net}
 use Rattle.inner_nets.specs.Inner.{isPublic}
 use Rattle.inner_nets.proofs.Public.{isPublic-add, isPublic-remove, isPublic-simplify}
-use Rattle.pool_state.specs.States.{SetState, State, admits, isState}
-use Rattle.pool_state.specs.Decode.{sound, decode}
+use Rattle.pool_state.specs.States.{State, admits, isState}
 use Rattle.pool_state.specs.Changes.{setAt, listAt}
 use Rattle.pool_state.proofs.Claims.{admits-listAt}
 

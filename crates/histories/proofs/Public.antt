@@ -1,7 +1,7 @@
 -- Public-only sets in histories. After every sequence of calls the list of such a set covers no address of an inner network, for good from the call on that made it one: no call
 -- takes the mark away, and 14 is given exactly where a result would overlap. Assumes nothing.
 use mathlib.Core.Path.{_≡_, refl, sym, ap, _∙_}
-use mathlib.Core.Bool.{Bool, true, false, not, cond, _||_}
+use mathlib.Core.Bool.{Bool, true, false, not, true≢false}
 use mathlib.Core.List.{List, [], _∷_}
 use Prim.Native.Nat.{ℕ, _*_, _<_, _^_}
 use native.Mathlib.Omega.{arith}
@@ -22,8 +22,9 @@ use Rattle.pool_state.specs.Decode.{sound, decode}
 use Rattle.pool_state.specs.Rules.{setup, emptyState}
 use Rattle.pool_state.specs.Changes.{setAt, listAt, withSet, fits, changeRules, planRules, markRules, relistRules, relistSet, netRules}
 use Rattle.pool_state.proofs.Claims.{admits-listAt}
+use Rattle.change.proofs.Admitted.{admits-remove, admits-simplify}
 use Rattle.combine.specs.Rules.{combineRules}
-use Rattle.histories.specs.Calls.{Relist, Call, add, merge, intersect, exclude, excludeApart, relist, replan, makePublic, writes, argsNo, resultOf, callNo, stateAfter, Outcome}
+use Rattle.histories.specs.Calls.{Relist, Call, add, remove, simplify, merge, intersect, exclude, excludeApart, relist, replan, makePublic, writes, argsNo, resultOf, callNo, stateAfter, Outcome}
 use Rattle.histories.specs.Histories.{stateFrom, answersFrom, History, step}
 use Rattle.histories.proofs.Step.{callNo-granting, stateAfter-own, stateAfter-public}
 use Rattle.histories.proofs.Histories.{stateFrom-numbers, history-sound, history-state, history-answer}
@@ -63,6 +64,14 @@ module _ {w : List ℕ} {S : State} (d : decode w ≡ sound S) where
         let e = n ∙ callNo-granting T c lt a in
         let (x, y) = granting-14 (admits (T .family) (setAt T (writes c)) l) (ltb (setAt T (writes c) .limit) (nodesL l)) (ltb (roomOf T (writes c)) (nodesL l)) in
         (λ q. e ∙ x q, λ q. y (sym e ∙ q))
+
+    -- removing and simplifying never get it: what is left is clear as the set was
+    pub remove-never : {u : List ℕ} {r : ℕ × ℕ} (k : ℕ) (n : Net) → Outcome v (relist (remove k n)) r u → k < length (stateFrom S cs .sets) → argsNo (remove k n) (stateFrom S cs) ≡ 0
+        → r .0 ≡ 14 → ⊥
+    remove-never k n o lt a q = true≢false (sym (admits-remove (stateFrom S cs) k (history-state d h) (netBits n)) ∙ public-exact (remove k n) o lt a .1 q)
+
+    pub simplify-never : {u : List ℕ} {r : ℕ × ℕ} (k : ℕ) → Outcome v (relist (simplify k)) r u → k < length (stateFrom S cs .sets) → r .0 ≡ 14 → ⊥
+    simplify-never k o lt q = true≢false (sym (admits-simplify (stateFrom S cs) k (history-state d h)) ∙ public-exact (simplify k) o lt refl .1 q)
 
     -- a set that is made public-only is one
     pub public-made : {u : List ℕ} {n : ℕ} (k : ℕ) → Outcome v (makePublic k) (0, n) u → setAt (stateFrom S (makePublic k ∷ cs)) k .public ≡ true

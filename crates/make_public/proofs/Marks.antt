@@ -1,9 +1,9 @@
 -- A law for each return of `make_public`, by the tests on the way to it. Assumes nothing.
 use mathlib.Core.Path.{_≡_, sym, _∙_}
-use mathlib.Core.List.{List, [], _∷_}
+use mathlib.Core.List.{List}
 use Prim.Native.Nat.{ℕ, _+_}
 use lib.ListN.{set}
-use Rattle.nets.specs.Refusals.{number, firstNo}
+use Rattle.nets.specs.Refusals.{number}
 use Rattle.nets.specs.declared.Refusal.{Refusal}
 use Rattle.nets.specs.declared.Refusal.the-variants.{Occupied}
 use Rattle.nets.proofs.Answers.{number-some}

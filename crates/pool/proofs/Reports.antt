@@ -1,12 +1,10 @@
 -- The reports by the tests of the code: each return is what the rule says of the decoded words, by what the survey has seen of them. Assumes nothing.
 use mathlib.Core.Path.{_≡_, ap, _∙_}
-use mathlib.Core.Bool.{true, false}
+use mathlib.Core.Bool.{false}
 use mathlib.Core.List.{List, []}
 use Prim.Native.Nat.{ℕ, _-_}
-use native.Mathlib.Omega.{arith}
 use lib.ListN.{length, getD, take, drop}
 use borrow.Author.Tests.{lt-leb}
-use Rattle.nets.specs.Networks.{width}
 use Rattle.nodes.specs.Words.{zeros, place}
 use Rattle.pool_state.specs.States.{State}
 use Rattle.pool_state.specs.Decode.{decode}

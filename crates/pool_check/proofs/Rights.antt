@@ -1,20 +1,20 @@
 -- The rules of one set, by the tests of the code: its limit, the word of its mark, and, where it is public-only, whether its trie is clear of the inner networks.
 -- Assumes nothing.
-use mathlib.Core.Path.{_≡_, refl, sym, ap, _∙_}
-use mathlib.Core.Bool.{Bool, true, false, not, cond, _&&_, _||_, false≢true}
-use mathlib.Core.List.{List, []}
-use Prim.Native.Nat.{ℕ, suc, _+_, _-_, _≤_, _<_}
+use mathlib.Core.Path.{_≡_, refl, sym, _∙_}
+use mathlib.Core.Bool.{Bool, true, false, not, cond, _&&_, _||_}
+use mathlib.Core.List.{List}
+use Prim.Native.Nat.{ℕ, _-_, _≤_}
 use native.Mathlib.Omega.{arith}
 use lib.Dec.{eqb, leb}
 use lib.ListN.{getD}
-use borrow.Author.Tests.{lt-leb, eq-eqb, ne-eqb, eqb-true, not-true, not-false}
+use borrow.Author.Tests.{lt-leb, eq-eqb, ne-eqb, not-true, not-false}
 use Rattle.nets.specs.Tries.{Trie, none, size, levels, listOf}
 use Rattle.nets.proofs.Nodes.{nodesL-listOf}
 use Rattle.inner_nets.specs.Inner.{isPublic}
 use Rattle.inner_nets.proofs.Public.{isPublic-nil}
-use Rattle.nodes.specs.Parse.{Room, Read, bad, ok, parse, Stands}
+use Rattle.nodes.specs.Parse.{Room, bad, ok, parse, Stands}
 use Rattle.nodes.proofs.Parsed.{stands}
-use Rattle.pool_state.specs.Decode.{recordAt, readSet, setOf, isRight}
+use Rattle.pool_state.specs.Decode.{recordAt, readSet, isRight}
 use Rattle.pool_state.specs.Rules.{shareIn, limitIn, publicIn}
 
 -- the mark of set s, whose trie is t, by its word

@@ -8,7 +8,6 @@ use native.Mathlib.Omega.{arith}
 use lib.Dec.{leb}
 use lib.ListN.{length, getD}
 use borrow.Author.Tests.{le-leb}
-use Rattle.nets.specs.Networks.{width}
 use Rattle.nodes.specs.Words.{put, Has}
 use Rattle.pool_state.specs.States.{SetState, State, held, claimed, isState}
 use Rattle.pool_state.specs.Decode.{mark, recordAt, base, leastWords, overRecords, nodeWords, over, damaged, sound, ReadSets, badSets, okSets, isHeader, readSets, judged, decode}

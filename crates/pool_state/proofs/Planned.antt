@@ -1,26 +1,17 @@
 -- Another share and limit for a set fit exactly where the request says so: the new share is at most the new limit, the nodes are, and the claims of all sets with the new
 -- share are at most the pool's nodes. Assumes nothing.
-use mathlib.Core.Path.{_≡_, refl, sym, ap, _∙_}
-use mathlib.Core.Bool.{Bool, true, _&&_}
-use mathlib.Core.List.{List, [], _∷_}
-use Prim.Native.Nat.{ℕ, zero, suc, _+_, _≤_, _<_}
-use native.Mathlib.Nat.{zero-add}
+use mathlib.Core.Path.{_≡_, ap}
+use mathlib.Core.Bool.{true, _&&_}
+use Prim.Native.Nat.{ℕ, _<_}
 use native.Mathlib.Omega.{arith}
 use lib.Dec.{leb}
-use lib.ListN.{length, getD}
+use lib.ListN.{length}
 use borrow.Author.Tests.{leb-true, le-leb}
 use Rattle.nets.proofs.Strings.{bool-iff}
-use Rattle.nodes.specs.Words.{put, Has}
-use Rattle.nodes.proofs.Put.{put-behind-at}
-use Rattle.nodes.proofs.Has.{has-put, has-front, has-at, has-same}
-use Rattle.pool_state.specs.States.{SetState, State, held, claim, claimed, claimedBut, roomOf, admits, isState}
-use Rattle.pool_state.specs.Decode.{recordAt, nodeWords, overRecords, over, sound, decode}
-use Rattle.pool_state.specs.Rules.{noSet}
-use Rattle.pool_state.specs.Changes.{setAt, setsWith, withSet, fits, planned}
+use Rattle.pool_state.specs.States.{SetState, State, held, claim, claimed, roomOf, admits, isState}
+use Rattle.pool_state.specs.Changes.{setsWith, withSet, fits}
 use Rattle.pool_state.proofs.Claims.{isState-claimed, claimedBut-is}
-use Rattle.pool_state.proofs.Holds.{Records, records-put}
-use Rattle.pool_state.proofs.Encoded.{decode-sound, records-same}
-use Rattle.pool_state.proofs.WithSet.{length-setsWith, claimed-setsWith}
+use Rattle.pool_state.proofs.WithSet.{claimed-setsWith}
 
 -- "the sum over all sets of the larger of share and held nodes, with the new share, is at most the pool's nodes"
 pub fits-sum : (S : State) (k : ℕ) (x : SetState) → isState S ≡ true → k < length (S .sets) → admits (S .family) x (x .list) ≡ true

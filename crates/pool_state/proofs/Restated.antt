@@ -1,21 +1,20 @@
 -- A set restated: another share, limit or mark, and the same list. That is a write over its record, and no other word. Assumes nothing.
 use mathlib.Core.Path.{_≡_, refl, sym, ap, _∙_}
 use mathlib.Core.List.{List, [], _∷_, _++_}
-use Prim.Native.Nat.{ℕ, zero, suc, _+_, _≤_, _<_}
+use Prim.Native.Nat.{ℕ, zero, suc, _+_, _<_}
 use native.Mathlib.Nat.{zero-add}
 use native.Mathlib.Omega.{arith}
 use lib.ListN.{length, getD}
-use Rattle.nets.specs.Bits.{digit}
 use Rattle.nets.specs.Lists.{nodesL}
 use Rattle.nets.specs.Tries.{trieOf}
 use Rattle.nodes.specs.Words.{put, Has, enc}
 use Rattle.nodes.proofs.Put.{put-behind-at}
 use Rattle.nodes.proofs.Has.{has-put, has-front, has-back, has-at, has-same}
 use Rattle.pool_state.specs.States.{SetState, State, held}
-use Rattle.pool_state.specs.Decode.{recordAt, base, rootAt, nodeWords, overRecords, over, sound, decode}
+use Rattle.pool_state.specs.Decode.{recordAt, nodeWords, overRecords, over, sound, decode}
 use Rattle.pool_state.specs.Rules.{noSet, startOf}
 use Rattle.pool_state.specs.Changes.{setAt, setsWith, withSet, planned, marked}
-use Rattle.pool_state.proofs.Holds.{recordOf, Records, records-put, length-nodeWords}
+use Rattle.pool_state.proofs.Holds.{recordOf, Records, records-put}
 use Rattle.pool_state.proofs.Encoded.{decode-sound, records-same}
 use Rattle.pool_state.proofs.Decoded.{decode-set}
 use Rattle.pool_state.proofs.WithSet.{length-setsWith}

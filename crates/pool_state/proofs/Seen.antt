@@ -8,7 +8,6 @@ use native.Mathlib.Omega.{arith}
 use lib.ListN.{length, getD, take, drop, length-append}
 use Rattle.nets.specs.Lists.{nodesL}
 use Rattle.nets.specs.Tries.{Trie, size, levels, listOf, trieOf}
-use Rattle.nets.specs.Networks.{width}
 use Rattle.nets.proofs.Nodes.{nodesL-empty}
 use Rattle.nodes.specs.Words.{Has, enc, place}
 use Rattle.pool_state.specs.States.{State, held, used, claimed, isState}

@@ -8,7 +8,7 @@ use pool_check::seats::seat_of;
 use pool_state::Seated;
 use pool_state::Survey;
 use setfile_build::build;
-use setfile_clear::file_is_clear;
+use setfile_clear::entries::file_is_clear;
 use setfile_order::Checked;
 use setfile_order::check;
 ghost use mathlib.Core.Path.{_≡_};

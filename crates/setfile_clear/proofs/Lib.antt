@@ -1,2 +1,2 @@
 -- Why: what is left of the entries settles whether the list of a file is clear.
-pub mod Entries
+pub mod Clearing

@@ -1,11 +1,10 @@
--- `file_is_clear` meets its contract. The loop's invariant: the entries that are left settle the answer. Assumes nothing.
-use mathlib.Core.Path.{_∙_}
+-- `entries::file_is_clear` meets its contract. The loop's invariant: the entries that are left settle the answer. Assumes nothing.
 use Prim.Native.Nat.{_-_}
 use native.Mathlib.Omega.{arith}
 use borrow.Author.Needs.{needs}
-use Rattle.setfile_clear.proofs.Entries.{Going, file-header, going-start, going-end, going-there, going-out, going-on}
-use Rattle.setfile_clear.proofs.file_is_clear.Statement.{statement}
-use Rattle.setfile_clear.proofs.file_is_clear.Tie as tie
+use Rattle.setfile_clear.proofs.Clearing.{Going, file-header, going-start, going-end, going-there, going-out, going-on}
+use Rattle.setfile_clear.proofs.entries.file_is_clear.Statement.{statement}
+use Rattle.setfile_clear.proofs.entries.file_is_clear.Tie as tie
 
 abbrev Inv-loop : tie.InvT-loop
 Inv-loop bytes family n i₀ i = Going bytes family n i
