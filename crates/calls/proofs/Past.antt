@@ -16,7 +16,7 @@ use Rattle.calls_bytes.specs.Tails.{wordsFrom, rowBytes}
 use Rattle.calls_bytes.specs.declared.Call.{Call}
 use Rattle.calls_bytes.proofs.Written.{length-u32, length-u64, length-reply}
 use Rattle.calls_tailed.specs.Tailed.{rowsOf}
-use Rattle.calls_tailed.proofs.Lent.{length-rowsOf, length-lineBytes, length-saveBytes}
+use Rattle.calls_tailed.proofs.Lent.{length-rowsOf, length-lineBytes, length-saveBytes, length-mendBytes}
 use Rattle.calls_kinds.specs.Kinds.{kindOf, asksBy, tailLength}
 use Rattle.calls_kinds.specs.declared.Kind.{Kind}
 use Rattle.calls_kinds.specs.declared.Kind.the-variants as kind
@@ -48,6 +48,7 @@ length-by kind.Lines w v s c = refl
 length-by kind.Compare w v s c = refl
 length-by kind.WriteWords w v s c = refl
 length-by kind.ReadWords w v s c = rw (length-rowBytes u32Bytes 4 length-u32 (wordsFrom w (c .a) (c .b)), length-wordsFrom w (c .a) (c .b))
+length-by kind.Salvage w v s c = length-mendBytes c s
 length-by kind.Unknown w v s c = refl
 
 pub length-tail : (w v s : List ℕ) (c : Call) → length (effectOf w v s c .tail) ≡ tailLength c

@@ -20,7 +20,7 @@ use Rattle.calls_changes.specs.Changes.{layoutOf, writeOf, changeOf}
 use Rattle.calls_reports.specs.Reports.{reportOf}
 use Rattle.calls_networks.specs.Networks.{networkOf}
 use Rattle.calls_tailed.specs.Reading.{loadOf, linesOf, compareOf}
-use Rattle.calls_tailed.specs.Tailed.{rowsOf, listReply, lineBytes, lineReply, saveBytes, saveReply}
+use Rattle.calls_tailed.specs.Tailed.{rowsOf, listReply, lineBytes, lineReply, saveBytes, saveReply, mendBytes, mendReply}
 
 pub record Effect : Type 0 where
   pub reply : Reply
@@ -48,6 +48,7 @@ effectBy kind.Lines w v s c = plain (linesOf w c s) v
 effectBy kind.Compare w v s c = plain (compareOf c s, w) v
 effectBy kind.WriteWords w v s c = plain (writeOf w c s) v
 effectBy kind.ReadWords w v s c = effect (noReply 0) (rowBytes u32Bytes (wordsFrom w (c .a) (c .b))) w v
+effectBy kind.Salvage w v s c = effect (mendReply c s) (mendBytes c s) w v
 effectBy kind.Unknown w v s c = plain (noReply 0, w) v
 
 unfoldable pub effectOf : List ℕ → List ℕ → List ℕ → Call → Effect

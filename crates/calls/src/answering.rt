@@ -39,6 +39,7 @@ pub fn answer(
         Kind::Compare => reading::compare(c, s),
         Kind::WriteWords => write(pool, c, s),
         Kind::ReadWords => tailed::words(pool, c, out, at),
+        Kind::Salvage => tailed::mend(c, s, out, at),
         Kind::Unknown => only(0),
     }
 }

@@ -77,6 +77,8 @@ pub const READ_LINE_6: u8 = 41;
 
 pub const READ_LINE_EITHER: u8 = 42;
 
+pub const SALVAGE: u8 = 43;
+
 pub const COMPARE: u8 = 44;
 
 pub const WRITE_WORDS: u8 = 48;

@@ -28,6 +28,7 @@ asksBy-most kind.Lines b = omega arith
 asksBy-most kind.Compare b = omega arith
 asksBy-most kind.WriteWords b = omega arith
 asksBy-most kind.ReadWords b = omega arith
+asksBy-most kind.Salvage b = omega arith
 asksBy-most kind.Unknown b = omega arith
 
 -- a call by what it asks for

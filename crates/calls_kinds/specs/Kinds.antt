@@ -41,6 +41,7 @@ table =
     ∷ codes 25 27 kind.Change
     ∷ code 28 kind.List
     ∷ codes 32 42 kind.Network
+    ∷ code 43 kind.Salvage
     ∷ code 44 kind.Compare
     ∷ code 48 kind.WriteWords
     ∷ code 49 kind.ReadWords
@@ -69,6 +70,7 @@ asksBy kind.Lines b = asks 0 0
 asksBy kind.Compare b = asks 0 0
 asksBy kind.WriteWords b = asks 0 0
 asksBy kind.ReadWords b = asks (4 * b) 0
+asksBy kind.Salvage b = asks b 0
 asksBy kind.Unknown b = record { known = false; bytes = 0; rows = 0 }
 
 abbrev pub asksOf : Call → Asks

@@ -21,6 +21,7 @@ pub enum Kind {
     Compare,
     WriteWords,
     ReadWords,
+    Salvage,
     Unknown,
 }
 
@@ -51,6 +52,7 @@ pub fn kind_of(code: u8) -> Kind
         table::EXCLUDE..=table::MAKE_PUBLIC => Kind::Change,
         table::RANGES => Kind::List,
         table::NEW..=table::READ_LINE_EITHER => Kind::Network,
+        table::SALVAGE => Kind::Salvage,
         table::COMPARE => Kind::Compare,
         table::WRITE_WORDS => Kind::WriteWords,
         table::READ_WORDS => Kind::ReadWords,
@@ -104,6 +106,7 @@ fn asks_by(kind: Kind, b: usize) -> Asks
         Kind::Compare => NOTHING,
         Kind::WriteWords => NOTHING,
         Kind::ReadWords => tail_of(4 * b),
+        Kind::Salvage => tail_of(b),
         Kind::Unknown => NO_CALL,
     }
 }

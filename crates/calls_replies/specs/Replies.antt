@@ -7,12 +7,13 @@
 --   enterReply, writeReply     a network with the report; one number with it, also of add and remove
 --   coverReply, containReply     a lookup: whether there is a member, the member, the nodes that were read, and the report
 --   comparedReply       of two files: the flag says that they differ, x is which answer it is, and the address is a network
+--   salvageReply        the counts of a salvage
 --   toldReply           the answers by a flag;  entryReply: one number, and an entry of a page
 --   changed w k rs f    a changing call on set k: its answer, and the words that it leaves;  relisted w k a f: one that gives it a list
 --   reporting n w k rs f     a changing call that takes the network n in: with the report, where it is granted;  relistedBy n w k f: one that gives set k a list
 use mathlib.Core.Bool.{Bool, false, cond, _&&_, _||_}
 use mathlib.Core.List.{List}
-use Prim.Native.Nat.{ℕ}
+use Prim.Native.Nat.{ℕ, _+_, _*_}
 use lib.Dec.{eqb}
 use Rattle.nets.specs.Bits.{Bits}
 use Rattle.nets.specs.Networks.{netWords, noNet, hasBitPast}
@@ -25,6 +26,7 @@ use Rattle.pool_state.specs.Rules.{toldAs}
 use Rattle.pool_state.specs.Changes.{changeRule, wordsAfter, relistRules, relistSet, netRules}
 use Rattle.pool_state.specs.declared.Told.{Told}
 use Rattle.lookup.specs.Rules.{Sought, Held}
+use Rattle.salvage.specs.declared.Counts.{Counts}
 use Rattle.calls_bytes.specs.declared.Reply.{Reply}
 
 abbrev pub reply : ℕ → Bool → ℕ → ℕ → Net → Reply
@@ -77,6 +79,10 @@ bitReply a = reply (a .0) (a .1 .0) (cond (a .1 .1 .0) 1 0) 0 (leftNet (a .1 .1 
 
 abbrev pub comparedReply : ℕ × (ℕ × Net) → Reply
 comparedReply a = reply (a .0) (eqb (a .1 .0) 1 || eqb (a .1 .0) 2) (a .1 .0) 0 (a .1 .1)
+
+-- bytes written, entries read, and in the words of the network those trimmed, and those dropped, for their length above and as covered below
+abbrev pub salvageReply : ℕ × Counts → Reply
+salvageReply a = reply (a .0) false (a .1 .bytes) (a .1 .read) (netWords 0 (a .1 .trimmed) (4294967296 * a .1 .long + a .1 .covered) 0)
 
 abbrev pub toldReply : Told → Reply
 toldReply t = flagReply (toldAs t)

@@ -9,8 +9,9 @@ ghost use Rattle.lookup.specs.Rules.{supernetAs, containsAs};
 ghost use Rattle.listing.specs.Calls.{followerAs};
 ghost use Rattle.text.specs.Answers.{writtenAs};
 ghost use Rattle.setfile_compare.specs.Comparing.{holderAs, comparedAs};
+ghost use Rattle.salvage.specs.Calls.{salvagedAs};
 ghost use Rattle.calls_replies.specs.Replies.{reply, noReply, oneReply, twoReply, flagReply, netReply, foundReply, reported, enterReply, writeReply, coverReply, containReply};
-ghost use Rattle.calls_replies.specs.Replies.{leftNet, bitsReply, bitReply, toldReply, entryReply, comparedReply};
+ghost use Rattle.calls_replies.specs.Replies.{leftNet, bitsReply, bitReply, toldReply, entryReply, comparedReply, salvageReply};
 use calls_bytes::Reply;
 use calls_bytes::records::flag_byte;
 use change::Noted;
@@ -27,6 +28,8 @@ use nets::Taken;
 use pool_state::Answer;
 use pool_state::Report;
 use pool_state::Told;
+use salvage::Counts;
+use salvage::Salvaged;
 use setfile_compare::Compared;
 use setfile_compare::Holder;
 use text::Written;
@@ -293,5 +296,32 @@ pub fn of_compared(a: Compared) -> Reply
         Compared::Longer => of_numbers(0, 3, 0),
         Compared::Shortest => of_numbers(0, 4, 0),
         Compared::Refused(no) => refused(no),
+    }
+}
+
+// The counts of a salvage.
+fn of_counts(c: Counts) -> Reply
+    ensures { λ r. ⌜ r ≡ salvageReply (0, c) ⌝ }
+{
+    Reply {
+        no: 0,
+        flag: false,
+        x: c.bytes,
+        y: c.read,
+        net: Net {
+            family: 0,
+            hi: c.trimmed as u64,
+            lo: 4294967296 * (c.long as u64) + c.covered as u64,
+            len: 0,
+        },
+    }
+}
+
+pub fn of_salvaged(a: Salvaged) -> Reply
+    ensures { λ r. ⌜ r ≡ salvageReply (salvagedAs a) ⌝ }
+{
+    match a {
+        Salvaged::File(c) => of_counts(c),
+        Salvaged::Refused(no) => refused(no),
     }
 }

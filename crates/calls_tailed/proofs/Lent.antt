@@ -3,12 +3,12 @@
 use mathlib.Core.Bool.{Bool, true, false, cond}
 use mathlib.Core.List.{List, [], _∷_, _++_}
 use mathlib.Core.Path.{_≡_, refl, sym, ap, _∙_}
-use Prim.Native.Nat.{ℕ, zero, suc, _+_, _%_, _≤_}
+use Prim.Native.Nat.{ℕ, zero, suc, _+_, _-_, _%_, _≤_}
 use native.Mathlib.Numerals.{add-one}
 use native.Mathlib.Omega.{arith}
 use lib.Dec.{eqb, leb}
 use lib.ListN.{length, getD, take, drop, replicate, length-replicate, length-append, length-drop}
-use lib.Seq.{drop-cons}
+use lib.Seq.{drop-cons, take-all}
 use borrow.Author.Tests.{eqb-true, eq-eqb, ne-eqb, leb-true}
 use Rattle.nets.specs.Networks.{hasBitPast}
 use Rattle.nets.specs.Refusals.{answered}
@@ -26,6 +26,10 @@ use Rattle.ranges.specs.Addresses.{rangeRows}
 use Rattle.rangelist.specs.Calls as ranges
 use Rattle.listing.specs.Calls.{listRules, rowsAfter, Listed}
 use Rattle.setfile.specs.Calls.{fileAt, saveRules, bytesAfter, Saved}
+use Rattle.salvage.specs.Calls.{savedOf, salvageRules, salvagedAs, salvageLeft, Salvages}
+use Rattle.salvage.specs.declared.Salvaged.{Salvaged}
+use Rattle.nets.specs.Refusals.{firstNo}
+use Rattle.nets.proofs.Strings.{cond-both}
 use Rattle.text.specs.Answers.{noneWritten, writtenAs, over}
 use Rattle.text_either.specs.Either.{lineEither, eitherRefusal, WroteEither}
 use Rattle.text_either.proofs.RoundTrip.{eitherRefusal-zero}
@@ -35,8 +39,8 @@ use Rattle.calls_bytes.specs.Tails.{wordsFrom, rowBytes}
 use Rattle.calls_bytes.specs.declared.Call.{Call}
 use Rattle.calls_bytes.specs.declared.Reply.{Reply}
 use Rattle.calls_bytes.proofs.Rows.{take-put}
-use Rattle.calls_replies.specs.Replies.{oneReply, writeReply}
-use Rattle.calls_tailed.specs.Tailed.{lentRows, asksRanges, rowsOf, listReply, lentBytes, lineBytes, lineReply, saveBytes, saveReply, RowsBy, Listing, Lining, Saving}
+use Rattle.calls_replies.specs.Replies.{oneReply, writeReply, salvageReply}
+use Rattle.calls_tailed.specs.Tailed.{lentRows, asksRanges, rowsOf, listReply, lentBytes, lineBytes, lineReply, saveBytes, saveReply, mendBytes, mendReply, RowsBy, Listing, Lining, Saving, Mending}
 
 pub splice : (w : List ℕ) (p k : ℕ) (ys : List ℕ) → length ys ≡ k → p + k ≤ length w → take p w ++ (ys ++ drop k (drop p w)) ≡ put w p ys
 unfolding put
@@ -120,6 +124,13 @@ module _ (c : Call) (o o₁ : List ℕ) (at k : ℕ) (fits : at + c .b ≤ lengt
   saving-is {new = new} m s g =
       record { reply = g ∙ ap oneReply (s .answer ∙ rw (lent-is, length-lent)); tail = back-is new m ∙ ap (put o at) (s .bytes ∙ rw lent-is) }
 
+  pub mending-is : (s : List ℕ) {new : List ℕ} {a : Salvaged} {r : Reply} → length new ≡ length (take k (drop at o₁)) → Salvages (take (length s - 35) (drop 35 s)) (take k (drop at o₁)) a new → r ≡ salvageReply (salvagedAs a)
+      → Mending c s o at r (take at o₁ ++ (new ++ drop k (drop at o₁)))
+  unfolding mendBytes mendReply
+  mending-is s {new} m i g =
+      let l = rw (take-all (length s - 35) (drop 35 s) (omega (arith, length-drop 35 s))) at i in
+      record { reply = g ∙ ap salvageReply (l .answer ∙ rw (lent-is, length-lent)); tail = back-is new m ∙ ap (put o at) (l .bytes ∙ rw lent-is) }
+
 -- a tail has as many numbers or bytes as the call asks for
 pub length-rowsOf : (w : List ℕ) (c : Call) → length (rowsOf w c) ≡ c .b
 unfolding rowsOf
@@ -142,3 +153,10 @@ unfolding lineBytes
 length-lineBytes c =
     let n : length (replicate (c .b) (c .c % 256)) ≡ c .b = length-replicate (c .b) (c .c % 256) in
     length-line (eqb (eitherRefusal (c .net) (c .b)) 0) (lineEither (c .net)) (replicate (c .b) (c .c % 256)) (λ e. rw n (eitherRefusal-zero (c .net) (c .b) (eqb-true _ _ e) .1)) ∙ n
+
+pub length-mendBytes : (c : Call) (s : List ℕ) → length (mendBytes c s) ≡ c .b
+unfolding mendBytes salvageLeft
+length-mendBytes c s =
+    let n : length (lentBytes c) ≡ c .b = length-replicate (c .b) (c .c % 256) in
+    cond-both (λ u. length u ≡ c .b) (eqb (firstNo (salvageRules (drop 35 s) (length (lentBytes c)))) 0) (put (lentBytes c) 0 (savedOf (drop 35 s))) (lentBytes c)
+    (length-put (lentBytes c) 0 (savedOf (drop 35 s)) ∙ n) n

@@ -6,15 +6,17 @@ ghost use Rattle.nodes.specs.Words.{put};
 ghost use Rattle.calls_bytes.specs.Bytes.{u32Bytes};
 ghost use Rattle.calls_bytes.specs.Tails.{wordsFrom, rowBytes};
 ghost use Rattle.calls_replies.specs.Replies.{noReply};
-ghost use Rattle.calls_tailed.specs.Tailed.{lentBytes, RowsBy, Listing, Lining, Saving};
+ghost use Rattle.calls_tailed.specs.Tailed.{lentBytes, RowsBy, Listing, Lining, Saving, Mending};
 use calls_bytes::Call;
 use calls_bytes::Reply;
+use calls_bytes::records::CALL;
 use calls_bytes::table;
 use calls_bytes::tails::fill_bytes;
 use calls_bytes::tails::fill_rows;
 use calls_bytes::tails::put_rows;
 use calls_bytes::tails::put_words;
 use calls_replies::of_answer;
+use calls_replies::of_salvaged;
 use calls_replies::of_written;
 use calls_replies::only;
 use pool_state::Answer;
@@ -67,6 +69,16 @@ pub fn save(pool: &[u32], c: Call, out: &mut [u8], at: usize) -> Reply
     fill(out, at, c);
     let end = at + c.b as usize;
     of_answer(setfile::save(pool, c.a, &mut out[at..end]))
+}
+
+// The right file of what is left of the file in the tail, in bytes that were all c before.
+pub fn mend(c: Call, s: &[u8], out: &mut [u8], at: usize) -> Reply
+    requires { ⌜ (35 ≤ length (now s)) × (at + c .b ≤ length (now out)) ⌝ }
+    ensures { λ r. ⌜ Mending c (now (s .entry)) (now (out .entry)) at r (now (out .exit)) ⌝ }
+{
+    fill(out, at, c);
+    let end = at + c.b as usize;
+    of_salvaged(salvage::salvage(&s[CALL..], &mut out[at..end]))
 }
 
 // The words of the pool from number a on.

@@ -24,18 +24,19 @@ kind-of-spec =
     (λ c. rw (c .match .keys11))
     (λ c. rw (c .match .keys12))
     (λ c. rw (c .match .keys13))
+    (λ c. rw (c .match .keys14))
     (λ c.
     let m = c .before .before in
     let r = m .match .rest in
-    kindOf-from 2 8 (m .before .args .code) refl (beyond (c .before .if1 .left) (r .0 .0 .0 .0 .0 .0 .0 .0 .0 .0 .0 .0 .1)) (c .if2 .taken))
+    kindOf-from 2 8 (m .before .args .code) refl (beyond (c .before .if1 .left) (r .0 .0 .0 .0 .0 .0 .0 .0 .0 .0 .0 .0 .0 .1)) (c .if2 .taken))
     (λ c. kindOf-from 8 14 (c .before .before .before .before .args .code) refl (c .before .if2 .left) (c .if3 .taken))
     (λ c.
     let m = c .before .before .before .before in
     let r = m .match .rest in
-    let a = beyond (beyond (c .before .if3 .left) (r .0 .0 .0 .0 .0 .0 .0 .0 .0 .0 .0 .1)) (r .0 .0 .0 .0 .0 .0 .0 .0 .0 .0 .1) in
-    let b = beyond (beyond a (r .0 .0 .0 .0 .0 .0 .0 .0 .0 .1)) (r .0 .0 .0 .0 .0 .0 .0 .0 .1) in
-    let d = beyond (beyond b (r .0 .0 .0 .0 .0 .0 .0 .1)) (r .0 .0 .0 .0 .0 .0 .1) in
-    let e = beyond (beyond d (r .0 .0 .0 .0 .0 .1)) (r .0 .0 .0 .0 .1) in
+    let a = beyond (beyond (c .before .if3 .left) (r .0 .0 .0 .0 .0 .0 .0 .0 .0 .0 .0 .0 .1)) (r .0 .0 .0 .0 .0 .0 .0 .0 .0 .0 .0 .1) in
+    let b = beyond (beyond a (r .0 .0 .0 .0 .0 .0 .0 .0 .0 .0 .1)) (r .0 .0 .0 .0 .0 .0 .0 .0 .0 .1) in
+    let d = beyond (beyond b (r .0 .0 .0 .0 .0 .0 .0 .0 .1)) (r .0 .0 .0 .0 .0 .0 .0 .1) in
+    let e = beyond (beyond d (r .0 .0 .0 .0 .0 .0 .1)) (r .0 .0 .0 .0 .0 .1) in
     kindOf-from 22 25 (m .before .args .code) refl e (c .if4 .taken))
     (λ c. kindOf-from 25 28 (c .before .before .before .before .before .before .args .code) refl (c .before .if4 .left) (c .if5 .taken))
     (λ c. kindOf-from 32 43 (c .before .before .before .before .before .before .before .before .args .code) refl (c .before .if6 .left) (c .if7 .taken))
@@ -43,11 +44,10 @@ kind-of-spec =
     (λ c.
     let m = c .before .before .before .before .before .before in
     let r = m .match .rest in
-    kindOf-from 29 32 (m .before .args .code) refl (beyond (c .before .if5 .left) (r .0 .0 .0 .1)) (c .if6 .taken))
+    kindOf-from 29 32 (m .before .args .code) refl (beyond (c .before .if5 .left) (r .0 .0 .0 .0 .1)) (c .if6 .taken))
     (λ c.
     let m = c .before .before .before .before .before .before .before in
     let r = m .match .rest in
     let k = m .before .args .code in
-    below-or 44 k (λ h. kindOf-from 43 44 k refl (c .if7 .left) h)
-    (λ h. below-or 48 k (λ i. kindOf-from 45 48 k refl (beyond h (r .0 .0 .1)) i)
-    (λ i. kindOf-from 50 256 k refl (beyond (beyond i (r .0 .1)) (r .1)) (m .before .fits .code .fits)))))
+    let h = beyond (beyond (c .if7 .left) (r .0 .0 .0 .1)) (r .0 .0 .1) in
+    below-or 48 k (λ i. kindOf-from 45 48 k refl h i) (λ i. kindOf-from 50 256 k refl (beyond (beyond i (r .0 .1)) (r .1)) (m .before .fits .code .fits))))

@@ -85,6 +85,12 @@ answer-spec =
     let q = asked (t .before .before) (t .enum-told12 .given .1) in
     omega (arith, s .pre .room, ap (λ (x : Asks). x .bytes) q))
     (λ c. search needs)
+    (λ c κs.
+    let t = c .before in
+    let s = t .before .before .before .before .before .before .before in
+    let q = asked (t .before .before) (t .enum-told13 .given .1) in
+    (s .pre .call, omega (arith, s .pre .room, ap (λ (x : Asks). x .bytes) q)))
+    (λ c. search needs)
     (λ c κs. search needs)
     (λ c. search needs)
     (λ c. let l = c .before .before in let t = l .before .before in plainly (t .before .before) (t .enum-told .given .1) refl (l .lay .ensures))
@@ -112,4 +118,6 @@ answer-spec =
     (λ c. search needs)
     (λ c. search needs)
     (λ c. let l = c .before .before in let t = l .before .before .before in tailing (t .before .before) (t .enum-told12 .given .1) refl (l .words .ensures .0) refl (l .words .ensures .1))
-    (λ c. let t = c .before in telling (t .before .before) (t .enum-told13 .given .1) refl (c .only .ensures)))
+    (λ c. search needs)
+    (λ c. let l = c .before .before in let t = l .before .before in tailing (t .before .before) (t .enum-told13 .given .1) refl (l .mend .ensures .reply) refl (l .mend .ensures .tail))
+    (λ c. let t = c .before in telling (t .before .before) (t .enum-told14 .given .1) refl (c .only .ensures)))
