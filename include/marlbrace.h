@@ -85,9 +85,9 @@ uint64_t marlbrace_save(const uint32_t *pool, size_t pool_len, uint32_t set, uin
  * the same, and 4 where the second is also the shortest list that does. */
 uint64_t marlbrace_compare(const uint8_t *first, size_t first_len, const uint8_t *second, size_t second_len, uint64_t row[3]);
 
-/* Text, without a pool. read_line of IPv4, of IPv6 or of either: yes, the row, and the family as the value. write_line: the bytes as the value, no zero at their end. */
+/* Text, without a pool. read_line, of IPv4, _six, of IPv6, and _either: yes, the row, and the family as the value; write_line, of either: the bytes as the value, no zero at their end. */
 uint64_t marlbrace_read_line(const uint8_t *line, size_t line_len, uint64_t row[3]);
-uint64_t marlbrace_read_line_6(const uint8_t *line, size_t line_len, uint64_t row[3]);
+uint64_t marlbrace_read_line_six(const uint8_t *line, size_t line_len, uint64_t row[3]);
 uint64_t marlbrace_read_line_either(const uint8_t *line, size_t line_len, uint64_t row[3]);
 uint64_t marlbrace_write_line(uint8_t family, uint64_t hi, uint64_t lo, uint8_t len, uint8_t *out, size_t out_len);
 

@@ -35,7 +35,7 @@ extern "C" {
     fn marlbrace_save(pool: *const u32, pool_len: usize, set: u32, out: *mut u8, out_len: usize) -> u64;
     fn marlbrace_compare(first: *const u8, first_len: usize, second: *const u8, second_len: usize, row: *mut [u64; 3]) -> u64;
     fn marlbrace_read_line(line: *const u8, line_len: usize, row: *mut [u64; 3]) -> u64;
-    fn marlbrace_read_line_6(line: *const u8, line_len: usize, row: *mut [u64; 3]) -> u64;
+    fn marlbrace_read_line_six(line: *const u8, line_len: usize, row: *mut [u64; 3]) -> u64;
     fn marlbrace_read_line_either(line: *const u8, line_len: usize, row: *mut [u64; 3]) -> u64;
     fn marlbrace_write_line(family: u8, hi: u64, lo: u64, len: u8, out: *mut u8, out_len: usize) -> u64;
 }
@@ -105,7 +105,7 @@ fn answered(pool: &mut [u32], c: &Call) -> Option<(u64, Vec<u8>)> {
                 marlbrace_compare(first.as_ptr(), first.len(), second.as_ptr(), second.len(), &mut row)
             }
             READ_LINE => marlbrace_read_line(c.tail.as_ptr(), c.tail.len(), &mut row),
-            READ_LINE_6 => marlbrace_read_line_6(c.tail.as_ptr(), c.tail.len(), &mut row),
+            READ_LINE_6 => marlbrace_read_line_six(c.tail.as_ptr(), c.tail.len(), &mut row),
             READ_LINE_EITHER => marlbrace_read_line_either(c.tail.as_ptr(), c.tail.len(), &mut row),
             WRITE_LINE => marlbrace_write_line(n.family, n.hi, n.lo, n.len, bytes.as_mut_ptr(), bytes.len()),
             _ => return None,

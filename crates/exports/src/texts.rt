@@ -24,7 +24,7 @@ pub extern "C" fn marlbrace_read_line(line: &[u8], row: &mut [u64; 3]) -> u64
 
 // Reads a line of an IPv6 network, likewise.
 #[no_mangle]
-pub extern "C" fn marlbrace_read_line_6(line: &[u8], row: &mut [u64; 3]) -> u64
+pub extern "C" fn marlbrace_read_line_six(line: &[u8], row: &mut [u64; 3]) -> u64
     ensures { λ r. ⌜ WithRow (lineReply (enterReply (enteredLine6 (now (line .entry))))) r (now (row .entry)) (now (row .exit)) ⌝ }
 {
     let a = of_line(of_entered(text_ipv6_read::read_line(line)));

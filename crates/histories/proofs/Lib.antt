@@ -5,6 +5,7 @@ pub mod TwoHistories
 pub mod Readings
 pub mod TwoReadings
 pub mod Public
+pub mod InnerTexts
 pub mod MergeOrder
 pub mod Contracts
 pub mod Lines

@@ -1,40 +1,35 @@
-// An address on standard output: four decimal numbers, or eight groups of hexadecimal digits.
+// An address on standard output, in the text of its family: the line of the network of that address alone, up to its slash.
 use libc::STDOUT_FILENO;
 use nets::IPV4;
 use nets::Net;
+use text::Written;
 
-// A decimal number with a dot behind it.
-fn number(n: u64) -> bool {
-    io::print_decimal(STDOUT_FILENO, n % 256) && io::write_all(STDOUT_FILENO, b".")
+// More bytes than any line has.
+const LINE: usize = 64;
+
+// What follows the address in the line: the slash and 32, or the slash and 128.
+fn behind(family: u8) -> usize {
+    if family == IPV4 { 3 } else { 4 }
 }
 
-// A group with a colon behind it.
-fn group(n: u64) -> bool {
-    io::print_hex(STDOUT_FILENO, n % 65536, 1) && io::write_all(STDOUT_FILENO, b":")
-}
-
-fn dotted(lo: u64) -> bool {
-    if !(number(lo >> 24) && number(lo >> 16) && number(lo >> 8)) {
+// The first bytes of a line, without those behind the address.
+fn print_first(line: &[u8], n: usize, cut: usize) -> bool {
+    if n < cut {
         return false;
     }
-    io::print_decimal(STDOUT_FILENO, lo % 256)
-}
-
-// The four groups of a word.
-fn groups(word: u64) -> bool {
-    if !(group(word >> 48) && group(word >> 32) && group(word >> 16)) {
+    let end = n - cut;
+    if line.len() < end {
         return false;
     }
-    io::print_hex(STDOUT_FILENO, word % 65536, 1)
+    io::write_all(STDOUT_FILENO, &line[..end])
 }
 
 // The address of a network. Whether it was written.
 pub fn print(net: Net) -> bool {
-    if net.family == IPV4 {
-        return dotted(net.lo);
+    let mut line = [0u8; LINE];
+    let written = text_either::write_line(net, &mut line);
+    match written {
+        Written::Bytes(n, _) => print_first(&line, n as usize, behind(net.family)),
+        Written::Refused(_) => false,
     }
-    if !groups(net.hi) {
-        return false;
-    }
-    io::write_all(STDOUT_FILENO, b":") && groups(net.lo)
 }
