@@ -33,7 +33,7 @@ kept-leads l p e = ⊎-elim (λ h. anyOf-in (leads p) p l h (leads-refl p)) bran
   where
     branch : isBranch l p ≡ true → leadsAny p l ≡ true
     branch h =
-        let m = anyOf-out (leads (snoc p false)) l (and-left (leadsAny (snoc p false) l) (leadsAny (snoc p true) l) h) in
+        let m = anyOf-out (leads (snoc p false)) l (and-left (leadsAny (snoc p false) l) _ h) in
         anyOf-in (leads p) (m .0) l (m .1) (leads-snoc p false (m .0) (m .2))
 
 -- the kept strings are in order, so each is there once, and they are just the members and branch points

@@ -1,0 +1,1 @@
+// Tries in the second form: only members and branch points.
