@@ -94,9 +94,12 @@ module _ {f : ℕ} {w : List ℕ} {b i d : ℕ} {s : Bits} (h : Says f w b i s d
   pub dist-is : distAt f w b i ≡ d
   dist-is = rw (has-head words) (omega (arith, few))
 
+  pub net-is : netAt f w b i ≡ netFrom f s
+  net-is = rw len-is (found-is f s (h .short) (has-tail words))
+
   pub string-is : stringAt f w b i ≡ s
   unfolding stringAt
-  string-is = rw (len-is, found-is f s (h .short) (has-tail words)) (netBits-netFrom f s (h .short))
+  string-is = rw net-is (netBits-netFrom f s (h .short))
 
   pub is-node : isNode f w b i ≡ true
   unfolding isNode

@@ -1,0 +1,2 @@
+-- What a turn of the check speaks of.
+pub mod Turns

@@ -1,0 +1,2 @@
+-- What reading a node gives and asks for.
+pub mod NodeStrings

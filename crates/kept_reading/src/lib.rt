@@ -1,0 +1,3 @@
+// Reading a node of the second form, and comparing the strings of nodes.
+pub mod reading;
+pub mod strings;
