@@ -7,7 +7,7 @@ ghost use lib.Dec.{eqb};
 ghost use Rattle.nets.specs.Networks.{width};
 ghost use Rattle.kept_nodes.specs.Parse.{KeptRoom, distAt, fits, keptParse, keptAfter};
 ghost use Rattle.kept_check.specs.Turns.{below, Above};
-use kept_reading::reading::head;
+use kept_reading::reading::distance;
 use kept_reading::reading::is_node;
 use kept_reading::reading::net_at;
 use kept_reading::strings::extends;
@@ -27,15 +27,6 @@ fn node_fits(w: &[u32], family: u8, b: usize, n: u32, up: u32, bit: bool, i: u32
         return true;
     }
     extends(net_at(w, family, b, n, up), bit, net_at(w, family, b, n, i))
-}
-
-// The distance from node i to its second child, 0 where it has none.
-fn distance(w: &[u32], family: u8, b: usize, n: u32, i: u32) -> u32
-    requires { ⌜ KeptRoom family (now w) b n ⌝ }
-    requires { ⌜ (1 ≤ i) × (i ≤ n) ⌝ }
-    ensures { λ r. ⌜ (r ≡ distAt family (now (w .entry)) b i) × (r < 16777216) ⌝ }
-{
-    head(w, family, b, n, i) / 256
 }
 
 // The stack pointer after a node: one down after a member, one up after a branch point.

@@ -37,7 +37,7 @@ prefix-free f p t u x y dt du nt nu e =
     let same : t ≡ u = unique (omega arith) nt nu (start-of f n p t x dt (omega arith)) (rw (← e) at (start-of f n p u y du (omega arith))) in (
       same,
       sym (drop-at (keptEnc f p t) x (stride f * keptSize t) (length-keptEnc f p t)) ∙ ap (drop (stride f * keptSize t)) e
-      ∙ rw same (drop-at (keptEnc f p u) y (stride f * keptSize u) (length-keptEnc f p u)),
+          ∙ rw same (drop-at (keptEnc f p u) y (stride f * keptSize u) (length-keptEnc f p u)),
     )
 
 -- the check's answer r as a fact of the words alone: no 0 says which trie stands there, and 0 that none does

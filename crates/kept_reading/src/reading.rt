@@ -1,8 +1,8 @@
 // Nodes of the second form in the pool's words: the head, the string as a network, and whether the words are those of a node. Node numbers are 1..=n, 0 is no node.
 ghost use mathlib.Core.Path.{_≡_};
-ghost use Prim.Native.Nat.{_+_, _-_, _*_, _%_, _^_, _≤_, _<_};
-ghost use lib.ListN.{length, getD};
-ghost use Rattle.kept_nodes.specs.Parse.{KeptRoom, headAt, pairAt, netFound, isNode};
+ghost use Prim.Native.Nat.{_+_, _*_, _^_, _≤_, _<_};
+ghost use lib.ListN.{length};
+ghost use Rattle.kept_nodes.specs.Parse.{KeptRoom, headAt, distAt, isNode};
 ghost use Rattle.kept_reading.specs.NodeStrings.{ReadAs, FoundAs};
 use nets::IPV4;
 use nets::Net;
@@ -10,7 +10,7 @@ use nets::families::width;
 use nets::has_bit_past;
 
 // The first word of node i: the length of its string, and 256 times the distance to its second child.
-pub fn head(w: &[u32], family: u8, b: usize, n: u32, i: u32) -> u32
+fn head(w: &[u32], family: u8, b: usize, n: u32, i: u32) -> u32
     requires { ⌜ KeptRoom family (now w) b n ⌝ }
     requires { ⌜ (1 ≤ i) × (i ≤ n) ⌝ }
     ensures { λ r. ⌜ r ≡ headAt family (now (w .entry)) b i ⌝ }
@@ -20,6 +20,15 @@ pub fn head(w: &[u32], family: u8, b: usize, n: u32, i: u32) -> u32
         return w[b + 2 * (k - 1)];
     }
     w[b + 5 * (k - 1)]
+}
+
+// The distance from node i to its second child, 0 where it has none.
+pub fn distance(w: &[u32], family: u8, b: usize, n: u32, i: u32) -> u32
+    requires { ⌜ KeptRoom family (now w) b n ⌝ }
+    requires { ⌜ (1 ≤ i) × (i ≤ n) ⌝ }
+    ensures { λ r. ⌜ (r ≡ distAt family (now (w .entry)) b i) × (r < 16777216) ⌝ }
+{
+    head(w, family, b, n, i) / 256
 }
 
 fn wide(x: u32) -> u64

@@ -18,8 +18,8 @@ node-fits-spec =
     (λ c κs. let a = c .before .before .before .before in (a .before .pre .0, (omega (arith, c .if3 .left), a .before .pre .1 .1 .within)))
     (λ c κs. search needs)
     (λ c κs. let d = c .before .before in
-        let a = d .before .before .before .before in
-        both-read (a .before .pre .0) (a .before .pre .1 .1) (d .if3 .left) (sym (d .before .before .is-node .ensures) ∙ not-false _ (d .before .if2 .left)) (c .before .net-at .ensures) (c .net-at2 .ensures))
+    let a = d .before .before .before .before in
+    both-read (a .before .pre .0) (a .before .pre .1 .1) (d .if3 .left) (sym (d .before .before .is-node .ensures) ∙ not-false _ (d .before .if2 .left)) (c .before .net-at .ensures) (c .net-at2 .ensures))
     (λ c. let d = c .before .before .before in
-        let a = d .before .before .before .before in
-        read-child (a .before .pre .0) (a .before .pre .1 .1) (d .if3 .left) (sym (d .before .before .is-node .ensures) ∙ not-false _ (d .before .if2 .left)) (c .before .before .net-at .ensures) (c .before .net-at2 .ensures) _ _ (d .before .before .before .if1 .left) (c .extends .ensures)))
+    let a = d .before .before .before .before in
+    read-child (a .before .pre .0) (a .before .pre .1 .1) (d .if3 .left) (sym (d .before .before .is-node .ensures) ∙ not-false _ (d .before .if2 .left)) (c .before .before .net-at .ensures) (c .before .net-at2 .ensures) _ _ (d .before .before .before .if1 .left) (c .extends .ensures)))

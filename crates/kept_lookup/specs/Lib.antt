@@ -1,0 +1,2 @@
+-- The walk of a lookup in the second form.
+pub mod Walks
