@@ -30,6 +30,7 @@ use Rattle.branch_points.proofs.Steps.{keptStepsT-listOf, keptStepsL-empty}
 use Rattle.kept_nodes.specs.Parse.{lenAt, distAt, stringAt, KeptStands}
 use Rattle.kept_nodes.proofs.NodeWords.{Says, len-is, dist-is, string-is}
 use Rattle.kept_nodes.proofs.Parsed.{Split, leaf-says, branch-split, fork-stands}
+use Rattle.kept_nodes.proofs.Heads.{Head, head-of}
 use Rattle.kept_lookup.specs.Walks.{onWay, keptWalk, keptWalkFrom, shownAs}
 use Rattle.kept_lookup.specs.declared.Shown.{Shown}
 use Rattle.kept_lookup.specs.declared.Shown.the-variants.{Member, Nothing, Damaged}
@@ -74,30 +75,7 @@ module _ (f : ℕ) (w : List ℕ) (b n m i : ℕ) (q : Bits) (c : ℕ) (near : i
   walk-turn zero nz = absurd (nz refl)
   walk-turn (suc g) nz = rw (sub-one (suc g), le-leb (i + distAt f w b i) n near, le-leb m (lenAt f w b i) grown)
 
--- The first node of a trie that stands below p: its numbers are nodes', and its string begins with p.
-record Head (f : ℕ) (w : List ℕ) (b n : ℕ) (p : Bits) (i : ℕ) : Type 0 where
-  pub near : i + distAt f w b i ≤ n
-  pub begins : leads p (stringAt f w b i) ≡ true
-  pub len : lenAt f w b i ≡ length (stringAt f w b i)
-
 module _ (f : ℕ) (w : List ℕ) (b n : ℕ) where
-  says-head : {p : Bits} {i d : ℕ} → i + d ≤ n → Says f w b i p d → Head f w b n p i
-  says-head {p} {i} {d} le s = record { near = rw (dist-is s) le; begins = rw (string-is s) (leads-refl p); len = rw (string-is s) (len-is s) }
-
-  head-of : (t : Trie) (p : Bits) (i : ℕ) → 1 ≤ i → (t ≡ none → ⊥) → KeptStands f w b n p i t → Head f w b n p i
-  unfolding keptSize
-  head-of none p i pos ne s = absurd (ne refl)
-  head-of (node none none) p i pos ne s = says-head (omega (arith, s .within)) (leaf-says pos s)
-  head-of (node none (node x y)) p i pos ne s =
-      let h = head-of (node x y) (snoc p true) i pos (some x y) (fork-stands pos true (node x y) (some x y) s) in
-      record { near = h .near; begins = leads-snoc p true (stringAt f w b i) (h .begins); len = h .len }
-  head-of (node (node x y) none) p i pos ne s =
-      let h = head-of (node x y) (snoc p false) i pos (some x y) (fork-stands pos false (node x y) (some x y) s) in
-      record { near = h .near; begins = leads-snoc p false (stringAt f w b i) (h .begins); len = h .len }
-  head-of (node (node x y) (node z u)) p i pos ne s =
-      let d = branch-split pos s in
-      says-head (omega (arith, d .right .within, keptSize-some (node z u) (some z u))) (d .root)
-
   -- a node in the middle of whose edge the query ends or turns off
   module _ (m i c : ℕ) (p : Bits) (e : Bool) (h : Head f w b n (snoc p e) i) (le : m ≤ length p) where
     len-above : length p < lenAt f w b i
@@ -154,13 +132,13 @@ module _ (f : ℕ) (w : List ℕ) (b n : ℕ) where
   single : (e : Bool) (x y : Trie) (p q : Bits) (j m i c : ℕ) → 1 ≤ i → length q < j → m ≤ length p → KeptStands f w b n p i (fork e (node x y) none)
       → ((r : Bits) → length r < j → Finds (node x y) (snoc p e) r j m i c) → Finds (fork e (node x y) none) p q j m i c
   unfolding searchT keptStepsT
-  single false x y p [] j m i c pos lt le s ih = rw (add-zero c) (walk-off m i c p false (head-of (node x y) (snoc p false) i pos (some x y) (fork-stands pos false (node x y) (some x y) s)) le j (p ++ []) (omega arith) (snoc-nil p false))
-  single true x y p [] j m i c pos lt le s ih = rw (add-zero c) (walk-off m i c p true (head-of (node x y) (snoc p true) i pos (some x y) (fork-stands pos true (node x y) (some x y) s)) le j (p ++ []) (omega arith) (snoc-nil p true))
+  single false x y p [] j m i c pos lt le s ih = rw (add-zero c) (walk-off m i c p false (head-of f w b n (node x y) (snoc p false) i pos (some x y) (fork-stands pos false (node x y) (some x y) s)) le j (p ++ []) (omega arith) (snoc-nil p false))
+  single true x y p [] j m i c pos lt le s ih = rw (add-zero c) (walk-off m i c p true (head-of f w b n (node x y) (snoc p true) i pos (some x y) (fork-stands pos true (node x y) (some x y) s)) le j (p ++ []) (omega arith) (snoc-nil p true))
   single false x y p (false ∷ q) j m i c pos lt le s ih = along false x y p q j m i c (ih q (omega arith))
   single false x y p (true ∷ q) j m i c pos lt le s ih =
-      rw (search-none q, count-none q, add-zero c) (walk-off m i c p false (head-of (node x y) (snoc p false) i pos (some x y) (fork-stands pos false (node x y) (some x y) s)) le j (p ++ (true ∷ q)) (omega arith) (snoc-other p false q))
+      rw (search-none q, count-none q, add-zero c) (walk-off m i c p false (head-of f w b n (node x y) (snoc p false) i pos (some x y) (fork-stands pos false (node x y) (some x y) s)) le j (p ++ (true ∷ q)) (omega arith) (snoc-other p false q))
   single true x y p (false ∷ q) j m i c pos lt le s ih =
-      rw (search-none q, count-none q, add-zero c) (walk-off m i c p true (head-of (node x y) (snoc p true) i pos (some x y) (fork-stands pos true (node x y) (some x y) s)) le j (p ++ (false ∷ q)) (omega arith) (snoc-other p true q))
+      rw (search-none q, count-none q, add-zero c) (walk-off m i c p true (head-of f w b n (node x y) (snoc p true) i pos (some x y) (fork-stands pos true (node x y) (some x y) s)) le j (p ++ (false ∷ q)) (omega arith) (snoc-other p true q))
   single true x y p (true ∷ q) j m i c pos lt le s ih = along true x y p q j m i c (ih q (omega arith))
 
   -- a branch point

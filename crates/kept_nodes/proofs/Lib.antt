@@ -3,4 +3,5 @@ pub mod Places
 pub mod Hung
 pub mod NodeWords
 pub mod Parsed
+pub mod Heads
 pub mod Unique

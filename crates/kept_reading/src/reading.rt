@@ -10,7 +10,7 @@ use nets::families::width;
 use nets::has_bit_past;
 
 // The first word of node i: the length of its string, and 256 times the distance to its second child.
-fn head(w: &[u32], family: u8, b: usize, n: u32, i: u32) -> u32
+pub fn head(w: &[u32], family: u8, b: usize, n: u32, i: u32) -> u32
     requires { ⌜ KeptRoom family (now w) b n ⌝ }
     requires { ⌜ (1 ≤ i) × (i ≤ n) ⌝ }
     ensures { λ r. ⌜ r ≡ headAt family (now (w .entry)) b i ⌝ }

@@ -1,0 +1,2 @@
+-- The laws of sources.
+pub mod Meaning

@@ -1,0 +1,2 @@
+-- What writing a node asks for and leaves.
+pub mod Writes
