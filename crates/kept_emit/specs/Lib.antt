@@ -1,0 +1,3 @@
+-- Lazy emission in the second form: what is answered and written of a trie, what an operation reads.
+pub mod Answers
+pub mod Combine

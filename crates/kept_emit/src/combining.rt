@@ -1,0 +1,143 @@
+// The operations of the first form, by their numbers: 0 union, 1 what is common, 2 difference and 3 difference with full halves left apart. A source is given by a number and the string that it
+// is below.
+ghost use mathlib.Core.Path.{_≡_};
+ghost use Prim.Native.Nat.{ℕ, _≤_, max, min};
+ghost use lib.ListN.{length};
+ghost use Rattle.nets.specs.Bits.{Bits};
+ghost use Rattle.nets.specs.Tries.{Trie};
+ghost use Rattle.nets.specs.TrieOps.{Kind, kindOf, verdict, half};
+ghost use Rattle.nets.specs.Networks.{netFrom};
+ghost use Rattle.trie_emit.specs.Combine.{opOf, opOn, rank};
+ghost use Rattle.trie_paths.specs.Spans.{snoc};
+ghost use Rattle.kept_nodes.specs.Parse.{KeptRoom};
+ghost use Rattle.kept_sources.specs.Sources.{KeptMeans};
+ghost use Rattle.kept_emit.specs.Answers.{answer, Emits};
+ghost use Rattle.kept_emit.specs.Combine.{Inputs, Gap};
+use crate::emitting::Emitted;
+use crate::emitting::child;
+use crate::emitting::finish;
+use crate::emitting::over;
+use crate::emitting::start_of;
+use kept_sources::EMPTY;
+use kept_sources::FULL;
+use kept_sources::kind;
+use kept_sources::piece;
+use nets::Net;
+
+fn most(x: usize, y: usize) -> usize
+    ensures { λ r. ⌜ r ≡ max x y ⌝ }
+{
+    if x < y { y } else { x }
+}
+
+fn least(x: usize, y: usize) -> usize
+    ensures { λ r. ⌜ r ≡ min x y ⌝ }
+{
+    if x < y { x } else { y }
+}
+
+// What the operation makes of two kinds, where that settles it, else 1: or, and, and not, of three truth values.
+fn settled(op: usize, x: usize, y: usize) -> usize
+    requires { ⌜ y ≤ 2 ⌝ }
+    ensures { λ r. ⌜ ((k l : Kind) → x ≡ rank k → y ≡ rank l → r ≡ rank (verdict (opOf op) k l)) ⌝ }
+{
+    if op == 0 {
+        return most(x, y);
+    }
+    if op == 1 {
+        return least(x, y);
+    }
+    least(x, FULL - y)
+}
+
+// The same of what two numbers mean below a string of d bits.
+fn judge(w: &[u32], family: u8, b: usize, n: u32, op: usize, a: usize, c: usize, d: u8) -> usize
+    requires { ⌜ KeptRoom family (now w) b n × ((o : ℕ) × (g : ℕ) × (p : Bits) × (t : Trie) × (u : Trie) × (length p ≡ d) × KeptMeans family (now w) b n o g p a t × KeptMeans family (now w) b n o g p c u) ⌝ }
+    ensures { λ r. ⌜ ((o g : ℕ) (p : Bits) (t u : Trie) → length p ≡ d → KeptMeans family (now (w .entry)) b n o g p a t → KeptMeans family (now (w .entry)) b n o g p c u
+        → r ≡ rank (verdict (opOf op) (kindOf t) (kindOf u))) ⌝ }
+{
+    let x = kind(w, family, b, n, a, d);
+    let y = kind(w, family, b, n, c, d);
+    settled(op, x, y)
+}
+
+// The numbers of the halves of two.
+struct Pair {
+    a: usize,
+    c: usize,
+}
+
+fn halves(w: &[u32], family: u8, b: usize, n: u32, a: usize, c: usize, d: u8, second: bool) -> Pair
+    requires { ⌜ KeptRoom family (now w) b n × ((o : ℕ) × (g : ℕ) × (p : Bits) × (t : Trie) × (u : Trie) × (length p ≡ d) × KeptMeans family (now w) b n o g p a t × KeptMeans family (now w) b n o g p c u) ⌝ }
+    ensures { λ r. ⌜ ((o g : ℕ) (p : Bits) (t u : Trie) → length p ≡ d → KeptMeans family (now (w .entry)) b n o g p a t → KeptMeans family (now (w .entry)) b n o g p c u
+        → KeptMeans family (now (w .entry)) b n o g (snoc p second) (r .a) (half second t) × KeptMeans family (now (w .entry)) b n o g (snoc p second) (r .c) (half second u)) ⌝ }
+{
+    Pair {
+        a: piece(w, family, b, n, a, d, second),
+        c: piece(w, family, b, n, c, d, second),
+    }
+}
+
+// What emit answers, with nothing written.
+pub fn foresee(
+    w: &[u32],
+    family: u8,
+    b: usize,
+    n: u32,
+    op: usize,
+    a: usize,
+    c: usize,
+    d: u8,
+    fuel: usize,
+) -> Emitted
+    requires { ⌜ ((o : ℕ) × (e : ℕ) × (p : Bits) × (t : Trie) × (u : Trie) × (length p ≡ d) × Inputs family (now w) b n a c o e p fuel t u) ⌝ }
+    ensures { λ x. ⌜ ((o e : ℕ) (p : Bits) (t u : Trie) → length p ≡ d → Inputs family (now (w .entry)) b n a c o e p fuel t u → x ≡ answer (opOn op fuel t u)) ⌝ }
+{
+    let v = judge(w, family, b, n, op, a, c, d);
+    if v == EMPTY {
+        return Emitted::Empty;
+    }
+    if v == FULL {
+        return Emitted::Full;
+    }
+    let p = halves(w, family, b, n, a, c, d, false);
+    let q = halves(w, family, b, n, a, c, d, true);
+    let l = foresee(w, family, b, n, op, p.a, p.c, d + 1, fuel - 1);
+    let r = foresee(w, family, b, n, op, q.a, q.c, d + 1, fuel - 1);
+    over(op != 3, l, r)
+}
+
+// Writes the result below the string of the network path, so that it ends before node e.
+pub fn emit(
+    w: &mut [u32],
+    family: u8,
+    b: usize,
+    n: u32,
+    op: usize,
+    a: usize,
+    c: usize,
+    e: usize,
+    path: Net,
+    fuel: usize,
+) -> Emitted
+    requires { ⌜ ((o : ℕ) × (p : Bits) × (t : Trie) × (u : Trie) × (path ≡ netFrom family p) × Inputs family (now w) b n a c o e p fuel t u × Gap n o e (opOn op fuel t u)) ⌝ }
+    ensures { λ x. ⌜ ((o : ℕ) (p : Bits) (t u : Trie) → path ≡ netFrom family p → Inputs family (now (w .entry)) b n a c o e p fuel t u → Gap n o e (opOn op fuel t u)
+        → Emits family (now (w .entry)) (now (w .exit)) b p e x (opOn op fuel t u)) ⌝ }
+{
+    let d = path.len;
+    let v = judge(w, family, b, n, op, a, c, d);
+    if v == EMPTY {
+        return Emitted::Empty;
+    }
+    if v == FULL {
+        return Emitted::Full;
+    }
+    let p = halves(w, family, b, n, a, c, d, false);
+    let q = halves(w, family, b, n, a, c, d, true);
+    let second = child(path, true);
+    let r = emit(w, family, b, n, op, q.a, q.c, e, second, fuel - 1);
+    let m = start_of(r, e);
+    let first = child(path, false);
+    let l = emit(w, family, b, n, op, p.a, p.c, m, first, fuel - 1);
+    finish(w, family, b, op != 3, e, l, r, path)
+}
