@@ -52,7 +52,8 @@ keep-fewer : (f g : Bits → Bool) (l : List Bits) → ((p : Bits) → f p ≡ t
 keep-fewer f g [] h = omega arith
 keep-fewer f g (m ∷ l) h = go (f m) refl (g m) refl (keep-fewer f g l h)
   where
-    go : (x : Bool) → f m ≡ x → (y : Bool) → g m ≡ y → length (keep f l) ≤ length (keep g l) → length (cond x (m ∷ keep f l) (keep f l)) ≤ length (cond y (m ∷ keep g l) (keep g l))
+    go : (x : Bool) → f m ≡ x → (y : Bool) → g m ≡ y → length (keep f l) ≤ length (keep g l)
+        → length (cond x (m ∷ keep f l) (keep f l)) ≤ length (cond y (m ∷ keep g l) (keep g l))
     go true a true b k = omega arith
     go true a false b k = let z : _≡_ {A = ℕ} 0 1 = cc (h m a) in absurd (omega arith)
     go false a true b k = omega arith

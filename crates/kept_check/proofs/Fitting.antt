@@ -45,4 +45,5 @@ module _ {f : ℕ} {w : List ℕ} {b n : ℕ} (room : KeptRoom f w b n) {up i : 
   }
 
   pub read-child : (c : Bool) (y : Bool) → i ≤ n → y ≡ leads (snoc (netBits p) c) (netBits q) → y ≡ fits f w b n (below f w b up c) i
-  read-child c y le e = e ∙ ap (λ z. leads (snoc (netBits z) c) (netBits q)) (g .is) ∙ ap (λ z. leads (snoc (netBits (netAt f w b up)) c) (netBits z)) (h .is) ∙ fits-child f w b n up c i le node nz
+  read-child c y le e = e ∙ ap (λ z. leads (snoc (netBits z) c) (netBits q)) (g .is) ∙ ap (λ z. leads (snoc (netBits (netAt f w b up)) c) (netBits z)) (h .is)
+      ∙ fits-child f w b n up c i le node nz

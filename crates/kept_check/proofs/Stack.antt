@@ -35,7 +35,8 @@ bind-cong bad k m f = refl
 bind-cong (ok l) k m f = f l
 
 -- the end of a node is that of its second child
-after-second : (i j : ℕ) (l : Trie) (x : Read) → (l ≡ none → ⊥) → ((r : Trie) → x ≡ ok r → r ≡ none → ⊥) → j ≡ i + 1 + keptSize l → keptAfter j x ≡ keptAfter i (bind x (λ r. ok (node l r)))
+after-second : (i j : ℕ) (l : Trie) (x : Read) → (l ≡ none → ⊥) → ((r : Trie) → x ≡ ok r → r ≡ none → ⊥) → j ≡ i + 1 + keptSize l
+    → keptAfter j x ≡ keptAfter i (bind x (λ r. ok (node l r)))
 unfolding keptAfter keptSize
 after-second i j l bad nl nr e = refl
 after-second i j none (ok r) nl nr e = absurd (nl refl)
@@ -143,20 +144,26 @@ module _ {f : ℕ} {w : List ℕ} {b n : ℕ} (room : KeptRoom f w b n) where
     unfolding unwind
     unwind-below sp a zero e lt = refl
     unwind-below sp a (suc k) e lt =
-        rw (getD-set-other ats sp (suc k) a 0 (omega arith), unwind-below sp a k (keptAfter e (reads f w b n (snoc (stringAt f w b (getD ats (suc k) 0)) true) e)) (omega arith))
+        rw (
+          getD-set-other ats sp (suc k) a 0 (omega arith),
+          unwind-below sp a k (keptAfter e (reads f w b n (snoc (stringAt f w b (getD ats (suc k) 0)) true) e))
+              (omega arith),
+        )
 
   -- a branch point goes on the stack
   module _ (ats : List ℕ) (sp i : ℕ) (up : 1 ≤ sp) (lt : sp < length ats) (nd : distAt f w b i ≡ 0 → ⊥) where
     abbrev more : ℕ → ℕ
     more e = unwind f w b n (set ats sp i) sp e
 
-    pushed-ok : (l : Trie) → (l ≡ none → ⊥) → Dec (distAt f w b i ≡ 1 + keptSize l) → more (i + 1 + keptSize l) ≡ unwind f w b n ats (sp - 1) (keptAfter i (kids i l))
+    pushed-ok : (l : Trie) → (l ≡ none → ⊥) → Dec (distAt f w b i ≡ 1 + keptSize l)
+        → more (i + 1 + keptSize l) ≡ unwind f w b n ats (sp - 1) (keptAfter i (kids i l))
     unfolding keptAfter
     pushed-ok l nl (yes e) =
         let j = i + 1 + keptSize l in
         unwind-top (set ats sp i) sp j i (omega arith) (omega arith) (getD-set-same ats sp i 0 lt) (omega arith)
         ∙ unwind-below ats sp i (sp - 1) (keptAfter j (reads f w b n (snoc (stringAt f w b i) true) j)) (omega arith)
-        ∙ rw (eq-eqb (distAt f w b i) (1 + keptSize l) e) (ap (unwind f w b n ats (sp - 1)) (after-second i j l (reads f w b n (snoc (stringAt f w b i) true) j) nl (solid (snoc (stringAt f w b i) true) j (omega arith)) refl))
+        ∙ rw (eq-eqb (distAt f w b i) (1 + keptSize l) e) (ap (unwind f w b n ats (sp - 1)) (after-second i j l (reads f w b n (snoc (stringAt f w b i) true) j) nl
+        (solid (snoc (stringAt f w b i) true) j (omega arith)) refl))
     pushed-ok l nl (no e) =
         unwind-off (set ats sp i) sp (i + 1 + keptSize l) i (omega arith) (omega arith) (getD-set-same ats sp i 0 lt) (λ h. e (omega arith))
         ∙ rw (ne-eqb (distAt f w b i) (1 + keptSize l) e) (sym (unwind-lost ats (sp - 1)))
@@ -166,7 +173,8 @@ module _ {f : ℕ} {w : List ℕ} {b n : ℕ} (room : KeptRoom f w b n) where
     pushed-read bad ne = unwind-lost (set ats sp i) sp ∙ sym (unwind-lost ats (sp - 1))
     pushed-read (ok l) ne = pushed-ok l (ne l refl) (ℕ-discrete (distAt f w b i) (1 + keptSize l))
 
-    pub pushed-end : (p : Bits) → fits f w b n p i ≡ true → more (keptAfter (i + 1) (reads f w b n (snoc (stringAt f w b i) false) (i + 1))) ≡ unwind f w b n ats (sp - 1) (keptAfter i (reads f w b n p i))
+    pub pushed-end : (p : Bits) → fits f w b n p i ≡ true → more (keptAfter (i + 1) (reads f w b n (snoc (stringAt f w b i) false) (i + 1))) ≡ unwind f w b n ats
+        (sp - 1) (keptAfter i (reads f w b n p i))
     pushed-end p e =
         pushed-read (reads f w b n (snoc (stringAt f w b i) false) (i + 1)) (solid (snoc (stringAt f w b i) false) (i + 1) (omega arith))
         ∙ ap (unwind f w b n ats (sp - 1)) (sym (after-here p i e ∙ rw (ne-eqb (distAt f w b i) 0 nd)))
@@ -228,7 +236,8 @@ module _ {f : ℕ} {w : List ℕ} {b n root : ℕ} {ats : List ℕ} {sp i up : �
     pub elsewhere : d ≡ 0 → (sp - 1 ≡ 0 → ⊥) → (getD ats (sp - 1) 0 + distAt f w b (getD ats (sp - 1) 0) ≡ i + 1 → ⊥) → 0 ≡ keptAfter root (reads f w b n [] root)
     elsewhere z nz off = sym (unwind-off room ats (sp - 1) (i + 1) (getD ats (sp - 1) 0) nz (omega arith) refl off) ∙ leaf-is z
 
-    pub popped : d ≡ 0 → (sp - 1 ≡ 0 → ⊥) → getD ats (sp - 1) 0 + distAt f w b (getD ats (sp - 1) 0) ≡ i + 1 → Loop f w b n root (set ats sp i) (sp - 1) (i + 1) (getD ats (sp - 1) 0) true
+    pub popped : d ≡ 0 → (sp - 1 ≡ 0 → ⊥) → getD ats (sp - 1) 0 + distAt f w b (getD ats (sp - 1) 0) ≡ i + 1
+        → Loop f w b n root (set ats sp i) (sp - 1) (i + 1) (getD ats (sp - 1) 0) true
     popped z nz at =
         let a = getD ats (sp - 1) 0 in
         let g = o .each (sp - 1) (omega arith) (omega (arith, o .high)) in

@@ -1,4 +1,5 @@
--- What an answer says of its trie, and the answer over two: nothing over nothing, a leaf over two leaves, or the sizes with one more for a branch point. Assumes nothing.
+-- What an answer says of its trie, and the answer over two: nothing over nothing, a leaf over two leaves, or the sizes with one more for a branch point. Assumes
+-- nothing.
 use mathlib.Core.Path.{_≡_, refl, sym, ap, _∙_}
 use mathlib.Core.Bool.{Bool, true, false, cond, _&&_, false≢true}
 use mathlib.Core.List.{List, [], _∷_, _++_, append-nil}
@@ -144,17 +145,27 @@ rest-put f p t w q = by-kind (λ t. put (put w q (body f p t)) q (restOf f p (an
 
 length-body : (f : ℕ) (p : Bits) (t : Trie) → length (body f p t) ≤ stride f * keptSize t
 unfolding body
-length-body f p = by-kind (λ t. length (body f p t) ≤ stride f * keptSize t) (omega arith) (omega arith) (λ l r e. rw e (omega (arith, length-keptEnc f p (node l r))))
+length-body f p = by-kind (λ t. length (body f p t) ≤ stride f * keptSize t) (omega arith) (omega arith) (λ l r e. rw e (omega (
+  arith,
+  length-keptEnc f p
+      (node l r),
+)))
 
 halves-put : (f : ℕ) (v : List ℕ) (q s : ℕ) (p₀ p₁ : Bits) (l r : Trie) → s ≡ q + stride f * keptSize l
     → put (put (put (put v s (body f p₁ r)) q (body f p₀ l)) s (restOf f p₁ (answer r))) q (restOf f p₀ (answer l)) ≡ put v q (keptEnc f p₀ l ++ keptEnc f p₁ r)
 halves-put f v q s p₀ p₁ l r e =
-    rw (put-swap (put v s (body f p₁ r)) q s (body f p₀ l) (restOf f p₁ (answer r)) (omega (arith, length-body f p₀ l)), rest-put f p₁ r v s, rest-put f p₀ l (put v s (keptEnc f p₁ r)) q)
+    rw (
+      put-swap (put v s (body f p₁ r)) q s (body f p₀ l) (restOf f p₁ (answer r)) (omega (arith, length-body f p₀ l)),
+      rest-put f p₁ r v s,
+      rest-put f p₀ l
+          (put v s (keptEnc f p₁ r)) q,
+    )
     (put-before-at v q s (keptEnc f p₀ l) (keptEnc f p₁ r) (omega (arith, length-keptEnc f p₀ l)))
 
 -- the node over both, where it is a branch point
 module _ (f : ℕ) (v w : List ℕ) (b : ℕ) (p : Bits) (o m e : ℕ) where
-  top-put : (l r : Trie) → bare l r ≡ false → m + keptSize r ≡ e → o + keptSize l ≡ m → keptSize (node l r) < e → w ≡ put v (spot f b o) (keptEnc f (snoc p false) l ++ keptEnc f (snoc p true) r)
+  top-put : (l r : Trie) → bare l r ≡ false → m + keptSize r ≡ e → o + keptSize l ≡ m → keptSize (node l r) < e
+      → w ≡ put v (spot f b o) (keptEnc f (snoc p false) l ++ keptEnc f (snoc p true) r)
       → put w (spot f b (o - 1)) (topWords f p o m e) ≡ put v (spot f b (e - keptSize (node l r))) (keptEnc f p (node l r))
   unfolding topWords keptEnc distance keptSize nodeWords
   top-put none none h em eo lt ew = let z : _≡_ {A = ℕ} 0 1 = cc in absurd (omega arith)
@@ -169,7 +180,8 @@ module _ (f : ℕ) (v w : List ℕ) (b : ℕ) (p : Bits) (o m e : ℕ) where
       let d : m - (o - 1) ≡ 1 + keptSize (node x y) = omega arith in
       let q : o - 1 + 1 ≡ o = omega arith in
       rw (lt-ltb o m (omega (arith, keptSize-some (node x y) (some x y))), lt-ltb m e (omega (arith, keptSize-some (node z u) (some z u))), k, d, ew)
-      (put-before-at v (spot f b (o - 1)) (spot f b o) (nodeWords f p (1 + keptSize (node x y))) (keptEnc f (snoc p false) (node x y) ++ keptEnc f (snoc p true) (node z u))
+      (put-before-at v (spot f b (o - 1)) (spot f b o) (nodeWords f p (1 + keptSize (node x y))) (keptEnc f (snoc p false) (node x y) ++ keptEnc f (snoc p true)
+      (node z u))
       (rw (length-nodeWords f p (1 + keptSize (node x y)), spot-next f b (o - 1) (omega arith), q)))
 
 module _ (f : ℕ) (p : Bits) (o m e : ℕ) where
@@ -189,15 +201,19 @@ module _ (f : ℕ) (p : Bits) (o m e : ℕ) where
 pub Node≢ : (k : ℕ) → (Empty ≡ Node k → ⊥) × (Full ≡ Node k → ⊥)
 Node≢ k = (λ q. let z : _≡_ {A = ℕ} 0 1 = cc in omega arith, λ q. let z : _≡_ {A = ℕ} 0 1 = cc in omega arith)
 
-still : (f : ℕ) (j : Bool) (b : ℕ) (v : List ℕ) (p p₀ p₁ : Bits) (e s q : ℕ) (l r : Trie) → ((k : ℕ) → answer (glue j l r) ≡ Node k → ⊥) → put (put v s (body f p₁ r)) q (body f p₀ l) ≡ put v (spot f b (e - keptSize (glue j l r))) (body f p (glue j l r))
+still : (f : ℕ) (j : Bool) (b : ℕ) (v : List ℕ) (p p₀ p₁ : Bits) (e s q : ℕ) (l r : Trie) → ((k : ℕ) → answer (glue j l r) ≡ Node k → ⊥)
+    → put (put v s (body f p₁ r)) q (body f p₀ l) ≡ put v (spot f b (e - keptSize (glue j l r))) (body f p (glue j l r))
 unfolding body
-still f j b v p p₀ p₁ e s q = by-glue (λ l r t. ((k : ℕ) → answer t ≡ Node k → ⊥) → put (put v s (body f p₁ r)) q (body f p₀ l) ≡ put v (spot f b (e - keptSize t)) (body f p t)) j
-    (λ g. put-nil (put v s []) q ∙ put-nil v s ∙ sym (put-nil v (spot f b (e - keptSize none)))) (λ h g. put-nil (put v s []) q ∙ put-nil v s ∙ sym (put-nil v (spot f b (e - keptSize leaf))))
+still f j b v p p₀ p₁ e s q = by-glue (λ l r t. ((k : ℕ) → answer t ≡ Node k → ⊥)
+    → put (put v s (body f p₁ r)) q (body f p₀ l) ≡ put v (spot f b (e - keptSize t)) (body f p t)) j
+    (λ g. put-nil (put v s []) q ∙ put-nil v s ∙ sym (put-nil v (spot f b (e - keptSize none)))) (λ h g. put-nil (put v s []) q ∙ put-nil v s
+    ∙ sym (put-nil v (spot f b (e - keptSize leaf))))
     (λ l r h g. absurd (g (keptSize (node l r)) (answer-node l r h)))
 
 answer-glue : (j : Bool) (k : ℕ) (l r : Trie) → answer (glue j l r) ≡ Node k → (glue j l r ≡ node l r) × (bare l r ≡ false)
 unfolding answer
-answer-glue j k = by-glue (λ l r t. answer t ≡ Node k → (t ≡ node l r) × (bare l r ≡ false)) j (λ q. absurd (Node≢ k .0 q)) (λ h q. absurd (Node≢ k .1 q)) (λ l r h q. (refl, h))
+answer-glue j k = by-glue (λ l r t. answer t ≡ Node k → (t ≡ node l r) × (bare l r ≡ false)) j (λ q. absurd (Node≢ k .0 q)) (λ h q. absurd (Node≢ k .1 q))
+    (λ l r h q. (refl, h))
 
 bare-mixed : (l r : Trie) → bare l r ≡ false → kindOf (node l r) ≡ mixed
 bare-mixed l r e = rw e
@@ -212,9 +228,14 @@ pub record Numbers (f n b o m e : ℕ) (x y : Emitted) : Type 0 where
   pub few : e ≤ 4194305
   pub low : b < 1073741824
 
-module _ {f : ℕ} {v w : List ℕ} {b : ℕ} {j : Bool} {p : Bits} {e : ℕ} {x y : Emitted} {l r : Trie} (h : Pending f v w b j p e x y l r) (a : Emitted) (answers : a ≡ answer (glue j l r)) where
+module _ {f : ℕ} {v w : List ℕ} {b : ℕ} {j : Bool} {p : Bits} {e : ℕ} {x y : Emitted} {l r : Trie} (h : Pending f v w b j p e x y l r) (a : Emitted)
+    (answers : a ≡ answer (glue j l r)) where
   pub finish-flat : ((k : ℕ) → a ≡ Node k → ⊥) → Emits f v w b p e a (glue j l r)
-  finish-flat nn = record { answers = answers; wrote = h .wrote ∙ still f j b v p (snoc p false) (snoc p true) e (spot f b (e - keptSize r)) (spot f b (e - keptSize r - keptSize l)) l r (λ k q. nn k (answers ∙ q)) }
+  finish-flat nn = record {
+    answers = answers;
+    wrote = h .wrote ∙ still f j b v p (snoc p false) (snoc p true) e (spot f b (e - keptSize r)) (spot f b
+        (e - keptSize r - keptSize l)) l r (λ k q. nn k (answers ∙ q));
+  }
 
   module _ (k : ℕ) (is : a ≡ Node k) (m o : ℕ) (em : m ≡ e - sizeOf y) (eo : o ≡ m - sizeOf x) where
     whole : (glue j l r ≡ node l r) × (bare l r ≡ false)
@@ -241,12 +262,14 @@ module _ {f : ℕ} {v w : List ℕ} {b : ℕ} {j : Bool} {p : Bits} {e : ℕ} {x
           second = omega arith;
           full-r = λ z. let k = full-one y r (h .both .second) z in (omega arith, omega (arith, n .0, spot-before f b m e (omega arith) (omega arith)));
           full-l = λ z. let k = full-one x l (h .both .first) z in (omega arith, omega (arith, n .0, spot-before f b o e (omega arith) (omega arith)));
-          over = λ p q. let k = two l r (n .1) (λ z. omega arith) (λ z. omega arith) in (omega arith, omega (arith, n .0, spot-before f b (o - 1) e (omega arith) (omega arith)));
+          over = λ p q. let k = two l r (n .1) (λ z. omega arith) (λ z. omega arith) in
+              (omega arith, omega (arith, n .0, spot-before f b (o - 1) e (omega arith) (omega arith)));
           few = n .2;
           low = n .3;
         }
 
-    pub finish-node : (w₁ w₂ w₃ : List ℕ) → w₁ ≡ put w (spot f b m) (restOf f (snoc p true) y) → w₂ ≡ put w₁ (spot f b o) (restOf f (snoc p false) x) → w₃ ≡ put w₂ (spot f b (o - 1)) (topWords f p o m e) → Emits f v w₃ b p e a (glue j l r)
+    pub finish-node : (w₁ w₂ w₃ : List ℕ) → w₁ ≡ put w (spot f b m) (restOf f (snoc p true) y) → w₂ ≡ put w₁ (spot f b o) (restOf f (snoc p false) x)
+        → w₃ ≡ put w₂ (spot f b (o - 1)) (topWords f p o m e) → Emits f v w₃ b p e a (glue j l r)
     unfolding body
     finish-node w₁ w₂ w₃ e₁ e₂ e₃ =
         let d = ends in
@@ -254,7 +277,8 @@ module _ {f : ℕ} {v w : List ℕ} {b : ℕ} {j : Bool} {p : Bits} {e : ℕ} {x
         let pm : e - keptSize r ≡ m = omega arith in
         let po : m - keptSize l ≡ o = omega arith in
         let z : w₂ ≡ put v (spot f b o) (keptEnc f (snoc p false) l ++ keptEnc f (snoc p true) r) =
-        rw (e₂, e₁, h .wrote, h .both .first, h .both .second, pm, po) (halves-put f v (spot f b o) (spot f b m) (snoc p false) (snoc p true) l r (rw (← d .1) (sym (spot-on f b o (keptSize l) (d .2))))) in
+        rw (e₂, e₁, h .wrote, h .both .first, h .both .second, pm, po) (halves-put f v (spot f b o) (spot f b m) (snoc p false) (snoc p true) l r (rw (← d .1) (sym
+        (spot-on f b o (keptSize l) (d .2))))) in
         record {
           answers = answers;
           wrote = rw (g .0, bare-mixed l r (g .1)) (e₃ ∙ top-put f v w₂ b p o m e l r (g .1) (d .0) (d .1) (enough .1) z);

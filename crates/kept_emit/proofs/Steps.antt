@@ -47,7 +47,8 @@ unfolding size levels
 size-deep none k h = omega arith
 size-deep (node l r) zero h = absurd (omega arith)
 size-deep (node l r) (suc k) h =
-    grown k (keptSize (node l r)) (keptSize l) (keptSize r) (size l) (size r) (size-deep l k (omega arith)) (size-deep r k (omega arith)) (halves-le l r) (keptSize-some (node l r) (some l r))
+    grown k (keptSize (node l r)) (keptSize l) (keptSize r) (size l) (size r) (size-deep l k (omega arith)) (size-deep r k (omega arith)) (halves-le l r)
+    (keptSize-some (node l r) (some l r))
     (mul-le-mul-left k (halves-le l r))
 
 pub keptSize-le : (t : Trie) → keptSize t ≤ size t
@@ -69,17 +70,24 @@ module _ {f : ℕ} {w : List ℕ} {b n o e : ℕ} {p : Bits} where
   means-narrow e′ le i t (standing h) = standing (record { stands = h .stands; one = h .one; clear = ⊎-elim (λ q. inl q) (λ q. inr (omega arith)) (h .clear) })
 
   -- m nodes written from node q on, within the gap, leave what is apart from it
-  apart-words : (q m i : ℕ) (ys : List ℕ) (t : Trie) → 1 ≤ q → o ≤ q → q + m ≤ e → length ys ≤ stride f * m → KeptHere f w b n o e p i t → Apart (spot f b i) (length (keptEnc f p t)) (spot f b q) (length ys)
+  apart-words : (q m i : ℕ) (ys : List ℕ) (t : Trie) → 1 ≤ q → o ≤ q → q + m ≤ e → length ys ≤ stride f * m → KeptHere f w b n o e p i t
+      → Apart (spot f b i) (length (keptEnc f p t)) (spot f b q) (length ys)
   apart-words q m i ys t one le fit small h k a c d x = ⊎-elim
       (λ z. omega (arith, length-keptEnc f p t, spot-on f b i (keptSize t) (h .one), spot-le f b (i + keptSize t) q (omega arith)))
       (λ z. omega (arith, spot-on f b q m one, spot-le f b (q + m) i (omega arith)))
       (h .clear)
 
-  means-put : (q m : ℕ) (ys : List ℕ) → 1 ≤ q → o ≤ q → q + m ≤ e → length ys ≤ stride f * m → (i : ℕ) (t : Trie) → KeptMeans f w b n o e p i t → KeptMeans f (put w (spot f b q) ys) b n o e p i t
+  means-put : (q m : ℕ) (ys : List ℕ) → 1 ≤ q → o ≤ q → q + m ≤ e → length ys ≤ stride f * m → (i : ℕ) (t : Trie) → KeptMeans f w b n o e p i t
+      → KeptMeans f (put w (spot f b q) ys) b n o e p i t
   means-put q m ys one le fit small i t nothing = nothing
   means-put q m ys one le fit small i t everything = everything
   means-put q m ys one le fit small i t (standing {i = j} {l = l} {r = r} h) = standing (record {
-    stands = record { deep = h .stands .deep; within = h .stands .within; has = has-put (spot f b q) ys (h .stands .has) (apart-words q m j ys (node l r) one le fit small h) };
+    stands = record {
+      deep = h .stands .deep;
+      within = h .stands .within;
+      has = has-put (spot f b q) ys (h .stands .has) (apart-words q m j ys
+          (node l r) one le fit small h);
+    };
     one = h .one;
     clear = h .clear;
   })
@@ -93,12 +101,17 @@ module _ {f : ℕ} {w : List ℕ} {b n o e : ℕ} {p : Bits} where
       (by-kind (λ x. (kindOf x ≡ mixed → o + keptSize x ≤ e) → KeptMeans f (put w (spot f b (e - keptSize x)) (body f p′ x)) b n o e p i t)
       (λ h. rw (put-nil w (spot f b (e - keptSize none))) m) (λ h. rw (put-nil w (spot f b (e - keptSize leaf))) m)
       (λ l r h g. rw h
-      (means-put (e - keptSize (node l r)) (keptSize (node l r)) (keptEnc f p′ (node l r)) (omega (arith, g (rw h))) (omega (arith, g (rw h))) (omega (arith, g (rw h))) (omega (arith, length-keptEnc f p′ (node l r))) i t m)) x fit)
+      (means-put (e - keptSize (node l r)) (keptSize (node l r)) (keptEnc f p′ (node l r)) (omega (arith, g (rw h))) (omega (arith, g (rw h))) (omega (
+        arith,
+        g
+            (rw h),
+      )) (omega (arith, length-keptEnc f p′ (node l r))) i t m)) x fit)
 
 -- where there is room for a trie there is for its halves
 fits-glue : (j : Bool) (o e : ℕ) → 1 ≤ o → (l r : Trie) → (kindOf (glue j l r) ≡ mixed → o + keptSize (glue j l r) ≤ e)
     → (kindOf r ≡ mixed → o + keptSize r ≤ e) × (kindOf l ≡ mixed → o + keptSize l ≤ e - keptSize r) × (kindOf (glue j l r) ≡ mixed → keptSize (glue j l r) < e)
-fits-glue j o e one = by-glue (λ l r t. (kindOf t ≡ mixed → o + keptSize t ≤ e) → (kindOf r ≡ mixed → o + keptSize r ≤ e) × (kindOf l ≡ mixed → o + keptSize l ≤ e - keptSize r) × (kindOf t ≡ mixed → keptSize t < e)) j
+fits-glue j o e one = by-glue (λ l r t. (kindOf t ≡ mixed → o + keptSize t ≤ e) → (kindOf r ≡ mixed → o + keptSize r ≤ e) × (kindOf l ≡ mixed
+    → o + keptSize l ≤ e - keptSize r) × (kindOf t ≡ mixed → keptSize t < e)) j
     (λ f. (λ h. absurd (flat≢mixed false h), λ h. absurd (flat≢mixed false h), λ h. absurd (flat≢mixed false h)))
     (λ q f. (λ h. absurd (flat≢mixed true h), λ h. absurd (flat≢mixed true h), λ h. absurd (flat≢mixed true h)))
     (λ l r h f. let n = f (rw h) in (λ q. omega (arith, halves-le l r), λ q. omega (arith, halves-le l r), λ q. omega arith))
@@ -131,7 +144,8 @@ unfolding answer body
 emits-flat f w b p e true = record { answers = refl; wrote = sym (put-nil w (spot f b (e - keptSize leaf))) }
 emits-flat f w b p e false = record { answers = refl; wrote = sym (put-nil w (spot f b (e - keptSize none))) }
 
-module _ {f : ℕ} {w : List ℕ} {b n a c o e : ℕ} {p : Bits} {fuel : ℕ} {t u : Trie} (s : Inputs f w b n a c o e p fuel t u) (op v : ℕ) (told : v ≡ rank (verdict (opOf op) (kindOf t) (kindOf u))) where
+module _ {f : ℕ} {w : List ℕ} {b n a c o e : ℕ} {p : Bits} {fuel : ℕ} {t u : Trie} (s : Inputs f w b n a c o e p fuel t u) (op v : ℕ) (told : v ≡ rank (verdict
+    (opOf op) (kindOf t) (kindOf u))) where
   op-flat : (x : Bool) → v ≡ rank (flat x) → Emits f w w b p e (said (flat x) 0) (opOn op fuel t u)
   op-flat x q = rw (step-flat (joined op) (opOf op) t u fuel (s .turn) x (rank-flat _ x (sym told ∙ q))) (emits-flat f w b p e x)
 
@@ -165,9 +179,20 @@ module _ {f : ℕ} {w : List ℕ} {b n op a c o e : ℕ} {p : Bits} {fuel : ℕ}
 
   part-size : (s : Bool) (i k : ℕ) → KeptMeans f w b n o e (snoc p s) i (half s t) × KeptMeans f w b n o e (snoc p s) k (half s u) → keptSize (part s) < 2 ^ 60
   part-size s i k m =
-      omega (arith, keptSize-le (part s), size-op (joined op) (opOf op) (fuel - 1) (half s t) (half s u), length-body (half s t), length-body (half s u), means-size (d .src .hold .few) i (half s t) (m .0), means-size (d .src .hold .few) k (half s u) (m .1))
+      omega (
+        arith,
+        keptSize-le (part s),
+        size-op (joined op) (opOf op) (fuel - 1) (half s t) (half s u),
+        length-body (half s t),
+        length-body (half s u),
+        means-size
+            (d .src .hold .few) i (half s t) (m .0),
+        means-size (d .src .hold .few) k (half s u) (m .1),
+      )
 
-  half-inputs : (w₁ : List ℕ) → KeptRoom f w₁ b n → (e₁ : ℕ) (s : Bool) (i k : ℕ) → KeptMeans f w₁ b n o e₁ (snoc p s) i (half s t) × KeptMeans f w₁ b n o e₁ (snoc p s) k (half s u) → Inputs f w₁ b n i k o e₁ (snoc p s) (fuel - 1) (half s t) (half s u)
+  half-inputs : (w₁ : List ℕ) → KeptRoom f w₁ b n → (e₁ : ℕ) (s : Bool) (i k : ℕ)
+      → KeptMeans f w₁ b n o e₁ (snoc p s) i (half s t) × KeptMeans f w₁ b n o e₁ (snoc p s) k (half s u)
+      → Inputs f w₁ b n i k o e₁ (snoc p s) (fuel - 1) (half s t) (half s u)
   half-inputs w₁ hold e₁ s i k m =
       let turn = d .src .turn in
       record {
@@ -194,14 +219,17 @@ module _ {f : ℕ} {w : List ℕ} {b n op a c o e : ℕ} {p : Bits} {fuel : ℕ}
       (hl : (o₁ e₁ : ℕ) (q : Bits) (v z : Trie) → length q ≡ length p + 1 → Inputs f w b n al cl o₁ e₁ q (fuel - 1) v z → x ≡ answer (opOn op (fuel - 1) v z))
       (hr : (o₁ e₁ : ℕ) (q : Bits) (v z : Trie) → length q ≡ length p + 1 → Inputs f w b n ar cr o₁ e₁ q (fuel - 1) v z → y ≡ answer (opOn op (fuel - 1) v z)) where
     pub foreseen-both : Both x y (part false) (part true)
-    foreseen-both = both x y (hl o e (snoc p false) (half false t) (half false u) (length-snoc p false) left-inputs) (hr o e (snoc p true) (half true t) (half true u) (length-snoc p true) right-inputs)
+    foreseen-both = both x y (hl o e (snoc p false) (half false t) (half false u) (length-snoc p false) left-inputs) (hr o e (snoc p true) (half true t)
+        (half true u) (length-snoc p true) right-inputs)
 
     pub foreseen : (z : Emitted) → ((v n : Trie) → Both x y v n → z ≡ answer (glue (joined op) v n)) → z ≡ answer (opOn op fuel t u)
     foreseen z k = rw step (k (part false) (part true) foreseen-both)
 
   -- written: the second half, then the first
   module _ (g : Gap n o e (opOn op fuel t u)) where
-    fits : (kindOf (part true) ≡ mixed → o + keptSize (part true) ≤ e) × (kindOf (part false) ≡ mixed → o + keptSize (part false) ≤ e - keptSize (part true)) × (kindOf (glue (joined op) (part false) (part true)) ≡ mixed → keptSize (glue (joined op) (part false) (part true)) < e)
+    fits : (kindOf (part true) ≡ mixed → o + keptSize (part true) ≤ e) × (kindOf (part false) ≡ mixed
+        → o + keptSize (part false) ≤ e - keptSize (part true)) × (kindOf (glue (joined op) (part false) (part true)) ≡ mixed
+        → keptSize (glue (joined op) (part false) (part true)) < e)
     fits = fits-glue (joined op) o e (g .one) (part false) (part true) (rw (← step) (g .fits))
 
     ended : kindOf (glue (joined op) (part false) (part true)) ≡ mixed → spot f b e ≤ length w
@@ -218,7 +246,8 @@ module _ {f : ℕ} {w : List ℕ} {b n op a c o e : ℕ} {p : Bits} {fuel : ℕ}
       stays i v n = rw (done .wrote, middle) (means-stay (snoc p true) (part true) (g .one) (fits .0) i v n)
 
       pub rest-inputs : Inputs f w₁ b n al cl o m (snoc p false) (fuel - 1) (half false t) (half false u)
-      rest-inputs = half-inputs w₁ (rw (done .wrote) (room-put (spot f b (e - keptSize (part true))) (body f (snoc p true) (part true)) (d .src .hold))) m false al cl (stays al (half false t) (d .left .0), stays cl (half false u) (d .left .1))
+      rest-inputs = half-inputs w₁ (rw (done .wrote) (room-put (spot f b (e - keptSize (part true))) (body f (snoc p true) (part true))
+          (d .src .hold))) m false al cl (stays al (half false t) (d .left .0), stays cl (half false u) (d .left .1))
 
       same : length w₁ ≡ length w
       same = rw (done .wrote) (length-put w (spot f b (e - keptSize (part true))) (body f (snoc p true) (part true)))
@@ -237,5 +266,6 @@ module _ {f : ℕ} {w : List ℕ} {b n op a c o e : ℕ} {p : Bits} {fuel : ℕ}
               room = λ h. (rw len (ended h), fits .2 h, omega (arith, g .room, d .src .hold .few), omega (arith, d .src .hold .low));
             }
 
-        pub emitted : (w₃ : List ℕ) (z : Emitted) → ((v : List ℕ) (q : Bits) (h k : Trie) → netFrom f p ≡ netFrom f q → Pending f v w₂ b (joined op) q e x y h k → Emits f v w₃ b q e z (glue (joined op) h k)) → Emits f w w₃ b p e z (opOn op fuel t u)
+        pub emitted : (w₃ : List ℕ) (z : Emitted) → ((v : List ℕ) (q : Bits) (h k : Trie) → netFrom f p ≡ netFrom f q → Pending f v w₂ b (joined op) q e x y h k
+            → Emits f v w₃ b q e z (glue (joined op) h k)) → Emits f w w₃ b p e z (opOn op fuel t u)
         emitted w₃ z k = rw step (k w p (part false) (part true) refl pending)

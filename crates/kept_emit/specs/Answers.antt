@@ -1,4 +1,5 @@
--- What is answered of a trie that is written lazily, backward from an end, and what is written of it: a single leaf is left to whoever needs it. The answer has the size, so that
+-- What is answered of a trie that is written lazily, backward from an end, and what is written of it: a single leaf is left to whoever needs it. The answer has the
+-- size, so that
 -- counting and writing have one answer; the trie t that ends before node e begins at node e - keptSize t.
 --
 --   answer t               the answer of the trie t

@@ -1,6 +1,7 @@
 // The operations of the first form, by their numbers: 0 union, 1 what is common, 2 difference and 3 difference with full halves left apart. A source is given by a number and the string that it
 // is below.
 ghost use mathlib.Core.Path.{_≡_};
+ghost use mathlib.Core.List.{[]};
 ghost use Prim.Native.Nat.{ℕ, _≤_, max, min};
 ghost use lib.ListN.{length};
 ghost use Rattle.nets.specs.Bits.{Bits};
@@ -9,6 +10,7 @@ ghost use Rattle.nets.specs.TrieOps.{Kind, kindOf, verdict, half};
 ghost use Rattle.nets.specs.Networks.{netFrom};
 ghost use Rattle.trie_emit.specs.Combine.{opOf, opOn, rank};
 ghost use Rattle.trie_paths.specs.Spans.{snoc};
+ghost use Rattle.branch_points.specs.KeptTries.{keptSize};
 ghost use Rattle.kept_nodes.specs.Parse.{KeptRoom};
 ghost use Rattle.kept_sources.specs.Sources.{KeptMeans};
 ghost use Rattle.kept_emit.specs.Answers.{answer, Emits};
@@ -17,6 +19,7 @@ use crate::emitting::Emitted;
 use crate::emitting::child;
 use crate::emitting::finish;
 use crate::emitting::over;
+use crate::emitting::size_of;
 use crate::emitting::start_of;
 use kept_sources::EMPTY;
 use kept_sources::FULL;
@@ -105,6 +108,24 @@ pub fn foresee(
     let l = foresee(w, family, b, n, op, p.a, p.c, d + 1, fuel - 1);
     let r = foresee(w, family, b, n, op, q.a, q.c, d + 1, fuel - 1);
     over(op != 3, l, r)
+}
+
+// The nodes of the result of two whole tries.
+pub fn op_size(
+    w: &[u32],
+    family: u8,
+    b: usize,
+    n: u32,
+    op: usize,
+    a: usize,
+    c: usize,
+    fuel: usize,
+) -> usize
+    requires { ⌜ ((o : ℕ) × (e : ℕ) × (t : Trie) × (u : Trie) × Inputs family (now w) b n a c o e [] fuel t u) ⌝ }
+    ensures { λ r. ⌜ ((o e : ℕ) (t u : Trie) → Inputs family (now (w .entry)) b n a c o e [] fuel t u → r ≡ keptSize (opOn op fuel t u)) ⌝ }
+{
+    let x = foresee(w, family, b, n, op, a, c, 0, fuel);
+    size_of(x)
 }
 
 // Writes the result below the string of the network path, so that it ends before node e.

@@ -68,7 +68,8 @@ module _ (f : ℕ) (w : List ℕ) (b n m i : ℕ) (q : Bits) (c : ℕ) (near : i
   abbrev turned : ℕ → Shown
   turned g =
       cond (onWay f w b i q) (cond (eqb (distAt f w b i) 0) (Member (lenAt f w b i) (c + 1))
-      (cond (eqb (lenAt f w b i) (length q)) (Nothing (c + 1)) (keptWalk f w b n g (lenAt f w b i + 1) (i + side (getD q (lenAt f w b i) false) 1 (distAt f w b i)) q (c + 1)))) (Nothing c)
+      (cond (eqb (lenAt f w b i) (length q)) (Nothing (c + 1)) (keptWalk f w b n g (lenAt f w b i + 1) (i + side (getD q (lenAt f w b i) false) 1 (distAt f w b i)) q
+      (c + 1)))) (Nothing c)
 
   walk-turn : (j : ℕ) → (j ≡ 0 → ⊥) → keptWalk f w b n j m i q c ≡ turned (j - 1)
   unfolding keptWalk
@@ -82,7 +83,8 @@ module _ (f : ℕ) (w : List ℕ) (b n : ℕ) where
     len-above = omega (arith, h .len, leads-length (snoc p e) (stringAt f w b i) (h .begins), length-snoc p e)
 
     walk-off : (j : ℕ) (q : Bits) → (j ≡ 0 → ⊥) → leads (snoc p e) q ≡ false → keptWalk f w b n j m i q c ≡ Nothing c
-    walk-off j q nz off = walk-turn f w b n m i q c (h .near) (omega (arith, len-above)) j nz ∙ rw (way (leb (lenAt f w b i) (length q)) (leads (stringAt f w b i) q) refl)
+    walk-off j q nz off = walk-turn f w b n m i q c (h .near) (omega (arith, len-above)) j nz
+        ∙ rw (way (leb (lenAt f w b i) (length q)) (leads (stringAt f w b i) q) refl)
       where
         way : (x y : Bool) → leads (stringAt f w b i) q ≡ y → (x && y) ≡ false
         way x true k = let z : _≡_ {A = ℕ} 0 1 = cc (leads-trans (snoc p e) (stringAt f w b i) q (h .begins) k) in absurd (omega arith)
@@ -94,7 +96,8 @@ module _ (f : ℕ) (w : List ℕ) (b n : ℕ) where
     way-on : onWay f w b i (p ++ q) ≡ true
     way-on = rw (len-is s, string-is s, le-leb (length p) (length (p ++ q)) (omega (arith, length-append p q))) (leads-append p q)
 
-    here-turn : (j : ℕ) → (j ≡ 0 → ⊥) → keptWalk f w b n j m i (p ++ q) c ≡ cond (eqb d 0) (Member (length p) (c + 1)) (cond (eqb (length p) (length (p ++ q))) (Nothing (c + 1)) (keptWalk f w b n (j - 1) (length p + 1) (i + side (getD (p ++ q) (length p) false) 1 d) (p ++ q) (c + 1)))
+    here-turn : (j : ℕ) → (j ≡ 0 → ⊥) → keptWalk f w b n j m i (p ++ q) c ≡ cond (eqb d 0) (Member (length p) (c + 1)) (cond (eqb (length p) (length (p ++ q)))
+        (Nothing (c + 1)) (keptWalk f w b n (j - 1) (length p + 1) (i + side (getD (p ++ q) (length p) false) 1 d) (p ++ q) (c + 1)))
     here-turn j nz = walk-turn f w b n m i (p ++ q) c (rw (dist-is s) near) (rw (len-is s) le) j nz ∙ rw (way-on, len-is s, dist-is s)
 
   snoc-other : (p : Bits) (e : Bool) (q : Bits) → leads (snoc p e) (p ++ (not e ∷ q)) ≡ false
@@ -112,19 +115,29 @@ module _ (f : ℕ) (w : List ℕ) (b n : ℕ) where
   abbrev Finds : Trie → Bits → Bits → ℕ → ℕ → ℕ → ℕ → Type 0
   Finds t p q j m i c = keptWalk f w b n j m i (p ++ q) c ≡ shownBelow (length p) c (searchT q t) (keptStepsT q t)
 
-  along : (e : Bool) (x y : Trie) (p q : Bits) (j m i c : ℕ) → Finds (node x y) (snoc p e) q j m i c → keptWalk f w b n j m i (p ++ (e ∷ q)) c ≡ shownBelow (length p) c (under e (searchT q (node x y))) (0 + keptStepsT q (node x y))
+  along : (e : Bool) (x y : Trie) (p q : Bits) (j m i c : ℕ) → Finds (node x y) (snoc p e) q j m i c
+      → keptWalk f w b n j m i (p ++ (e ∷ q)) c ≡ shownBelow (length p) c (under e (searchT q (node x y))) (0 + keptStepsT q (node x y))
   along e x y p q j m i c h =
       let k : 0 + keptStepsT q (node x y) ≡ keptStepsT q (node x y) = omega arith in
       rw (k, ← shown-under e (length p) c (searchT q (node x y)) (keptStepsT q (node x y)), ← length-snoc p e, ← append-assoc p (e ∷ []) q) h
 
-  down : (e : Bool) (t : Trie) (p q : Bits) (j i c : ℕ) → Finds t (snoc p e) q j (length p + 1) i (c + 1) → keptWalk f w b n j (length p + 1) i (p ++ (e ∷ q)) (c + 1) ≡ shownBelow (length p) c (under e (searchT q t)) (1 + keptStepsT q t)
+  down : (e : Bool) (t : Trie) (p q : Bits) (j i c : ℕ) → Finds t (snoc p e) q j (length p + 1) i (c + 1)
+      → keptWalk f w b n j (length p + 1) i (p ++ (e ∷ q)) (c + 1) ≡ shownBelow (length p) c (under e (searchT q t)) (1 + keptStepsT q t)
   down e t p q j i c h =
-      rw (← shown-under e (length p) c (searchT q t) (1 + keptStepsT q t), ← shown-later (length p + 1) c (searchT q t) (keptStepsT q t), ← append-assoc p (e ∷ []) q) (rw (length-snoc p e) at h)
+      rw (
+        ← shown-under e (length p) c (searchT q t) (1 + keptStepsT q t),
+        ← shown-later (length p + 1) c (searchT q t) (keptStepsT q t),
+        ← append-assoc p
+            (e ∷ []) q,
+      ) (rw (length-snoc p e) at h)
 
   ends : (p q : Bits) (j m i c : ℕ) → 1 ≤ i → length q < j → m ≤ length p → KeptStands f w b n p i leaf → Finds leaf p q j m i c
   unfolding searchT keptStepsT keptSize
   ends p [] j m i c pos lt le s = rw (add-zero (length p)) (here-turn m i c 0 p [] (leaf-says pos s) (omega (arith, s .within)) le j (omega arith))
-  ends p (e ∷ q) j m i c pos lt le s = rw (side-same e none, count-none q, add-zero (length p)) (here-turn m i c 0 p (e ∷ q) (leaf-says pos s) (omega (arith, s .within)) le j (omega arith))
+  ends p (e ∷ q) j m i c pos lt le s = rw (side-same e none, count-none q, add-zero (length p)) (here-turn m i c 0 p (e ∷ q) (leaf-says pos s) (omega (
+    arith,
+    s .within,
+  )) le j (omega arith))
 
   at-right : {p : Bits} (i k : ℕ) {t : Trie} → KeptStands f w b n p (i + 1 + k) t → KeptStands f w b n p (i + (1 + k)) t
   at-right i k s = let e : i + 1 + k ≡ i + (1 + k) = omega arith in rw e at s
@@ -132,13 +145,17 @@ module _ (f : ℕ) (w : List ℕ) (b n : ℕ) where
   single : (e : Bool) (x y : Trie) (p q : Bits) (j m i c : ℕ) → 1 ≤ i → length q < j → m ≤ length p → KeptStands f w b n p i (fork e (node x y) none)
       → ((r : Bits) → length r < j → Finds (node x y) (snoc p e) r j m i c) → Finds (fork e (node x y) none) p q j m i c
   unfolding searchT keptStepsT
-  single false x y p [] j m i c pos lt le s ih = rw (add-zero c) (walk-off m i c p false (head-of f w b n (node x y) (snoc p false) i pos (some x y) (fork-stands pos false (node x y) (some x y) s)) le j (p ++ []) (omega arith) (snoc-nil p false))
-  single true x y p [] j m i c pos lt le s ih = rw (add-zero c) (walk-off m i c p true (head-of f w b n (node x y) (snoc p true) i pos (some x y) (fork-stands pos true (node x y) (some x y) s)) le j (p ++ []) (omega arith) (snoc-nil p true))
+  single false x y p [] j m i c pos lt le s ih = rw (add-zero c) (walk-off m i c p false (head-of f w b n (node x y) (snoc p false) i pos (some x y)
+      (fork-stands pos false (node x y) (some x y) s)) le j (p ++ []) (omega arith) (snoc-nil p false))
+  single true x y p [] j m i c pos lt le s ih = rw (add-zero c) (walk-off m i c p true (head-of f w b n (node x y) (snoc p true) i pos (some x y)
+      (fork-stands pos true (node x y) (some x y) s)) le j (p ++ []) (omega arith) (snoc-nil p true))
   single false x y p (false ∷ q) j m i c pos lt le s ih = along false x y p q j m i c (ih q (omega arith))
   single false x y p (true ∷ q) j m i c pos lt le s ih =
-      rw (search-none q, count-none q, add-zero c) (walk-off m i c p false (head-of f w b n (node x y) (snoc p false) i pos (some x y) (fork-stands pos false (node x y) (some x y) s)) le j (p ++ (true ∷ q)) (omega arith) (snoc-other p false q))
+      rw (search-none q, count-none q, add-zero c) (walk-off m i c p false (head-of f w b n (node x y) (snoc p false) i pos (some x y) (fork-stands pos false
+      (node x y) (some x y) s)) le j (p ++ (true ∷ q)) (omega arith) (snoc-other p false q))
   single true x y p (false ∷ q) j m i c pos lt le s ih =
-      rw (search-none q, count-none q, add-zero c) (walk-off m i c p true (head-of f w b n (node x y) (snoc p true) i pos (some x y) (fork-stands pos true (node x y) (some x y) s)) le j (p ++ (false ∷ q)) (omega arith) (snoc-other p true q))
+      rw (search-none q, count-none q, add-zero c) (walk-off m i c p true (head-of f w b n (node x y) (snoc p true) i pos (some x y) (fork-stands pos true (node x y)
+      (some x y) s)) le j (p ++ (false ∷ q)) (omega arith) (snoc-other p true q))
   single true x y p (true ∷ q) j m i c pos lt le s ih = along true x y p q j m i c (ih q (omega arith))
 
   -- a branch point
@@ -156,30 +173,45 @@ module _ (f : ℕ) (w : List ℕ) (b n : ℕ) where
       let d = branch-split pos s in
       let near : i + (1 + keptSize (node x y)) ≤ n = omega (arith, d .right .within, keptSize-some (node z u) (some z u)) in
       here-turn m i c (1 + keptSize (node x y)) p (false ∷ q) (d .root) near le j (omega arith)
-      ∙ rw (ne-eqb (1 + keptSize (node x y)) 0 (λ e. omega arith), ne-eqb (length p) (length (p ++ (false ∷ q))) (λ e. omega (arith, length-append p (false ∷ q))), getD-append-seam p false q false)
+      ∙ rw (
+        ne-eqb (1 + keptSize (node x y)) 0 (λ e. omega arith),
+        ne-eqb (length p) (length (p ++ (false ∷ q))) (λ e. omega (arith, length-append p (false ∷ q))),
+        getD-append-seam p false q false,
+      )
       (down false (node x y) p q (j - 1) (i + 1) c (il q (omega arith)))
   branch x y z u p (true ∷ q) j m i c pos lt le s il ir =
       let d = branch-split pos s in
       let near : i + (1 + keptSize (node x y)) ≤ n = omega (arith, d .right .within, keptSize-some (node z u) (some z u)) in
       here-turn m i c (1 + keptSize (node x y)) p (true ∷ q) (d .root) near le j (omega arith)
-      ∙ rw (ne-eqb (1 + keptSize (node x y)) 0 (λ e. omega arith), ne-eqb (length p) (length (p ++ (true ∷ q))) (λ e. omega (arith, length-append p (true ∷ q))), getD-append-seam p true q false)
+      ∙ rw (
+        ne-eqb (1 + keptSize (node x y)) 0 (λ e. omega arith),
+        ne-eqb (length p) (length (p ++ (true ∷ q))) (λ e. omega (arith, length-append p (true ∷ q))),
+        getD-append-seam p true q false,
+      )
       (down true (node z u) p q (j - 1) (i + (1 + keptSize (node x y))) c (ir q (omega arith)))
 
   walk-search : (t : Trie) (p q : Bits) (j m i c : ℕ) → 1 ≤ i → (t ≡ none → ⊥) → length q < j → m ≤ length p → KeptStands f w b n p i t → Finds t p q j m i c
   walk-search none p q j m i c pos ne lt le s = absurd (ne refl)
   walk-search (node none none) p q j m i c pos ne lt le s = ends p q j m i c pos lt le s
   walk-search (node none (node x y)) p q j m i c pos ne lt le s =
-      single true x y p q j m i c pos lt le s (λ r lr. walk-search (node x y) (snoc p true) r j m i c pos (some x y) lr (omega (arith, length-snoc p true)) (fork-stands pos true (node x y) (some x y) s))
+      single true x y p q j m i c pos lt le s (λ r lr. walk-search (node x y) (snoc p true) r j m i c pos (some x y) lr (omega (arith, length-snoc p true))
+      (fork-stands pos true (node x y) (some x y) s))
   walk-search (node (node x y) none) p q j m i c pos ne lt le s =
-      single false x y p q j m i c pos lt le s (λ r lr. walk-search (node x y) (snoc p false) r j m i c pos (some x y) lr (omega (arith, length-snoc p false)) (fork-stands pos false (node x y) (some x y) s))
+      single false x y p q j m i c pos lt le s (λ r lr. walk-search (node x y) (snoc p false) r j m i c pos (some x y) lr (omega (arith, length-snoc p false))
+      (fork-stands pos false (node x y) (some x y) s))
   walk-search (node (node x y) (node z u)) p q j m i c pos ne lt le s =
       let d = branch-split pos s in
       branch x y z u p q j m i c pos lt le s
-      (λ r lr. walk-search (node x y) (snoc p false) r (j - 1) (length p + 1) (i + 1) (c + 1) (omega arith) (some x y) lr (omega (arith, length-snoc p false)) (d .left))
-      (λ r lr. walk-search (node z u) (snoc p true) r (j - 1) (length p + 1) (i + (1 + keptSize (node x y))) (c + 1) (omega arith) (some z u) lr (omega (arith, length-snoc p true)) (at-right i (keptSize (node x y)) (d .right)))
+      (λ r lr. walk-search (node x y) (snoc p false) r (j - 1) (length p + 1) (i + 1) (c + 1) (omega arith) (some x y) lr (omega (arith, length-snoc p false))
+      (d .left))
+      (λ r lr. walk-search (node z u) (snoc p true) r (j - 1) (length p + 1) (i + (1 + keptSize (node x y))) (c + 1) (omega arith) (some z u) lr (omega (
+        arith,
+        length-snoc p true,
+      )) (at-right i (keptSize (node x y)) (d .right)))
 
   -- the root of a trie, and of a list: what its words show is its supernet, with its count
-  pub walk-trie : (t : Trie) (q : Bits) (i : ℕ) → 1 ≤ i → (t ≡ none → ⊥) → KeptStands f w b n [] i t → keptWalkFrom f w b n q i ≡ shownAs (supernetL (listOf t) q) (keptStepsL (listOf t) q)
+  pub walk-trie : (t : Trie) (q : Bits) (i : ℕ) → 1 ≤ i → (t ≡ none → ⊥) → KeptStands f w b n [] i t
+      → keptWalkFrom f w b n q i ≡ shownAs (supernetL (listOf t) q) (keptStepsL (listOf t) q)
   walk-trie t q i pos ne s =
       sym (from-node f w b n q i (omega arith) (omega (arith, s .within, keptSize-some t ne)))
       ∙ walk-search t [] q (suc (length q)) 0 i 0 pos ne (omega arith) (omega arith) s

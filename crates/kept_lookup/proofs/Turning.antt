@@ -87,7 +87,8 @@ module _ {f : ℕ} {w : List ℕ} {b n root : ℕ} {q : Net} {i least count : �
       abbrev onward : Shown
       onward = keptWalk f w b n (q .len - count) (lenAt f w b i + 1) (i + side (getD (netBits q) (lenAt f w b i) false) 1 (distAt f w b i)) (netBits q) (count + 1)
 
-      here : cond (onWay f w b i (netBits q)) (cond (eqb (distAt f w b i) 0) (Member (lenAt f w b i) (count + 1)) (cond (eqb (lenAt f w b i) (length (netBits q))) (Nothing (count + 1)) onward)) (Nothing count) ≡ keptWalkFrom f w b n (netBits q) root
+      here : cond (onWay f w b i (netBits q)) (cond (eqb (distAt f w b i) 0) (Member (lenAt f w b i) (count + 1)) (cond (eqb (lenAt f w b i) (length (netBits q)))
+          (Nothing (count + 1)) onward)) (Nothing count) ≡ keptWalkFrom f w b n (netBits q) root
       unfolding keptWalk
       here = rw (inn, le-leb least (lenAt f w b i) (omega (arith, len-is))) at (g .rest)
 
@@ -103,7 +104,8 @@ module _ {f : ℕ} {w : List ℕ} {b n root : ℕ} {q : Net} {i least count : �
         down-off e = rw (way, e) at here
 
         module _ (on : leads (netBits s) (netBits q) ≡ true) where
-          led : cond (eqb d 0) (Member (s .len) (count + 1)) (cond (eqb (s .len) (length (netBits q))) (Nothing (count + 1)) onward) ≡ keptWalkFrom f w b n (netBits q) root
+          led : cond (eqb d 0) (Member (s .len) (count + 1)) (cond (eqb (s .len) (length (netBits q))) (Nothing (count + 1)) onward) ≡ keptWalkFrom f w b n
+              (netBits q) root
           led = rw (m .dist, len-is) (rw (way, on) at here)
 
           pub down-leaf : d ≡ 0 → Answer (Member (s .len) (count + 1))
@@ -112,7 +114,8 @@ module _ {f : ℕ} {w : List ℕ} {b n root : ℕ} {q : Net} {i least count : �
           pub down-end : (d ≡ 0 → ⊥) → s .len ≡ q .len → Answer (Nothing (count + 1))
           down-end nz e = rw (ne-eqb d 0 nz, eq-eqb (s .len) (length (netBits q)) (omega (arith, query-length ask))) at led
 
-          pub down-on : (d ≡ 0 → ⊥) → (s .len ≡ q .len → ⊥) → (bit : Bool) (x : ℕ) → bit ≡ getD (netBits q) (s .len) false → x ≡ side bit 1 d → Down f w b n root q (i + x) (s .len + 1) (count + 1)
+          pub down-on : (d ≡ 0 → ⊥) → (s .len ≡ q .len → ⊥) → (bit : Bool) (x : ℕ) → bit ≡ getD (netBits q) (s .len) false → x ≡ side bit 1 d
+              → Down f w b n root q (i + x) (s .len + 1) (count + 1)
           down-on nz ne bit x bt e =
               let k : q .len - count ≡ suc (q .len - (count + 1)) = omega (arith, g .grown, ne) in
               let h = rw (ne-eqb d 0 nz, ne-eqb (s .len) (length (netBits q)) (λ z. ne (omega (arith, query-length ask))), k) at led in
@@ -138,7 +141,8 @@ counted-in f w b n (suc k) m i q c =
     (keptWalk f w b n k (lenAt f w b i + 1) (i + side (getD q (lenAt f w b i) false) 1 (distAt f w b i)) q (c + 1))
     (counted-in f w b n k (lenAt f w b i + 1) (i + side (getD q (lenAt f w b i) false) 1 (distAt f w b i)) q (c + 1))
   where
-    go : (x y z u : Bool) (d : ℕ) (s : Shown) → countedIn s ≤ c + 1 + k → countedIn (cond x (cond y (cond z (Member d (c + 1)) (cond u (Nothing (c + 1)) s)) (Nothing c)) Damaged) ≤ c + suc k
+    go : (x y z u : Bool) (d : ℕ) (s : Shown) → countedIn s ≤ c + 1 + k → countedIn (cond x (cond y (cond z (Member d (c + 1)) (cond u (Nothing (c + 1)) s))
+        (Nothing c)) Damaged) ≤ c + suc k
     go false y z u d s h = omega arith
     go true false z u d s h = omega arith
     go true true true u d s h = omega arith

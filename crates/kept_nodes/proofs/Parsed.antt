@@ -122,7 +122,8 @@ module _ {f : ℕ} {w : List ℕ} {b n : ℕ} {p : Bits} {i : ℕ} (pos : 1 ≤ 
         right = record {
           deep = omega (arith, s .deep, length-snoc p true);
           within = omega (arith, s .within);
-          has = has-at (rw (length-keptEnc f (snoc p false) l) (spot-on f b (i + 1) (keptSize l) (omega arith))) (has-back (keptEnc f (snoc p false) l) (keptEnc f (snoc p true) r) k);
+          has = has-at (rw (length-keptEnc f (snoc p false) l) (spot-on f b (i + 1) (keptSize l) (omega arith))) (has-back (keptEnc f (snoc p false) l) (keptEnc f
+              (snoc p true) r) k);
         };
       }
 
@@ -144,7 +145,8 @@ module _ (f : ℕ) (w : List ℕ) (b n : ℕ) where
   own-branch k l r s x y = rw (dist-is s, string-is s, ne-eqb (1 + keptSize l) 0 (λ e. omega arith), x, eq-eqb (1 + keptSize l) (1 + keptSize l) refl, y)
 
   -- where the words hold a trie, it is what is read
-  pub parse-of : (t : Trie) (k : ℕ) (p : Bits) (i : ℕ) → 1 ≤ i → (t ≡ none → ⊥) → suc (width f) ≤ k + length p → KeptStands f w b n p i t → keptParse f w b n k p i ≡ ok t
+  pub parse-of : (t : Trie) (k : ℕ) (p : Bits) (i : ℕ) → 1 ≤ i → (t ≡ none → ⊥) → suc (width f) ≤ k + length p → KeptStands f w b n p i t
+      → keptParse f w b n k p i ≡ ok t
   unfolding keptSize levels
   parse-of none k p i pos ne fuel s = absurd (ne refl)
   parse-of (node none none) k p i pos ne fuel s =
@@ -222,7 +224,8 @@ module _ {f : ℕ} {w : List ℕ} {b n : ℕ} (room : KeptRoom f w b n) where
       rest : Trie → Read
       rest l = bind (second (distAt f w b i) l (keptParse f w b n k (snoc (stringAt f w b i) true) (i + 1 + keptSize l))) (λ r. ok (node l r))
 
-      go : (c : Bool) → eqb (distAt f w b i) 0 ≡ c → cond c (ok leaf) (bind (keptParse f w b n k (snoc (stringAt f w b i) false) (i + 1)) rest) ≡ ok t → Good (stringAt f w b i) i t
+      go : (c : Bool) → eqb (distAt f w b i) 0 ≡ c → cond c (ok leaf) (bind (keptParse f w b n k (snoc (stringAt f w b i) false) (i + 1)) rest) ≡ ok t
+          → Good (stringAt f w b i) i t
       go true z g = let q : leaf ≡ t = cc g in subst (Good (stringAt f w b i) i) q (leaf-stands i pos le e (eqb-true (distAt f w b i) 0 z), some none none)
       go false z g =
           let x = bind-ok _ rest t g in
@@ -233,7 +236,10 @@ module _ {f : ℕ} {w : List ℕ} {b n : ℕ} (room : KeptRoom f w b n) where
           let a = ih (snoc (stringAt f w b i) false) (i + 1) l (omega arith) (x .1) in
           let c = ih (snoc (stringAt f w b i) true) (i + 1 + keptSize l) r (omega arith) (m .1) in
           let q : node l r ≡ t = cc (y .2) in
-          subst (Good (stringAt f w b i) i) q (branch-stands i l r pos le e (eqb-true (distAt f w b i) (1 + keptSize l) (m .0)) (a .1) (c .1) (a .0) (c .0), some l r)
+          subst (Good (stringAt f w b i) i) q (
+            branch-stands i l r pos le e (eqb-true (distAt f w b i) (1 + keptSize l) (m .0)) (a .1) (c .1) (a .0) (c .0),
+            some l r,
+          )
 
   pub stands : (k : ℕ) (p : Bits) (i : ℕ) (t : Trie) → 1 ≤ i → keptParse f w b n k p i ≡ ok t → KeptStands f w b n p i t × (t ≡ none → ⊥)
   unfolding keptParse own Good

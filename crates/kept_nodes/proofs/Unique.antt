@@ -17,7 +17,8 @@ use Rattle.kept_nodes.specs.Parse.{KeptRoom, keptParse, keptAfter, KeptS
 use Rattle.kept_nodes.proofs.Places.{spot-first, length-keptEnc}
 use Rattle.kept_nodes.proofs.Parsed.{parse-of, stands}
 
-pub unique : {f : ℕ} {w : List ℕ} {b n : ℕ} {p : Bits} {i : ℕ} {t u : Trie} → 1 ≤ i → (t ≡ none → ⊥) → (u ≡ none → ⊥) → KeptStands f w b n p i t → KeptStands f w b n p i u → t ≡ u
+pub unique : {f : ℕ} {w : List ℕ} {b n : ℕ} {p : Bits} {i : ℕ} {t u : Trie} → 1 ≤ i → (t ≡ none → ⊥) → (u ≡ none → ⊥) → KeptStands f w b n p i t
+    → KeptStands f w b n p i u → t ≡ u
 unique {f} {w} {b} {n} {p} {i} {t} {u} pos nt nu s r =
     let x = parse-of f w b n t (suc (width f)) p i pos nt (omega arith) s in
     let y = parse-of f w b n u (suc (width f)) p i pos nu (omega arith) r in
@@ -27,10 +28,15 @@ start-of : (f n : ℕ) (p : Bits) (t : Trie) (x : List ℕ) → length p + level
 start-of f n p t x d le = record {
   deep = d;
   within = omega arith;
-  has = has-at (sym (spot-first f 0)) (record { fits = omega (arith, length-append (keptEnc f p t) x); at = λ k l. rw (zero-add k) (List·getD-append (keptEnc f p t) x 0 k l) });
+  has = has-at (sym (spot-first f 0)) (record {
+    fits = omega (arith, length-append (keptEnc f p t) x);
+    at = λ k l. rw (zero-add k) (List·getD-append
+        (keptEnc f p t) x 0 k l);
+  });
 }
 
-pub prefix-free : (f : ℕ) (p : Bits) (t u : Trie) (x y : List ℕ) → length p + levels t ≤ suc (width f) → length p + levels u ≤ suc (width f) → (t ≡ none → ⊥) → (u ≡ none → ⊥)
+pub prefix-free : (f : ℕ) (p : Bits) (t u : Trie) (x y : List ℕ) → length p + levels t ≤ suc (width f) → length p + levels u ≤ suc (width f) → (t ≡ none → ⊥)
+    → (u ≡ none → ⊥)
     → keptEnc f p t ++ x ≡ keptEnc f p u ++ y → (t ≡ u) × (x ≡ y)
 prefix-free f p t u x y dt du nt nu e =
     let n = keptSize t + keptSize u in
@@ -47,7 +53,8 @@ got i r bad h ne = absurd (ne h)
 got i r (ok t) h ne = (t, refl, h)
 
 module _ (f : ℕ) (w : List ℕ) (b n i : ℕ) (pos : 1 ≤ i) where
-  pub answer-some : KeptRoom f w b n → (r : ℕ) → r ≡ keptAfter i (keptParse f w b n (suc (width f)) [] i) → (r ≡ 0 → ⊥) → (t : Trie) × KeptStands f w b n [] i t × (r ≡ i + keptSize t)
+  pub answer-some : KeptRoom f w b n → (r : ℕ) → r ≡ keptAfter i (keptParse f w b n (suc (width f)) [] i) → (r ≡ 0 → ⊥)
+      → (t : Trie) × KeptStands f w b n [] i t × (r ≡ i + keptSize t)
   answer-some room r e ne =
       let g = got i r (keptParse f w b n (suc (width f)) [] i) e ne in
       (g .0, stands room (suc (width f)) [] i (g .0) pos (g .1) .0, g .2)

@@ -1,4 +1,5 @@
--- The second form of a trie in words: its members and branch points in preorder, each as its string and the distance to its second child. A string is the network with these bits.
+-- The second form of a trie in words: its members and branch points in preorder, each as its string and the distance to its second child. A string is the network
+-- with these bits.
 --
 --   stride f           how many words a node of the family f takes: two of IPv4, five of IPv6
 --   addressWords n     the words of an address, the most significant first

@@ -27,7 +27,8 @@ digit-high h l j lt le =
 digit-low : (h l j : ℕ) → j < 64 → value h l / 2 ^ j % 2 ≡ l / 2 ^ j % 2
 digit-low h l j lt =
     let e : suc (63 - j) + j ≡ 64 = omega arith in
-    let p : h * 2 ^ 64 ≡ h * 2 ^ suc (63 - j) * 2 ^ j = ap (λ n. h * 2 ^ n) (sym e) ∙ ap (λ n. h * n) (pow-add 2 (suc (63 - j)) j) ∙ sym (mul-assoc h (2 ^ suc (63 - j)) (2 ^ j)) in
+    let p : h * 2 ^ 64 ≡ h * 2 ^ suc (63 - j) * 2 ^ j = ap (λ n. h * 2 ^ n) (sym e) ∙ ap (λ n. h * n) (pow-add 2 (suc (63 - j)) j)
+    ∙ sym (mul-assoc h (2 ^ suc (63 - j)) (2 ^ j)) in
     rw (p, mul-add-div-right (pow-pos j) (h * 2 ^ suc (63 - j)) l, pow-suc 2 (63 - j), ← mul-assoc h (2 ^ (63 - j)) 2) (omega arith)
 
 module _ {q : Net} (g : IsString q) (k : ℕ) (lt : k < q .len) where
@@ -85,5 +86,6 @@ module _ {p q : Net} (g : Both p q) (c : Bool) where
   pub extends-off : p .len < q .len → leads (netBits p) (netBits q) ≡ false → false ≡ leads (snoc (netBits p) c) (netBits q)
   extends-off lt e = rw (extends-long lt, e)
 
-  pub extends-bit : (x : Bool) → p .len < q .len → leads (netBits p) (netBits q) ≡ true → x ≡ getD (netBits q) (p .len) false → same x c ≡ leads (snoc (netBits p) c) (netBits q)
+  pub extends-bit : (x : Bool) → p .len < q .len → leads (netBits p) (netBits q) ≡ true → x ≡ getD (netBits q) (p .len) false
+      → same x c ≡ leads (snoc (netBits p) c) (netBits q)
   extends-bit x lt e h = rw (extends-long lt, e, h)

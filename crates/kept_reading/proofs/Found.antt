@@ -1,4 +1,5 @@
--- What is read of a node: its string is one of the family where its length is, and the node's words are those of a string exactly where no bit past the length is set. Assumes nothing.
+-- What is read of a node: its string is one of the family where its length is, and the node's words are those of a string exactly where no bit past the length is
+-- set. Assumes nothing.
 use mathlib.Core.Path.{_≡_, refl, sym, ap, _∙_}
 use mathlib.Core.Bool.{Bool, true, false, not, cond, _&&_}
 use mathlib.Core.List.{List, [], _∷_}
@@ -36,7 +37,8 @@ module _ {f : ℕ} {w : List ℕ} {b n : ℕ} (room : KeptRoom f w b n) where
   head-6 i e = rw (spot-6 f b i e)
 
 -- the words that the code reads
-pub found-short : {f : ℕ} {w : List ℕ} {p : ℕ} (lo len : ℕ) → f ≡ 4 → (lo ≡ getD w (p + 1) 0) × (lo < 2 ^ 32) → len ≡ getD w p 0 % 256 → FoundAs f w p (netWords f 0 lo len)
+pub found-short : {f : ℕ} {w : List ℕ} {p : ℕ} (lo len : ℕ) → f ≡ 4 → (lo ≡ getD w (p + 1) 0) × (lo < 2 ^ 32) → len ≡ getD w p 0 % 256
+    → FoundAs f w p (netWords f 0 lo len)
 unfolding netFound
 found-short lo len e g h = record {
   is = rw (eq-eqb _ 4 e, g .0, h);

@@ -82,7 +82,8 @@ module _ {f : ℕ} {w : List ℕ} {b n o g : ℕ} {p : Bits} where
   kind-all few i t everything e = refl
   kind-all few i t (standing h) e = absurd (omega (arith, h .stands .within))
 
-  by-node : (P : ℕ → Trie → Type 0) → ((i : ℕ) (l r : Trie) → KeptHere f w b n o g p i (node l r) → P i (node l r)) → (i : ℕ) (t : Trie) → KeptMeans f w b n o g p i t → (i ≡ 0 → ⊥) → (i ≡ all → ⊥) → P i t
+  by-node : (P : ℕ → Trie → Type 0) → ((i : ℕ) (l r : Trie) → KeptHere f w b n o g p i (node l r) → P i (node l r)) → (i : ℕ) (t : Trie)
+      → KeptMeans f w b n o g p i t → (i ≡ 0 → ⊥) → (i ≡ all → ⊥) → P i t
   by-node P c i t nothing nz na = absurd (nz refl)
   by-node P c i t everything nz na = absurd (na refl)
   by-node P c i t (standing {i = j} {l = l} {r = r} h) nz na = c j l r h
@@ -109,7 +110,8 @@ rank-leaf (node none none) e = refl
 rank-leaf (node none (node x y)) e = absurd (omega arith)
 rank-leaf (node (node x y) r) e = absurd (omega arith)
 
-inside : {f : ℕ} {w : List ℕ} {b n o g i j : ℕ} {p q : Bits} {l r x y : Trie} → KeptHere f w b n o g p i (node l r) → KeptStands f w b n q j (node x y) → i ≤ j → j + keptSize (node x y) ≤ i + keptSize (node l r) → KeptMeans f w b n o g q j (node x y)
+inside : {f : ℕ} {w : List ℕ} {b n o g i j : ℕ} {p q : Bits} {l r x y : Trie} → KeptHere f w b n o g p i (node l r) → KeptStands f w b n q j (node x y) → i ≤ j
+    → j + keptSize (node x y) ≤ i + keptSize (node l r) → KeptMeans f w b n o g q j (node x y)
 inside h s le fit = standing (record { stands = s; one = omega (arith, h .one); clear = ⊎-elim (λ q. inl (omega arith)) (λ q. inr (omega arith)) (h .clear) })
 
 module _ {f : ℕ} {w : List ℕ} {b n o g : ℕ} (p : Bits) where
@@ -122,19 +124,28 @@ module _ {f : ℕ} {w : List ℕ} {b n o g : ℕ} (p : Bits) where
       rw (dist-is (d .root), ← e) (inside h (d .right) (omega arith) (omega arith))
 
   -- the node's own string is p
-  at-piece : (s : Bool) (i : ℕ) (l r : Trie) → KeptHere f w b n o g p i (node l r) → 1 ≡ rank (kindOf (node l r)) → lenAt f w b i ≡ length p → KeptMeans f w b n o g (snoc p s) (i + side s 1 (distAt f w b i)) (half s (node l r))
-  at-piece s i l r h = by-shape (λ t. KeptHere f w b n o g p i t → 1 ≡ rank (kindOf t) → lenAt f w b i ≡ length p → KeptMeans f w b n o g (snoc p s) (i + side s 1 (distAt f w b i)) (half s t)) (h .one)
-      (λ y n k e. absurd (omega arith)) (λ x y z u d n k e. branch-piece s i x y z u n d) (λ c x y d n k e. absurd (omega (arith, edge-len p (h .one) c d))) l r (h .stands) h
+  at-piece : (s : Bool) (i : ℕ) (l r : Trie) → KeptHere f w b n o g p i (node l r) → 1 ≡ rank (kindOf (node l r)) → lenAt f w b i ≡ length p
+      → KeptMeans f w b n o g (snoc p s) (i + side s 1 (distAt f w b i)) (half s (node l r))
+  at-piece s i l r h = by-shape (λ t. KeptHere f w b n o g p i t → 1 ≡ rank (kindOf t) → lenAt f w b i ≡ length p
+      → KeptMeans f w b n o g (snoc p s) (i + side s 1 (distAt f w b i)) (half s t)) (h .one)
+      (λ y n k e. absurd (omega arith)) (λ x y z u d n k e. branch-piece s i x y z u n d) (λ c x y d n k e. absurd (omega (arith, edge-len p (h .one) c d))) l r
+      (h .stands) h
 
   -- p ends in the middle of the node's edge
   edge-piece : (s : Bool) (i : ℕ) (l r : Trie) → KeptHere f w b n o g p i (node l r) → 1 ≡ rank (kindOf (node l r)) → (lenAt f w b i ≡ length p → ⊥)
-      → (getD (stringAt f w b i) (length p) false ≡ s → KeptMeans f w b n o g (snoc p s) i (half s (node l r))) × ((getD (stringAt f w b i) (length p) false ≡ s → ⊥) → KeptMeans f w b n o g (snoc p s) 0 (half s (node l r)))
+      → (getD (stringAt f w b i) (length p) false ≡ s → KeptMeans f w b n o g (snoc p s) i (half s (node l r))) × ((getD (stringAt f w b i) (length p) false ≡ s → ⊥)
+      → KeptMeans f w b n o g (snoc p s) 0 (half s (node l r)))
   edge-piece s i l r h = by-shape
-      (λ t. KeptHere f w b n o g p i t → 1 ≡ rank (kindOf t) → (lenAt f w b i ≡ length p → ⊥) → (getD (stringAt f w b i) (length p) false ≡ s → KeptMeans f w b n o g (snoc p s) i (half s t)) × ((getD (stringAt f w b i) (length p) false ≡ s → ⊥) → KeptMeans f w b n o g (snoc p s) 0 (half s t))) (h .one)
-      (λ y n k e. absurd (omega arith)) (λ x y z u d n k e. absurd (e (len-is (d .root)))) (λ c x y d n k e. one c s i x y d n (bit-behind p c (stringAt f w b i) (edge-head p (h .one) c d .begins))) l r (h .stands) h
+      (λ t. KeptHere f w b n o g p i t → 1 ≡ rank (kindOf t) → (lenAt f w b i ≡ length p → ⊥) → (getD (stringAt f w b i) (length p) false ≡ s
+      → KeptMeans f w b n o g (snoc p s) i (half s t)) × ((getD (stringAt f w b i) (length p) false ≡ s → ⊥)
+      → KeptMeans f w b n o g (snoc p s) 0 (half s t))) (h .one)
+      (λ y n k e. absurd (omega arith)) (λ x y z u d n k e. absurd (e (len-is (d .root)))) (λ c x y d n k e. one c s i x y d n (bit-behind p c (stringAt f w b i)
+      (edge-head p (h .one) c d .begins))) l r (h .stands) h
     where
-      one : (c s : Bool) (i : ℕ) (x y : Trie) → KeptStands f w b n (snoc p c) i (node x y) → KeptHere f w b n o g p i (fork c (node x y) none) → getD (stringAt f w b i) (length p) false ≡ c
-          → (getD (stringAt f w b i) (length p) false ≡ s → KeptMeans f w b n o g (snoc p s) i (half s (fork c (node x y) none))) × ((getD (stringAt f w b i) (length p) false ≡ s → ⊥) → KeptMeans f w b n o g (snoc p s) 0 (half s (fork c (node x y) none)))
+      one : (c s : Bool) (i : ℕ) (x y : Trie) → KeptStands f w b n (snoc p c) i (node x y) → KeptHere f w b n o g p i (fork c (node x y) none)
+          → getD (stringAt f w b i) (length p) false ≡ c
+          → (getD (stringAt f w b i) (length p) false ≡ s → KeptMeans f w b n o g (snoc p s) i (half s (fork c (node x y) none))) × ((getD (stringAt f w b i)
+          (length p) false ≡ s → ⊥) → KeptMeans f w b n o g (snoc p s) 0 (half s (fork c (node x y) none)))
       one false false i x y d n e = ((λ q. inside n d (omega arith) (omega (arith, keptSize-fork false (node x y) (some x y)))), λ q. absurd (q e))
       one true true i x y d n e = ((λ q. inside n d (omega arith) (omega (arith, keptSize-fork true (node x y) (some x y)))), λ q. absurd (q e))
       one false true i x y d n e = ((λ q. let z : _≡_ {A = ℕ} 0 1 = cc in absurd (omega arith)), λ q. nothing)
@@ -166,18 +177,22 @@ module _ {f : ℕ} {w : List ℕ} {b n o g : ℕ} {p : Bits} (s : Bool) (i : ℕ
     piece-place = by-fork (λ i t. (1 ≤ i) × (i ≤ n)) (λ i l r h e. (h .one, omega (arith, h .stands .within, keptSize-some (node l r) (some l r))))
 
     piece-at : lenAt f w b i ≡ length p → KeptMeans f w b n o g (snoc p s) (i + side s 1 (distAt f w b i)) (half s t)
-    piece-at = by-fork (λ i t. lenAt f w b i ≡ length p → KeptMeans f w b n o g (snoc p s) (i + side s 1 (distAt f w b i)) (half s t)) (λ i l r h e. at-piece p s i l r h e)
+    piece-at = by-fork (λ i t. lenAt f w b i ≡ length p → KeptMeans f w b n o g (snoc p s) (i + side s 1 (distAt f w b i)) (half s t))
+        (λ i l r h e. at-piece p s i l r h e)
 
     piece-edge : (lenAt f w b i ≡ length p → ⊥)
-        → (getD (stringAt f w b i) (length p) false ≡ s → KeptMeans f w b n o g (snoc p s) i (half s t)) × ((getD (stringAt f w b i) (length p) false ≡ s → ⊥) → KeptMeans f w b n o g (snoc p s) 0 (half s t))
+        → (getD (stringAt f w b i) (length p) false ≡ s → KeptMeans f w b n o g (snoc p s) i (half s t)) × ((getD (stringAt f w b i) (length p) false ≡ s → ⊥)
+        → KeptMeans f w b n o g (snoc p s) 0 (half s t))
     piece-edge = by-fork (λ i t. (lenAt f w b i ≡ length p → ⊥)
-        → (getD (stringAt f w b i) (length p) false ≡ s → KeptMeans f w b n o g (snoc p s) i (half s t)) × ((getD (stringAt f w b i) (length p) false ≡ s → ⊥) → KeptMeans f w b n o g (snoc p s) 0 (half s t)))
+        → (getD (stringAt f w b i) (length p) false ≡ s → KeptMeans f w b n o g (snoc p s) i (half s t)) × ((getD (stringAt f w b i) (length p) false ≡ s → ⊥)
+        → KeptMeans f w b n o g (snoc p s) 0 (half s t)))
         (λ i l r h e. edge-piece p s i l r h e)
 
     edge-room : (lenAt f w b i ≡ length p → ⊥) → (length p < lenAt f w b i) × (lenAt f w b i ≤ width f)
     edge-room = by-fork (λ i t. (lenAt f w b i ≡ length p → ⊥) → (length p < lenAt f w b i) × (lenAt f w b i ≤ width f)) (λ i l r h e. go i l r h e)
       where
-        go : (i : ℕ) (l r : Trie) → KeptHere f w b n o g p i (node l r) → 1 ≡ rank (kindOf (node l r)) → (lenAt f w b i ≡ length p → ⊥) → (length p < lenAt f w b i) × (lenAt f w b i ≤ width f)
+        go : (i : ℕ) (l r : Trie) → KeptHere f w b n o g p i (node l r) → 1 ≡ rank (kindOf (node l r)) → (lenAt f w b i ≡ length p → ⊥)
+            → (length p < lenAt f w b i) × (lenAt f w b i ≤ width f)
         go i l r h = by-shape (λ t. 1 ≡ rank (kindOf t) → (lenAt f w b i ≡ length p → ⊥) → (length p < lenAt f w b i) × (lenAt f w b i ≤ width f)) (h .one)
             (λ y k e. absurd (omega arith)) (λ x y z u d k e. absurd (e (len-is (d .root))))
             (λ c x y d k e. (edge-len p (h .one) c d, head-short f w b n (node x y) (snoc p c) i (h .one) (some x y) d)) l r (h .stands)

@@ -1,4 +1,5 @@
--- A source of a set operation in the second form: the trie below a string p, which a number means. The number of a node means the trie below p also where p ends in the middle of the
+-- A source of a set operation in the second form: the trie below a string p, which a number means. The number of a node means the trie below p also where p ends in
+-- the middle of the
 -- node's edge; so the numbers of a recursion that goes down bit by bit are those of the first form, with p beside them.
 use mathlib.Core.List.{List}
 use mathlib.Core.Logic.{_⊎_}

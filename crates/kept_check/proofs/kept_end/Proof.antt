@@ -29,7 +29,8 @@ known c = record { fit = sym (c .before .before .node-fits .ensures) ∙ not-fal
 turn : (c : tie.After-parent Inv-loop μ-loop) →
     let t = c .before .before .before in
     let o = t .before .before .before .loop in
-    Turn (t .distance .result) (o .ats) (o .sp) (o .i) (c .before .before .stepped .result) (c .parent .result) (getD (set (o .ats) (o .sp) (o .i)) (c .parent .result) 0)
+    Turn (t .distance .result) (o .ats) (o .sp) (o .i) (c .before .before .stepped .result) (c .parent .result) (getD (set (o .ats) (o .sp) (o .i))
+    (c .parent .result) 0)
 turn c = record { step = c .before .before .stepped .ensures; place = c .parent .ensures; node = refl }
 
 fit : (c : tie.After-distance Inv-loop μ-loop) → c .before .before .before .loop .sp < 130
@@ -55,11 +56,18 @@ kept-end-spec =
     (λ c. omega (arith, fit c, c .before .before .before .loop .inv .wide))
     (λ c. omega (arith, within (c .before), c .before .before .before .before .before .pre .0 .few))
     (λ c κs. (c .before .before .before .loop .inv .high, fit c))
-    (λ c. let t = c .before .before in stop (t .before .before .before .before .before .pre .0) (t .before .before .before .loop .inv) (known t) _ (c .before .stepped .ensures) (c .if2 .taken))
+    (λ c. let t = c .before .before in stop (t .before .before .before .before .before .pre .0) (t .before .before .before .loop .inv) (known t) _
+    (c .before .stepped .ensures) (c .if2 .taken))
     (λ c κs. omega (arith, c .if2 .left))
     (λ c. omega (arith, where-next c))
     (λ c. omega (arith, where-next c, c .before .before .before .before .before .before .loop .inv .wide))
-    (λ c κs. let t = c .before .before .before in (t .before .before .before .before .before .pre .0, turn-node (t .before .before .before .before .before .pre .0) (t .before .before .before .loop .inv) (known t) (turn c) (c .before .if2 .left)))
-    (λ c. let e = c .before .before in let t = e .before .before .before in off (t .before .before .before .before .before .pre .0) (t .before .before .before .loop .inv) (known t) (turn e) (e .before .if2 .left) (sym (c .before .follows .ensures) ∙ not-true _ (c .if3 .taken)))
+    (λ c κs. let t = c .before .before .before in (
+      t .before .before .before .before .before .pre .0,
+      turn-node (t .before .before .before .before .before .pre .0)
+          (t .before .before .before .loop .inv) (known t) (turn c) (c .before .if2 .left),
+    ))
+    (λ c. let e = c .before .before in let t = e .before .before .before in off (t .before .before .before .before .before .pre .0)
+    (t .before .before .before .loop .inv) (known t) (turn e) (e .before .if2 .left) (sym (c .before .follows .ensures) ∙ not-true _ (c .if3 .taken)))
     (λ c. omega (arith, within (c .before .before .before .before .before .before)))
-    (λ c. let e = c .before .before in let t = e .before .before .before in on (t .before .before .before .before .before .pre .0) (t .before .before .before .loop .inv) (known t) (turn e) (e .before .if2 .left) (sym (c .before .follows .ensures) ∙ not-false _ (c .if3 .left))))
+    (λ c. let e = c .before .before in let t = e .before .before .before in on (t .before .before .before .before .before .pre .0)
+    (t .before .before .before .loop .inv) (known t) (turn e) (e .before .if2 .left) (sym (c .before .follows .ensures) ∙ not-false _ (c .if3 .left))))

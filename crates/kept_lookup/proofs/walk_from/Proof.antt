@@ -39,18 +39,57 @@ walk-from-spec =
     (λ c. down-start (c .before .before .before .pre .1) (c .before .if1 .left) (c .if2 .left))
     (λ c κs. (c .before .before .before .before .pre .0, (c .loop .inv .one, c .loop .inv .within)))
     (λ c. omega (arith, c .distance .ensures .1, c .before .loop .inv .within, c .before .before .before .before .before .pre .0 .few))
-    (λ c. down-over (c .before .before .before .before .before .before .pre .1) (c .before .before .loop .inv) (rw (c .before .distance .ensures .0) at (c .if3 .taken)))
+    (λ c. down-over (c .before .before .before .before .before .before .pre .1) (c .before .before .loop .inv) (rw (c .before .distance .ensures .0) at
+    (c .if3 .taken)))
     (λ c κs. (c .before .before .before .before .before .before .pre .0, (c .before .before .loop .inv .one, c .before .before .loop .inv .within)))
-    (λ c. let t = c .before .before in down-shrunk (t .before .before .before .before .before .before .before .pre .1) (t .before .before .before .loop .inv) (met t) (t .before .if3 .left) (c .if4 .taken))
-    (λ c. let e = c .before .before .before in let t = e .before .before in down-long (t .before .before .before .before .before .before .before .pre .1) (t .before .before .before .loop .inv) (met t) (t .before .if3 .left) (e .if4 .left) (c .if5 .taken))
-    (λ c κs. let t = c .before .before .before .before .before in let a = t .before .before .before .before .before .before .before in ask-both (a .pre .0) (a .pre .1) (t .net-at .ensures) (c .if5 .left))
-    (λ c. let f = c .before .before in let e = f .before .before .before in let t = e .before .before in down-off (t .before .before .before .before .before .before .before .pre .1) (t .before .before .before .loop .inv) (met t) (t .before .if3 .left) (e .if4 .left) (f .if5 .left) (sym (c .before .leads .ensures) ∙ not-true _ (c .if6 .taken)))
-    (λ c. omega (arith, c .before .before .before .before .before .before .before .before .before .before .loop .inv .grown, c .before .before .before .before .before .before .before .before .before .before .loop .inv .inside, query-few (c .before .before .before .before .before .before .before .before .before .before .before .before .before .before .pre .1)))
-    (λ c. let g = c .before in let f = g .before .before in let e = f .before .before .before in let t = e .before .before in down-leaf (t .before .before .before .before .before .before .before .pre .1) (t .before .before .before .loop .inv) (met t) (t .before .if3 .left) (e .if4 .left) (f .if5 .left) (sym (g .before .leads .ensures) ∙ not-false _ (g .if6 .left)) (c .if7 .taken))
-    (λ c. let g = c .before .before .before .before in let f = g .before .before in let e = f .before .before .before in let t = e .before .before in down-end (t .before .before .before .before .before .before .before .pre .1) (t .before .before .before .loop .inv) (met t) (t .before .if3 .left) (e .if4 .left) (f .if5 .left) (sym (g .before .leads .ensures) ∙ not-false _ (g .if6 .left)) (c .before .before .before .if7 .left) (c .if8 .taken))
+    (λ c. let t = c .before .before in down-shrunk (t .before .before .before .before .before .before .before .pre .1) (t .before .before .before .loop .inv) (met t)
+    (t .before .if3 .left) (c .if4 .taken))
+    (λ c. let e = c .before .before .before in let t = e .before .before in down-long (t .before .before .before .before .before .before .before .pre .1)
+    (t .before .before .before .loop .inv) (met t) (t .before .if3 .left) (e .if4 .left) (c .if5 .taken))
+    (λ c κs. let t = c .before .before .before .before .before in let a = t .before .before .before .before .before .before .before in
+    ask-both (a .pre .0) (a .pre .1) (t .net-at .ensures) (c .if5 .left))
+    (λ c. let f = c .before .before in let e = f .before .before .before in let t = e .before .before in
+    down-off (t .before .before .before .before .before .before .before .pre .1) (t .before .before .before .loop .inv) (met t) (t .before .if3 .left)
+    (e .if4 .left) (f .if5 .left) (sym (c .before .leads .ensures) ∙ not-true _ (c .if6 .taken)))
+    (λ c. omega (
+      arith,
+      c .before .before .before .before .before .before .before .before .before .before .loop .inv .grown,
+      c .before .before .before .before .before .before .before .before .before .before .loop .inv .inside,
+      query-few
+          (c .before .before .before .before .before .before .before .before .before .before .before .before .before .before .pre .1),
+    ))
+    (λ c. let g = c .before in let f = g .before .before in let e = f .before .before .before in let t = e .before .before in
+    down-leaf (t .before .before .before .before .before .before .before .pre .1) (t .before .before .before .loop .inv) (met t) (t .before .if3 .left)
+    (e .if4 .left) (f .if5 .left) (sym (g .before .leads .ensures) ∙ not-false _ (g .if6 .left)) (c .if7 .taken))
+    (λ c. let g = c .before .before .before .before in let f = g .before .before in let e = f .before .before .before in let t = e .before .before in
+    down-end (t .before .before .before .before .before .before .before .pre .1) (t .before .before .before .loop .inv) (met t) (t .before .if3 .left)
+    (e .if4 .left) (f .if5 .left) (sym (g .before .leads .ensures) ∙ not-false _ (g .if6 .left)) (c .before .before .before .if7 .left) (c .if8 .taken))
     (λ c κs. (c .before .before .before .before .before .before .before .before .before .before .before .before .before .before .before .before .before .before .pre .1 .is, omega (arith, c .if8 .left, c .before .before .before .before .before .before .if5 .left)))
     (λ c κs. search needs)
-    (λ c. omega (arith, step-le (c .before .bit-at .result) (c .before .before .before .before .before .before .before .before .before .before .before .before .before .before .before .distance .result) (c .step .ensures), c .before .before .before .before .before .before .before .before .before .before .before .before .before .before .before .distance .ensures .1, c .before .before .before .before .before .before .before .before .before .before .before .before .before .before .before .before .loop .inv .within, c .before .before .before .before .before .before .before .before .before .before .before .before .before .before .before .before .before .before .before .before .pre .0 .few))
-    (λ c. omega (arith, c .before .before .before .if8 .left, c .before .before .before .before .before .before .before .before .before .if5 .left, query-few (c .before .before .before .before .before .before .before .before .before .before .before .before .before .before .before .before .before .before .before .before .before .pre .1)))
-    (λ c. omega (arith, c .before .before .before .if8 .left, c .before .before .before .before .before .before .before .before .before .if5 .left, c .before .before .before .before .before .before .before .before .before .before .before .before .if4 .left))
-    (λ c. let g = c .before .before .before .before .before .before .before in let f = g .before .before in let e = f .before .before .before in let t = e .before .before in down-on (t .before .before .before .before .before .before .before .pre .1) (t .before .before .before .loop .inv) (met t) (t .before .if3 .left) (e .if4 .left) (f .if5 .left) (sym (g .before .leads .ensures) ∙ not-false _ (g .if6 .left)) (c .before .before .before .before .before .before .if7 .left) (c .before .before .before .if8 .left) _ _ (c .before .before .bit-at .ensures) (c .before .step .ensures)))
+    (λ c. omega (
+      arith,
+      step-le (c .before .bit-at .result)
+          (c .before .before .before .before .before .before .before .before .before .before .before .before .before .before .before .distance .result)
+          (c .step .ensures),
+      c .before .before .before .before .before .before .before .before .before .before .before .before .before .before .before .distance .ensures .1,
+      c .before .before .before .before .before .before .before .before .before .before .before .before .before .before .before .before .loop .inv .within,
+      c .before .before .before .before .before .before .before .before .before .before .before .before .before .before .before .before .before .before .before .before .pre .0 .few,
+    ))
+    (λ c. omega (
+      arith,
+      c .before .before .before .if8 .left,
+      c .before .before .before .before .before .before .before .before .before .if5 .left,
+      query-few
+          (c .before .before .before .before .before .before .before .before .before .before .before .before .before .before .before .before .before .before .before .before .before .pre .1),
+    ))
+    (λ c. omega (
+      arith,
+      c .before .before .before .if8 .left,
+      c .before .before .before .before .before .before .before .before .before .if5 .left,
+      c .before .before .before .before .before .before .before .before .before .before .before .before .if4 .left,
+    ))
+    (λ c. let g = c .before .before .before .before .before .before .before in let f = g .before .before in let e = f .before .before .before in
+    let t = e .before .before in down-on (t .before .before .before .before .before .before .before .pre .1) (t .before .before .before .loop .inv) (met t)
+    (t .before .if3 .left) (e .if4 .left) (f .if5 .left) (sym (g .before .leads .ensures)
+    ∙ not-false _ (g .if6 .left)) (c .before .before .before .before .before .before .if7 .left) (c .before .before .before .if8 .left) _ _
+    (c .before .before .bit-at .ensures) (c .before .step .ensures)))

@@ -34,7 +34,20 @@ abbrev below : ℕ → In 1 emit-kinds.ps
 below t = and 1 emit-kinds.ps (falls 1 emit-kinds.ps _<_ μ-emit t) emit.Pre
 
 abbrev calls : ℕ → emit-lts.Claims
-calls t = (judge-reads.Asked, judge-reads.Learnt, halves-reads.Asked, halves-reads.Learnt, child-reads.Asked, child-reads.Learnt, below t, emit.Post, start-of-reads.Asked, start-of-reads.Learnt, finish-reads.Asked, finish-reads.Learnt)
+calls t = (
+  judge-reads.Asked,
+  judge-reads.Learnt,
+  halves-reads.Asked,
+  halves-reads.Learnt,
+  child-reads.Asked,
+  child-reads.Learnt,
+  below t,
+  emit.Post,
+  start-of-reads.Asked,
+  start-of-reads.Learnt,
+  finish-reads.Asked,
+  finish-reads.Learnt,
+)
 
 module _ (n : ℕ) where
   abbrev Start : Type 0
@@ -50,10 +63,12 @@ module _ (n : ℕ) where
   Given s o p t u = let a = s .args in Inputs (a .family) (a .w .now) (a .b) (a .n) (a .a) (a .c) o (a .e) p (a .fuel) t u
 
   split : (c : Inside) (o : ℕ) (p : Bits) (t u : Trie) → start c .args .path ≡ netFrom (start c .args .family) p → Given (start c) o p t u → let a = start c .args in
-      Halving (a .family) (a .w .now) (a .b) (a .n) (a .op) (a .a) (a .c) o (a .e) p (a .fuel) t u (c .before .before .halves .result .a) (c .before .before .halves .result .c) (c .halves2 .result .a) (c .halves2 .result .c)
+      Halving (a .family) (a .w .now) (a .b) (a .n) (a .op) (a .a) (a .c) o (a .e) p (a .fuel) t u (c .before .before .halves .result .a)
+      (c .before .before .halves .result .c) (c .halves2 .result .a) (c .halves2 .result .c)
   split c o p t u is s = record {
     src = s;
-    mixes = op-mixed s _ _ (c .before .before .before .before .before .before .judge .ensures o _ p t u (len-of _ p is) (s .first) (s .second)) (c .before .before .before .before .before .if1 .left) (c .before .before .before .before .if2 .left);
+    mixes = op-mixed s _ _ (c .before .before .before .before .before .before .judge .ensures o _ p t u (len-of _ p is) (s .first) (s .second))
+        (c .before .before .before .before .before .if1 .left) (c .before .before .before .before .if2 .left);
     left = c .before .before .halves .ensures o _ p t u (len-of _ p is) (s .first) (s .second);
     right = c .halves2 .ensures o _ p t u (len-of _ p is) (s .first) (s .second);
   }
@@ -65,8 +80,10 @@ pub +emit-spec : {M : Type 1} → statement M
     (λ c o p t u is s g. op-none s _ _ (c .before .judge .ensures o _ p t u (len-of _ p is) (s .first) (s .second)) (c .if1 .taken))
     (λ c. search needs)
     (λ c o p t u is s g. op-full s _ _ (c .before .before .judge .ensures o _ p t u (len-of _ p is) (s .first) (s .second)) (c .if2 .taken))
-    (λ c κs. let (o, p, t, u, is, s, g) = c .before .before .before .before .before .before .pre .1 in (s .hold, (o, _, p, t, u, len-of _ p is, s .first, s .second)))
-    (λ c κs. let (o, p, t, u, is, s, g) = c .before .before .before .before .before .before .before .before .pre .1 in (s .hold, (o, _, p, t, u, len-of _ p is, s .first, s .second)))
+    (λ c κs. let (o, p, t, u, is, s, g) = c .before .before .before .before .before .before .pre .1 in
+    (s .hold, (o, _, p, t, u, len-of _ p is, s .first, s .second)))
+    (λ c κs. let (o, p, t, u, is, s, g) = c .before .before .before .before .before .before .before .before .pre .1 in
+    (s .hold, (o, _, p, t, u, len-of _ p is, s .first, s .second)))
     (λ c κs. let (o, p, t, u, is, s, g) = start n c .pre .1 in (_, p, is, inside (split n c o p t u is s)))
     (λ c. let s = start n (c .before .before) .pre .1 .5 in omega arith)
     (λ c κs.
@@ -75,27 +92,45 @@ pub +emit-spec : {M : Type 1} → statement M
     let d = split n i o p t u is s in
     (omega (arith, start n i .pre .0, s .turn), (o, snoc p true, _, _, c .before .child .ensures _ p is, right-inputs d, right-gap d g)))
     (λ c κs. search needs)
-    (λ c κs. let i = c .before .before .before .before .before .before in let (o, p, t, u, is, s, g) = start n i .pre .1 in (_, p, is, inside (split n i o p t u is s)))
+    (λ c κs. let i = c .before .before .before .before .before .before in let (o, p, t, u, is, s, g) = start n i .pre .1 in
+    (_, p, is, inside (split n i o p t u is s)))
     (λ c. let s = start n (c .before .before .before .before .before .before .before .before) .pre .1 .5 in omega arith)
     (λ c κs.
     let i = c .before .before .before .before .before .before .before .before in
     let (o, p, t, u, is, s, g) = start n i .pre .1 in
     let d = split n i o p t u is s in
-    let y = c .before .before .before .before .before .emit .ensures o (snoc p true) _ _ (c .before .before .before .before .before .before .before .child .ensures _ p is) (right-inputs d) (right-gap d g) in
-    (omega (arith, start n i .pre .0, s .turn), (o, snoc p false, _, _, c .before .child2 .ensures _ p is, rest-inputs d g _ _ _ y (c .before .before .start-of .ensures), rest-gap d g _ _ _ y (c .before .before .start-of .ensures))))
+    let y = c .before .before .before .before .before .emit .ensures o (snoc p true) _ _
+    (c .before .before .before .before .before .before .before .child .ensures _ p is) (right-inputs d) (right-gap d g) in (
+      omega (arith, start n i .pre .0, s .turn),
+      (
+        o,
+        snoc p false,
+        _,
+        _,
+        c .before .child2 .ensures _ p is,
+        rest-inputs d g _ _ _ y
+            (c .before .before .start-of .ensures),
+        rest-gap d g _ _ _ y (c .before .before .start-of .ensures),
+      ),
+    ))
     (λ c κs.
     let i = c .before .before .before .before .before .before .before .before .before .before .before .before in
     let (o, p, t, u, is, s, g) = start n i .pre .1 in
     let d = split n i o p t u is s in
-    let y = c .before .before .before .before .before .before .before .before .before .emit .ensures o (snoc p true) _ _ (c .before .before .before .before .before .before .before .before .before .before .before .child .ensures _ p is) (right-inputs d) (right-gap d g) in
+    let y = c .before .before .before .before .before .before .before .before .before .emit .ensures o (snoc p true) _ _
+    (c .before .before .before .before .before .before .before .before .before .before .before .child .ensures _ p is) (right-inputs d) (right-gap d g) in
     let k = c .before .before .before .before .before .before .start-of .ensures in
-    let x = c .before .before .before .emit2 .ensures o (snoc p false) _ _ (c .before .before .before .before .before .child2 .ensures _ p is) (rest-inputs d g _ _ _ y k) (rest-gap d g _ _ _ y k) in
+    let x = c .before .before .before .emit2 .ensures o (snoc p false) _ _ (c .before .before .before .before .before .child2 .ensures _ p is)
+    (rest-inputs d g _ _ _ y k) (rest-gap d g _ _ _ y k) in
     (_, p, _, _, is, pending d g _ _ _ y k _ _ x))
     (λ c. search needs)
     (λ c o p t u is s g.
     let i = c .before .before .before .before .before .before .before .before .before .before .before .before .before .before .before in
     let d = split n i o p t u is s in
-    let y = c .before .before .before .before .before .before .before .before .before .before .before .before .emit .ensures o (snoc p true) _ _ (c .before .before .before .before .before .before .before .before .before .before .before .before .before .before .child .ensures _ p is) (right-inputs d) (right-gap d g) in
+    let y = c .before .before .before .before .before .before .before .before .before .before .before .before .emit .ensures o (snoc p true) _ _
+    (c .before .before .before .before .before .before .before .before .before .before .before .before .before .before .child .ensures _ p is) (right-inputs d)
+    (right-gap d g) in
     let k = c .before .before .before .before .before .before .before .before .before .start-of .ensures in
-    let x = c .before .before .before .before .before .before .emit2 .ensures o (snoc p false) _ _ (c .before .before .before .before .before .before .before .before .child2 .ensures _ p is) (rest-inputs d g _ _ _ y k) (rest-gap d g _ _ _ y k) in
+    let x = c .before .before .before .before .before .before .emit2 .ensures o (snoc p false) _ _
+    (c .before .before .before .before .before .before .before .before .child2 .ensures _ p is) (rest-inputs d g _ _ _ y k) (rest-gap d g _ _ _ y k) in
     emitted d g _ _ _ y k _ _ x _ _ (λ v q a b r h. c .before .before .finish .ensures v q a b (is ∙ r) h))

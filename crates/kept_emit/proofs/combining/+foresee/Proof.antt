@@ -48,10 +48,12 @@ module _ (n : ℕ) where
   Given s o e p t u = let a = s .args in Inputs (a .family) (a .w .now) (a .b) (a .n) (a .a) (a .c) o e p (a .fuel) t u
 
   split : (c : Inside) (o e : ℕ) (p : Bits) (t u : Trie) → length p ≡ start c .args .d → Given (start c) o e p t u → let a = start c .args in
-      Halving (a .family) (a .w .now) (a .b) (a .n) (a .op) (a .a) (a .c) o e p (a .fuel) t u (c .before .halves .result .a) (c .before .halves .result .c) (c .halves2 .result .a) (c .halves2 .result .c)
+      Halving (a .family) (a .w .now) (a .b) (a .n) (a .op) (a .a) (a .c) o e p (a .fuel) t u (c .before .halves .result .a) (c .before .halves .result .c)
+      (c .halves2 .result .a) (c .halves2 .result .c)
   split c o e p t u q s = record {
     src = s;
-    mixes = op-mixed s _ _ (c .before .before .before .before .judge .ensures o e p t u q (s .first) (s .second)) (c .before .before .before .if1 .left) (c .before .before .if2 .left);
+    mixes = op-mixed s _ _ (c .before .before .before .before .judge .ensures o e p t u q (s .first) (s .second)) (c .before .before .before .if1 .left)
+        (c .before .before .if2 .left);
     left = c .before .halves .ensures o e p t u q (s .first) (s .second);
     right = c .halves2 .ensures o e p t u q (s .first) (s .second);
   }
@@ -68,11 +70,27 @@ pub +foresee-spec : {M : Type 1} → statement M
     (λ c κs.
     let (o, e, p, t, u, q, s) = start n c .pre .1 in
     (omega (arith, start n c .pre .0, s .turn), (o, e, snoc p false, _, _, length-snoc p false ∙ ap (λ (k : ℕ). k + 1) q, left-inputs (split n c o e p t u q s))))
-    (λ c. let (o, e, p, t, u, q, s) = start n (c .before) .pre .1 in omega (arith, inside (split n (c .before) o e p t u q s), width-le (start n (c .before) .args .family)))
+    (λ c. let (o, e, p, t, u, q, s) = start n (c .before) .pre .1 in omega (
+      arith,
+      inside (split n (c .before) o e p t u q s),
+      width-le (start n
+          (c .before) .args .family),
+    ))
     (λ c. let s = start n (c .before) .pre .1 .6 in omega arith)
     (λ c κs.
-    let (o, e, p, t, u, q, s) = start n (c .before) .pre .1 in
-    (omega (arith, start n (c .before) .pre .0, s .turn), (o, e, snoc p true, _, _, length-snoc p true ∙ ap (λ (k : ℕ). k + 1) q, right-inputs (split n (c .before) o e p t u q s))))
+    let (o, e, p, t, u, q, s) = start n (c .before) .pre .1 in (
+      omega (arith, start n (c .before) .pre .0, s .turn),
+      (
+        o,
+        e,
+        snoc p true,
+        _,
+        _,
+        length-snoc p true
+            ∙ ap (λ (k : ℕ). k + 1) q,
+        right-inputs (split n (c .before) o e p t u q s),
+      ),
+    ))
     (λ c κs.
     let (o, e, p, t, u, q, s) = start n (c .before .before) .pre .1 in (
       _,

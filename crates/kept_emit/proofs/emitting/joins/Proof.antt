@@ -16,4 +16,9 @@ joins-spec =
     (λ c κs. search needs)
     (λ c.
     let d = c .before .before .before in
-    rw (not-false (d .before .args .joined) (d .if1 .left), ← c .before .before .is-full .ensures, not-false (c .before .before .is-full .result) (c .before .if2 .left)) (c .is-full2 .ensures)))
+    rw (
+      not-false (d .before .args .joined) (d .if1 .left),
+      ← c .before .before .is-full .ensures,
+      not-false (c .before .before .is-full .result)
+          (c .before .if2 .left),
+    ) (c .is-full2 .ensures)))

@@ -7,7 +7,12 @@ use Rattle.kept_emit.proofs.emitting.over.Statement.{statement}
 use Rattle.kept_emit.proofs.emitting.over.Tie as tie
 
 few : (c : tie.After-size-of2) → c .before .size-of .result + c .size-of2 .result < 2 ^ 62
-few c = let d = c .before .before .pre .2 in omega (arith, d .small, sizes (c .before .before .args .joined) d _ _ (c .before .size-of .ensures) (c .size-of2 .ensures))
+few c = let d = c .before .before .pre .2 in omega (
+  arith,
+  d .small,
+  sizes (c .before .before .args .joined) d _ _ (c .before .size-of .ensures)
+      (c .size-of2 .ensures),
+)
 
 pub over-spec : {M : Type 1} → statement M
 over-spec =
@@ -18,9 +23,14 @@ over-spec =
     (λ c. omega (arith, few c))
     (λ c t u d. over-none _ d _ _ (c .before .before .size-of .ensures) (c .before .size-of2 .ensures) (c .if1 .taken))
     (λ c κs. search needs)
-    (λ c t u d. let j = c .before in let z = j .before .before in over-leaf _ d _ _ (z .before .size-of .ensures) (z .size-of2 .ensures) _ (j .joins .ensures) (c .if2 .taken))
-    (λ c t u d. let e = c .before in let j = e .before in let z = j .before .before in over-second _ d _ _ (z .before .size-of .ensures) (z .size-of2 .ensures) _ (j .joins .ensures) (j .before .if1 .left) (e .if2 .left) (c .if3 .taken))
-    (λ c t u d. let e = c .before .before in let j = e .before in let z = j .before .before in over-first _ d _ _ (z .before .size-of .ensures) (z .size-of2 .ensures) _ (j .joins .ensures) (j .before .if1 .left) (e .if2 .left) (c .if4 .taken))
+    (λ c t u d. let j = c .before in let z = j .before .before in over-leaf _ d _ _ (z .before .size-of .ensures) (z .size-of2 .ensures) _ (j .joins .ensures)
+    (c .if2 .taken))
+    (λ c t u d. let e = c .before in let j = e .before in let z = j .before .before in
+    over-second _ d _ _ (z .before .size-of .ensures) (z .size-of2 .ensures) _ (j .joins .ensures) (j .before .if1 .left) (e .if2 .left) (c .if3 .taken))
+    (λ c t u d. let e = c .before .before in let j = e .before in let z = j .before .before in
+    over-first _ d _ _ (z .before .size-of .ensures) (z .size-of2 .ensures) _ (j .joins .ensures) (j .before .if1 .left) (e .if2 .left) (c .if4 .taken))
     (λ c. omega (arith, few (c .before .before .before .before .before)))
     (λ c. omega (arith, few (c .before .before .before .before .before)))
-    (λ c t u d. let e = c .before .before in let j = e .before in let z = j .before .before in over-both _ d _ _ (z .before .size-of .ensures) (z .size-of2 .ensures) _ (j .joins .ensures) (j .before .if1 .left) (e .if2 .left) (c .before .if3 .left) (c .if4 .left)))
+    (λ c t u d. let e = c .before .before in let j = e .before in let z = j .before .before in
+    over-both _ d _ _ (z .before .size-of .ensures) (z .size-of2 .ensures) _ (j .joins .ensures) (j .before .if1 .left) (e .if2 .left) (c .before .if3 .left)
+    (c .if4 .left)))

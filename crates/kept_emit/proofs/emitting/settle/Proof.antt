@@ -12,7 +12,8 @@ settle-spec =
     (tie.spec
     (λ c. search needs)
     (λ c. search needs)
-    (λ c κs. let a = c .before .before .before .before in let h = a .pre .0 (c .before .enum-told2 .given .1) in record { one = h .0; fits = h .1; low = omega arith; few = omega arith; near = omega arith })
+    (λ c κs. let a = c .before .before .before .before in let h = a .pre .0 (c .before .enum-told2 .given .1) in
+    record { one = h .0; fits = h .1; low = omega arith; few = omega arith; near = omega arith })
     (λ c. search needs)
     (λ c p is le. rw (c .enum-told .given .1) (sym (put-nil _ _)))
     (λ c. search needs)

@@ -16,6 +16,8 @@ top-spec =
     (λ c. omega (arith, c .before .before .before .before .pre .0 (c .before .before .if1 .left) (c .before .if2 .left)))
     (λ c. omega (arith, c .before .before .before .before .pre .0 (c .before .before .if1 .left) (c .before .if2 .left)))
     (λ c. search needs)
-    (λ c κs. let a = c .before .before .before .before in let h = a .pre .0 (c .before .before .if1 .left) (c .before .if2 .left) in record { one = omega arith; fits = h .1; low = omega arith; few = omega arith; near = omega arith })
+    (λ c κs. let a = c .before .before .before .before in let h = a .pre .0 (c .before .before .if1 .left) (c .before .if2 .left) in
+    record { one = omega arith; fits = h .1; low = omega arith; few = omega arith; near = omega arith })
     (λ c. search needs)
-    (λ c p is le. rw (top-both _ p _ _ _ (c .before .before .before .before .before .if1 .left) (c .before .before .before .before .if2 .left)) (c .before .before .write-node .ensures p is le)))
+    (λ c p is le. rw (top-both _ p _ _ _ (c .before .before .before .before .before .if1 .left) (c .before .before .before .before .if2 .left))
+    (c .before .before .write-node .ensures p is le)))

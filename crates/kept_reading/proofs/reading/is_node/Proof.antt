@@ -16,4 +16,8 @@ is-node-spec =
     (λ c κs. search needs)
     (λ c. let e = c .before .before .before in
     let d = e .before .before .before in
-    rw (c .has-bit-past .ensures) (read-node (d .pre .0) (e .before .net-at .ensures) (d .pre .1 .0) (d .pre .1 .1) (omega (arith, e .width .ensures, c .before .if1 .left)))))
+    rw (c .has-bit-past .ensures) (read-node (d .pre .0) (e .before .net-at .ensures) (d .pre .1 .0) (d .pre .1 .1) (omega (
+      arith,
+      e .width .ensures,
+      c .before .if1 .left,
+    )))))

@@ -35,4 +35,5 @@ long-net-spec =
     let w3 = w4 .before .before in
     let w2 = w3 .before .before in
     let w1 = w2 .before .before in
-    found-long _ _ _ _ _ _ _ (w1 .before .before .before .before .pre .1) (w1 .wide .ensures) (w2 .wide2 .ensures) (w3 .wide3 .ensures) (w4 .wide4 .ensures) (c .before .pair .ensures) (c .pair2 .ensures) refl))
+    found-long _ _ _ _ _ _ _ (w1 .before .before .before .before .pre .1) (w1 .wide .ensures) (w2 .wide2 .ensures) (w3 .wide3 .ensures) (w4 .wide4 .ensures)
+    (c .before .pair .ensures) (c .pair2 .ensures) refl))

@@ -15,4 +15,5 @@ extends-spec =
     (λ c κs. search needs)
     (λ c. let d = c .before .before in extends-off (d .before .before .before .pre) _ (d .if1 .left) (sym (c .before .leads .ensures) ∙ not-true _ (c .if2 .taken)))
     (λ c κs. search needs)
-    (λ c. let e = c .before .before in let d = e .before in extends-bit (d .before .before .before .pre) _ _ (d .if1 .left) (sym (e .leads .ensures) ∙ not-false _ (c .before .if2 .left)) (c .bit-at .ensures)))
+    (λ c. let e = c .before .before in let d = e .before in extends-bit (d .before .before .before .pre) _ _ (d .if1 .left) (sym (e .leads .ensures)
+    ∙ not-false _ (c .before .if2 .left)) (c .bit-at .ensures)))
