@@ -45,6 +45,31 @@ pub fn contains(pool: &[u32], set: u32, n: &Net) -> bool {
     unsafe { marlbrace_contains(pool.as_ptr(), pool.len(), set, n.family, n.hi, n.lo, n.len) >> 48 & 1 == 1 }
 }
 
+/// As `contains`, with the member in the row.
+pub fn supernet(pool: &[u32], set: u32, n: &Net, row: &mut [u64; 3]) -> bool {
+    unsafe { marlbrace_supernet(pool.as_ptr(), pool.len(), set, n.family, n.hi, n.lo, n.len, row) >> 48 & 1 == 1 }
+}
+
+pub fn free(pool: &[u32]) -> u64 {
+    unsafe { marlbrace_free(pool.as_ptr(), pool.len()) }
+}
+
+pub fn held(pool: &[u32], set: u32) -> u64 {
+    unsafe { marlbrace_held(pool.as_ptr(), pool.len(), set) }
+}
+
+pub fn equal(pool: &[u32], first: u32, second: u32) -> u64 {
+    unsafe { marlbrace_equal(pool.as_ptr(), pool.len(), first, second) }
+}
+
+pub fn next(pool: &[u32], set: u32, n: &Net, row: &mut [u64; 3]) -> u64 {
+    unsafe { marlbrace_next(pool.as_ptr(), pool.len(), set, n.family, n.hi, n.lo, n.len, row) }
+}
+
+pub fn nth(pool: &[u32], set: u32, place: u32, row: &mut [u64; 3]) -> u64 {
+    unsafe { marlbrace_nth(pool.as_ptr(), pool.len(), set, place, row) }
+}
+
 pub fn list(pool: &[u32], set: u32, rows: &mut [u64]) -> u64 {
     unsafe { marlbrace_list(pool.as_ptr(), pool.len(), set, rows.as_mut_ptr(), rows.len()) }
 }
@@ -55,6 +80,36 @@ pub fn save(pool: &[u32], set: u32, out: &mut [u8]) -> u64 {
 
 pub fn load(pool: &mut [u32], set: u32, file: &[u8]) -> u64 {
     unsafe { marlbrace_load(pool.as_mut_ptr(), pool.len(), set, file.as_ptr(), file.len()) }
+}
+
+pub fn lines(pool: &mut [u32], text: &[u8], counts: &mut [u64; 2]) -> u64 {
+    unsafe { marlbrace_lines(pool.as_mut_ptr(), pool.len(), text.as_ptr(), text.len(), counts) }
+}
+
+pub fn add(pool: &mut [u32], set: u32, n: &Net) -> u64 {
+    unsafe { marlbrace_add(pool.as_mut_ptr(), pool.len(), set, n.family, n.hi, n.lo, n.len) }
+}
+
+pub fn remove(pool: &mut [u32], set: u32, n: &Net) -> u64 {
+    unsafe { marlbrace_remove(pool.as_mut_ptr(), pool.len(), set, n.family, n.hi, n.lo, n.len) }
+}
+
+pub fn simplify(pool: &mut [u32], set: u32) -> u64 {
+    unsafe { marlbrace_simplify(pool.as_mut_ptr(), pool.len(), set) }
+}
+
+/// A combination by its code, into a third set.
+pub fn combine(code: u8, pool: &mut [u32], to: u32, first: u32, second: u32) -> u64 {
+    let (w, m) = (pool.as_mut_ptr(), pool.len());
+    unsafe {
+        match code {
+            MERGE => marlbrace_merge(w, m, to, first, second),
+            INTERSECT => marlbrace_intersect(w, m, to, first, second),
+            EXCLUDE => marlbrace_exclude(w, m, to, first, second),
+            EXCLUDE_APART => marlbrace_exclude_apart(w, m, to, first, second),
+            _ => unreachable!(),
+        }
+    }
 }
 
 pub fn compare(first: &[u8], second: &[u8]) -> u64 {

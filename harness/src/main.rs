@@ -1,5 +1,8 @@
-//! The library beside the Rust crate iprange and an independent model. See `run` in this folder.
+//! The library beside the Rust crate iprange and an independent model. See `run` in this folder. Without the feature `calls` it has the benchmark alone, and
+//! needs no archive of calls as bytes.
+#![cfg_attr(not(feature = "calls"), allow(dead_code))]
 mod bench;
+#[cfg(feature = "calls")]
 mod differential;
 mod exports;
 mod files;
@@ -15,14 +18,16 @@ mod wire;
 fn main() {
     let words: Vec<String> = std::env::args().skip(1).collect();
     let numbers: Option<Vec<u64>> = words.iter().skip(1).map(|word| word.parse().ok()).collect();
-    let right = match (words.first().map(String::as_str), numbers.as_deref()) {
-        (Some("differential"), Some(&[calls, seed])) => differential::main(calls, seed),
-        (Some("sample"), Some(&[frames, seed])) => differential::sample(frames, seed),
-        (Some("bench"), Some(&[])) => bench::main(),
+    let status = match (words.first().map(String::as_str), numbers.as_deref()) {
+        (Some("bench"), _) => bench::main(&words[1..]),
+        #[cfg(feature = "calls")]
+        (Some("differential"), Some(&[calls, seed])) => !differential::main(calls, seed) as i32,
+        #[cfg(feature = "calls")]
+        (Some("sample"), Some(&[frames, seed])) => !differential::sample(frames, seed) as i32,
         _ => {
-            eprintln!("usage: harness differential CALLS SEED, harness sample FRAMES SEED, or harness bench (`run` has the options)");
-            std::process::exit(2)
+            eprintln!("usage: harness differential CALLS SEED, harness sample FRAMES SEED, or harness bench OPTIONS (`run` has the options)");
+            2
         }
     };
-    std::process::exit(!right as i32);
+    std::process::exit(status);
 }

@@ -1,0 +1,249 @@
+//! The rows that are measured on a table. A new one is a function here and its line in ROWS; where it has a target, a line in targets.txt too.
+use super::case::{seconds, Case, Pool, Took, NODES};
+use super::tables::{queries, some, QUERIES};
+use crate::exports as call;
+use crate::files::file;
+use crate::lists::{meets_inner, List, Member};
+use crate::model::net;
+use crate::oracle::{ranges, Numbers};
+use crate::wire::{Net, EXCLUDE, EXCLUDE_APART, INTERSECT, MERGE};
+use ipnet::{Ipv4Net, Ipv6Net};
+use iprange::IpRange;
+use std::hint::black_box;
+
+/// The tables that have to fit in one pool.
+#[derive(Clone, Copy, PartialEq, Eq)]
+pub enum Needs {
+    One,
+    /// The table twice.
+    Twice,
+    /// The table, a second one and what is made of both.
+    Two,
+}
+
+pub struct Row {
+    /// As `--rows` and targets.txt name it.
+    pub name: &'static str,
+    /// In the tables: our call, and behind a stroke what stands beside it.
+    pub what: &'static str,
+    /// What the nanoseconds are for.
+    pub each: &'static str,
+    pub needs: Needs,
+    pub four: fn(&Case<Ipv4Net>) -> Took,
+    pub six: fn(&Case<Ipv6Net>) -> Took,
+}
+
+macro_rules! rows {
+    ($($name:ident, $what:literal, $each:literal, $needs:ident;)*) => {
+        &[$(Row { name: stringify!($name), what: $what, each: $each, needs: Needs::$needs, four: $name::<Ipv4Net>, six: $name::<Ipv6Net> }),*]
+    };
+}
+
+pub const ROWS: &[Row] = rows! {
+    contains_hit, "contains, hit / contains", "lookup", One;
+    contains_miss, "contains, miss / contains", "lookup", One;
+    supernet, "supernet / supernet", "lookup", One;
+    list, "list / iterate", "network", One;
+    walk, "nth: a walk of 1,000 steps / iterate", "network", One;
+    load, "load / collect", "network", One;
+    save, "save", "network", One;
+    simplify, "simplify / simplify", "network", One;
+    merge, "merge / merge", "network of both", Two;
+    intersect, "intersect / intersect", "network of both", Two;
+    exclude, "exclude / exclude, simplify", "network of both", Two;
+    exclude_apart, "exclude_apart / exclude", "network of both", Two;
+    copy, "exclude_apart of nothing / clone", "network", Twice;
+    equal, "equal / ==", "network", Twice;
+    merge_public, "merge, public-only / not marked", "network of both", Two;
+    check, "free: the check of the pool", "node", One;
+    held, "held", "call", One;
+    add, "add / add", "call", One;
+    add_public, "add, public-only / not marked", "call", Two;
+    remove, "remove / remove", "call", One;
+    next, "next", "call", One;
+};
+
+/// An answer that is no refusal.
+fn granted(answer: u64) {
+    assert_eq!(answer >> 32 & 0xffff, 0, "refused");
+}
+
+fn lookups<N: Numbers + Clone>(c: &Case<N>, hit: bool, ours: impl Fn(&Net) -> bool, theirs: impl Fn(&N) -> bool) -> Took {
+    let (nets, same): (Vec<Net>, Vec<N>) = queries(c.family, &c.list, hit).iter().map(|&m| (net(c.family, m), N::of(m))).unzip();
+    let right = |n: usize| assert_eq!(n, if hit { QUERIES } else { 0 });
+    let a = || seconds(|| right(nets.iter().filter(|n| ours(n)).count()));
+    c.beside(QUERIES, a, || seconds(|| right(same.iter().filter(|n| theirs(n)).count()))).checked(0)
+}
+
+fn contains_hit<N: Numbers + Clone>(c: &Case<N>) -> Took {
+    lookups(c, true, |n| call::contains(&c.words, 0, n), |n| c.range.contains(n))
+}
+
+fn contains_miss<N: Numbers + Clone>(c: &Case<N>) -> Took {
+    lookups(c, false, |n| call::contains(&c.words, 0, n), |n| c.range.contains(n))
+}
+
+fn supernet<N: Numbers + Clone>(c: &Case<N>) -> Took {
+    lookups(c, true, |n| call::supernet(&c.words, 0, n, black_box(&mut [0; 3])), |n| black_box(c.range.supernet(n)).is_some())
+}
+
+fn list<N: Numbers + Clone>(c: &Case<N>) -> Took {
+    let n = c.list.len();
+    let mut rows = vec![0u64; 3 * n];
+    let mut v: Vec<N> = Vec::with_capacity(n);
+    let theirs = || {
+        v.clear();
+        seconds(|| v.extend(black_box(&c.range).iter()))
+    };
+    c.beside(n, || seconds(|| assert_eq!(call::list(&c.words, 0, &mut rows), n as u64)), theirs)
+}
+
+/// The networks that a walk passes: all of a large table would take minutes.
+const STEPS: usize = 1000;
+
+fn walk<N: Numbers + Clone>(c: &Case<N>) -> Took {
+    let (n, mut row) = (STEPS.min(c.list.len()), [0; 3]);
+    let theirs = || seconds(|| _ = black_box(black_box(&c.range).iter().nth(n - 1)));
+    c.beside(n, || seconds(|| granted(call::nth(&c.words, 0, n as u32 - 1, &mut row))), theirs)
+}
+
+fn load<N: Numbers + Clone>(c: &Case<N>) -> Took {
+    let f = file(c.family, &c.list);
+    let sorted: Vec<N> = c.list.iter().map(|&m| N::of(m)).collect();
+    let empty = Pool::of(c.family, &[], false);
+    let mut w = empty.words();
+    let ours = || {
+        empty.again(&mut w);
+        seconds(|| assert_eq!(call::load(&mut w, 0, &f), c.pool.nodes() as u64))
+    };
+    c.beside(c.list.len(), ours, || seconds(|| drop(black_box(sorted.iter().cloned().collect::<IpRange<N>>())))).checked(0)
+}
+
+fn save<N: Numbers + Clone>(c: &Case<N>) -> Took {
+    let mut out = vec![0u8; file(c.family, &c.list).len()];
+    c.alone(c.list.len(), || seconds(|| assert_eq!(call::save(&c.words, 0, &mut out), out.len() as u64)))
+}
+
+fn simplify<N: Numbers + Clone>(c: &Case<N>) -> Took {
+    let mut w = c.pool.words();
+    let ours = || {
+        c.pool.again(&mut w);
+        seconds(|| granted(call::simplify(&mut w, 0)))
+    };
+    let theirs = || {
+        let mut x = c.range.clone();
+        seconds(|| x.simplify())
+    };
+    c.beside(c.list.len(), ours, theirs)
+}
+
+/// A combination of the first two sets of a pool into the third, each time from the same words.
+fn made(pool: &Pool, w: &mut [u32], code: u8) -> f64 {
+    pool.again(w);
+    seconds(|| granted(call::combine(code, w, 2, 0, 1)))
+}
+
+fn combined<N: Numbers + Clone>(c: &Case<N>, code: u8, theirs: impl Fn(&IpRange<N>) -> IpRange<N>) -> Took {
+    let b = c.second();
+    let mut w = b.pool.words();
+    let took = c.beside(c.list.len() + b.list.len(), || made(&b.pool, &mut w, code), || seconds(|| drop(black_box(theirs(&b.range)))));
+    Took { nodes: b.pool.nodes(), ..took }
+}
+
+fn merge<N: Numbers + Clone>(c: &Case<N>) -> Took {
+    combined(c, MERGE, |s| c.range.merge(s))
+}
+
+fn intersect<N: Numbers + Clone>(c: &Case<N>) -> Took {
+    combined(c, INTERSECT, |s| c.range.intersect(s))
+}
+
+fn exclude<N: Numbers + Clone>(c: &Case<N>) -> Took {
+    combined(c, EXCLUDE, |s| {
+        let mut x = c.range.exclude(s);
+        x.simplify();
+        x
+    })
+}
+
+fn exclude_apart<N: Numbers + Clone>(c: &Case<N>) -> Took {
+    combined(c, EXCLUDE_APART, |s| c.range.exclude(s))
+}
+
+fn copy<N: Numbers + Clone>(c: &Case<N>) -> Took {
+    let mut w = c.pool.words();
+    c.beside(c.list.len(), || made(&c.pool, &mut w, EXCLUDE_APART), || seconds(|| drop(black_box(c.range.clone()))))
+}
+
+fn equal<N: Numbers + Clone>(c: &Case<N>) -> Took {
+    let pool = Pool::of(c.family, &[&c.list, &c.list], false);
+    // built as the other is, network by network
+    let (w, same) = (pool.words(), ranges::<N>(&c.list));
+    let theirs = || seconds(|| assert!(black_box(&c.range) == black_box(&same)));
+    Took { nodes: pool.nodes(), ..c.beside(c.list.len(), || seconds(|| assert_eq!(call::equal(&w, 0, 1) >> 48, 1)), theirs) }
+}
+
+fn check<N: Numbers + Clone>(c: &Case<N>) -> Took {
+    let free = NODES as u64 - c.pool.nodes() as u64;
+    c.alone(c.pool.nodes(), || seconds(|| assert_eq!(call::free(&c.words), free))).checked(0)
+}
+
+fn held<N: Numbers + Clone>(c: &Case<N>) -> Took {
+    c.alone(1, || seconds(|| assert_eq!(call::held(&c.words, 0), c.pool.nodes() as u64)))
+}
+
+const CALLS: usize = 8;
+
+/// Members that are taken out and put back, so that each turn begins with the same set. One of both is timed.
+fn there_and_back<N: Numbers + Clone>(c: &Case<N>, back: bool) -> Took {
+    let chosen = some(&c.list, CALLS);
+    let (nets, same): (Vec<Net>, Vec<N>) = chosen.iter().map(|&m| (net(c.family, m), N::of(m))).unzip();
+    let (mut w, mut r) = (c.pool.words(), c.range.clone());
+    let timed = |out: f64, put: f64| if back { put } else { out };
+    let ours = || {
+        let out = seconds(|| nets.iter().for_each(|n| granted(call::remove(&mut w, 0, n))));
+        timed(out, seconds(|| nets.iter().for_each(|n| granted(call::add(&mut w, 0, n)))))
+    };
+    let theirs = || {
+        let out = seconds(|| same.iter().cloned().for_each(|n| _ = r.remove(n)));
+        timed(out, seconds(|| same.iter().cloned().for_each(|n| _ = r.add(n))))
+    };
+    c.beside(chosen.len(), ours, theirs).checked(chosen.len())
+}
+
+fn add<N: Numbers + Clone>(c: &Case<N>) -> Took {
+    there_and_back(c, true)
+}
+
+fn remove<N: Numbers + Clone>(c: &Case<N>) -> Took {
+    there_and_back(c, false)
+}
+
+fn next<N: Numbers + Clone>(c: &Case<N>) -> Took {
+    let nets: Vec<Net> = some(&c.list, CALLS).iter().map(|&m| net(c.family, m)).collect();
+    let mut row = [0; 3];
+    c.alone(nets.len(), || seconds(|| nets.iter().for_each(|n| granted(call::next(&c.words, 0, n, &mut row))))).checked(nets.len())
+}
+
+/// The same call where every set is public-only and where none is: two tables without the networks that are not public.
+fn marked<N: Numbers + Clone>(c: &Case<N>, each: impl Fn(usize) -> usize, run: impl Fn(&Pool, &mut [u32], &List) -> f64) -> Took {
+    let clear = |l: &List| l.iter().copied().filter(|&m: &Member| !meets_inner(c.family, &List::from([m]))).collect::<List>();
+    let (a, b) = (clear(&c.list), clear(&c.second().list));
+    let (public, plain) = (Pool::of(c.family, &[&a, &b], true), Pool::of(c.family, &[&a, &b], false));
+    let (mut v, mut w) = (public.words(), plain.words());
+    Took { nodes: plain.nodes(), ..c.beside(each(a.len() + b.len()), || run(&public, &mut v, &a), || run(&plain, &mut w, &a)) }
+}
+
+fn merge_public<N: Numbers + Clone>(c: &Case<N>) -> Took {
+    marked(c, |n| n, |pool, w, _| made(pool, w, MERGE))
+}
+
+fn add_public<N: Numbers + Clone>(c: &Case<N>) -> Took {
+    let put = |pool: &Pool, w: &mut [u32], a: &List| {
+        let nets: Vec<Net> = some(a, CALLS).iter().map(|&m| net(c.family, m)).collect();
+        pool.again(w);
+        nets.iter().for_each(|n| granted(call::remove(w, 0, n)));
+        seconds(|| nets.iter().for_each(|n| granted(call::add(w, 0, n))))
+    };
+    marked(c, |_| CALLS, put).checked(CALLS)
+}
