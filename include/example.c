@@ -14,7 +14,9 @@ int main(void) {
     const size_t words = sizeof pool / sizeof *pool;
     const uint32_t shares[2] = {40, 30}, limits[2] = {60, 80};
     uint8_t line[64];
-    uint64_t rows[3 * 8], row[3], answer;
+    uint64_t rows[3 * 8], row[3], counts[4], answer;
+    const uint8_t wreck[] = {0, 0, 0, 4, 0, 0, 0, 9, 0, 0, 0, 0, 0, 0, 0, 0, 10, 9, 8, 7, 8};   /* 10.9.8.7/8, and a header that is wrong but for the family */
+    uint8_t file[sizeof wreck];
     uint32_t k;
 
     if (marlbrace_value(marlbrace_words(2, 100)) != words) return 1;
@@ -32,5 +34,10 @@ int main(void) {
         uint64_t written = marlbrace_write_line(4, rows[3 * k], rows[3 * k + 1], (uint8_t)rows[3 * k + 2], line, sizeof line);
         printf("%.*s\n", (int)marlbrace_value(written), (const char *)line);                 /* 192.168.0.0/23 */
     }
+
+    answer = marlbrace_salvage(wreck, sizeof wreck, file, sizeof file, counts);
+    printf("%u bytes, %u read, %u trimmed\n", (unsigned)marlbrace_value(answer), (unsigned)counts[0], (unsigned)counts[1]);   /* 21 bytes, 1 read, 1 trimmed */
+    answer = marlbrace_load(pool, words, 1, file, sizeof file);
+    printf("%u nodes\n", (unsigned)marlbrace_value(answer));                                /* 9 nodes */
     return 0;
 }

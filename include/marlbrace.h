@@ -85,6 +85,10 @@ uint64_t marlbrace_save(const uint32_t *pool, size_t pool_len, uint32_t set, uin
  * the same, and 4 where the second is also the shortest list that does. */
 uint64_t marlbrace_compare(const uint8_t *first, size_t first_len, const uint8_t *second, size_t second_len, uint64_t row[3]);
 
+/* The right set file of what is left of a file's entries, without a pool: its family and its whole entries from byte 16 on, whatever else its header says. The value is the bytes of the
+ * result, which are never more than the file has; counts: entries read, trimmed, dropped for a length out of range, dropped as covered by others. */
+uint64_t marlbrace_salvage(const uint8_t *file, size_t file_len, uint8_t *out, size_t out_len, uint64_t counts[4]);
+
 /* Text, without a pool. read_line, of IPv4, _six, of IPv6, and _either: yes, the row, and the family as the value; write_line, of either: the bytes as the value, no zero at their end. */
 uint64_t marlbrace_read_line(const uint8_t *line, size_t line_len, uint64_t row[3]);
 uint64_t marlbrace_read_line_six(const uint8_t *line, size_t line_len, uint64_t row[3]);

@@ -1,10 +1,11 @@
 //! Runs the same calls through the library, the model and iprange, and compares every answer, every list and every word after every step.
-use crate::exports::{exported, words};
+use crate::exports::{exported, most, words};
 use crate::files::read_lines;
 use crate::layout::decode;
 use crate::model::{apply, read_line};
-use crate::oracle::{reading, sides, Oracle};
-use crate::plan::{Dice, Plan};
+use crate::oracle::{left, reading, sides, Oracle};
+use crate::plan::{Dice, Plan, Universe};
+use crate::salvage;
 use crate::text6::{read_line6, reading6};
 use crate::wire::*;
 use std::collections::{BTreeMap, BTreeSet};
@@ -51,6 +52,9 @@ pub fn script(case: &Case) -> Result<Script, String> {
             return Err(format!("call {i} {c:?}: model {a:?}, {what}"));
         }
         if let Some(what) = (c.code == COMPARE).then(|| sides(c, &a)).flatten() {
+            return Err(format!("call {i} {c:?}: model {a:?}, {what}"));
+        }
+        if let Some(what) = (c.code == SALVAGE).then(|| left(c, &a)).flatten() {
             return Err(format!("call {i} {c:?}: model {a:?}, {what}"));
         }
         s.push(i, c.clone(), a);
@@ -206,6 +210,12 @@ fn full() -> Case {
     Case { words: words.len(), calls }
 }
 
+/// Damaged files, salvaged beside a small pool.
+fn wrecks(d: &mut Dice) -> Case {
+    let plan = Plan { family: 4, universe: Universe::Wide, sets: 1, nodes: 2, shares: vec![0], limits: vec![2] };
+    Case { words: plan.words(), calls: salvage::damaged(d, &plan) }
+}
+
 fn state_of(p: &Plan) -> crate::layout::State {
     let mut w = vec![0u32; p.words()];
     apply(&mut w, &p.layout());
@@ -216,7 +226,7 @@ pub fn main(calls: u64, seed: u64) -> bool {
     let mut d = Dice(seed);
     let mut tally = Tally::new();
     let (mut done, mut wrong, mut round) = (0u64, 0u64, 0u64);
-    if let Some(what) = words() {
+    if let Some(what) = words().or_else(most) {
         wrong += 1;
         println!("{what}");
     }
@@ -224,6 +234,7 @@ pub fn main(calls: u64, seed: u64) -> bool {
         round += 1;
         let case = match round {
             1 => full(),
+            2 => wrecks(&mut d),
             _ if round % 40 == 0 => damage(&mut d),
             _ => sequence(&mut d, 60),
         };

@@ -34,6 +34,7 @@ extern "C" {
     fn marlbrace_ranges(pool: *const u32, pool_len: usize, set: u32, rows: *mut u64, rows_len: usize) -> u64;
     fn marlbrace_save(pool: *const u32, pool_len: usize, set: u32, out: *mut u8, out_len: usize) -> u64;
     fn marlbrace_compare(first: *const u8, first_len: usize, second: *const u8, second_len: usize, row: *mut [u64; 3]) -> u64;
+    fn marlbrace_salvage(file: *const u8, file_len: usize, out: *mut u8, out_len: usize, counts: *mut [u64; 4]) -> u64;
     fn marlbrace_read_line(line: *const u8, line_len: usize, row: *mut [u64; 3]) -> u64;
     fn marlbrace_read_line_six(line: *const u8, line_len: usize, row: *mut [u64; 3]) -> u64;
     fn marlbrace_read_line_either(line: *const u8, line_len: usize, row: *mut [u64; 3]) -> u64;
@@ -116,12 +117,16 @@ pub fn compare(first: &[u8], second: &[u8]) -> u64 {
     unsafe { marlbrace_compare(first.as_ptr(), first.len(), second.as_ptr(), second.len(), &mut [0; 3]) }
 }
 
+pub fn salvage(file: &[u8], out: &mut [u8], counts: &mut [u64; 4]) -> u64 {
+    unsafe { marlbrace_salvage(file.as_ptr(), file.len(), out.as_mut_ptr(), out.len(), counts) }
+}
+
 /// What the exported call answers: its number, and the row, the numbers or the bytes that were lent, as bytes.
 fn answered(pool: &mut [u32], c: &Call) -> Option<(u64, Vec<u8>)> {
     let (w, m, n) = (pool.as_mut_ptr(), pool.len(), &c.net);
-    let (mut row, mut counts) = ([7u64; 3], [7u64; 2]);
+    let (mut row, mut counts, mut salvaged) = ([7u64; 3], [7u64; 2], [7u64; 4]);
     let mut rows = vec![c.c as u64; if matches!(c.code, LIST | RANGES) { c.b as usize } else { 0 }];
-    let mut bytes = vec![c.c as u8; if c.code == SAVE || c.code == WRITE_LINE { c.b as usize } else { 0 }];
+    let mut bytes = vec![c.c as u8; if matches!(c.code, SAVE | WRITE_LINE | SALVAGE) { c.b as usize } else { 0 }];
     let number = unsafe {
         match c.code {
             LAYOUT => {
@@ -159,6 +164,7 @@ fn answered(pool: &mut [u32], c: &Call) -> Option<(u64, Vec<u8>)> {
                 let (first, second) = c.tail.split_at(cut(c));
                 marlbrace_compare(first.as_ptr(), first.len(), second.as_ptr(), second.len(), &mut row)
             }
+            SALVAGE => salvage(&c.tail, &mut bytes, &mut salvaged),
             READ_LINE => marlbrace_read_line(c.tail.as_ptr(), c.tail.len(), &mut row),
             READ_LINE_6 => marlbrace_read_line_six(c.tail.as_ptr(), c.tail.len(), &mut row),
             READ_LINE_EITHER => marlbrace_read_line_either(c.tail.as_ptr(), c.tail.len(), &mut row),
@@ -166,7 +172,7 @@ fn answered(pool: &mut [u32], c: &Call) -> Option<(u64, Vec<u8>)> {
             _ => return None,
         }
     };
-    bytes.extend(rows.iter().chain(&row).chain(&counts).flat_map(|x| x.to_le_bytes()));
+    bytes.extend(rows.iter().chain(&row).chain(&counts).chain(&salvaged).flat_map(|x| x.to_le_bytes()));
     Some((number, bytes))
 }
 
@@ -197,8 +203,9 @@ pub fn exported(words: &[u32], c: &Call) -> Option<String> {
     };
     let row = if flag && matches!(c.code, SUPERNET | NEXT | NTH | LAST | READ_LINE | READ_LINE_6 | READ_LINE_EITHER | COMPARE) { [a.net.hi, a.net.lo, a.net.len as u64] } else { [7; 3] };
     let counts = if c.code == LINES { [a.x as u64, a.net.lo] } else { [7; 2] };
+    let salvaged = if c.code == SALVAGE && a.no == 0 { [a.y as u64, a.net.hi, a.net.lo >> 32, a.net.lo & 0xffff_ffff] } else { [7; 4] };
     let mut lent = a.tail.clone();
-    lent.extend(row.iter().chain(&counts).flat_map(|x| x.to_le_bytes()));
+    lent.extend(row.iter().chain(&counts).chain(&salvaged).flat_map(|x| x.to_le_bytes()));
     let right = number == packed(a.no, x, flag, reports && a.y == 1) && bytes == lent && pool == model && second(words, c).map_or(true, |n| n == packed(a.no, a.y, false, false));
     (!right).then(|| format!("exported {c:?}: answered {number:x} {bytes:?}, expected {a:?}"))
 }
@@ -211,4 +218,16 @@ pub fn words() -> Option<String> {
         let number = unsafe { marlbrace_words(m, n) };
         (number != expected).then(|| format!("words of {m} sets and {n} nodes: {number:x}, expected {expected:x}"))
     })
+}
+
+/// The most entries that a salvage reads, all of them too long, and one more.
+pub fn most() -> Option<String> {
+    let mut f = vec![255u8; 16 + 5 * 4_194_305];
+    f[..4].copy_from_slice(&[0, 0, 0, 4]);
+    let (mut out, mut counts) = ([7u8; 17], [7u64; 4]);
+    let number = salvage(&f, &mut out, &mut counts);
+    let refused = number == packed(5, 0, false, false) && out == [7; 17] && counts == [7; 4];
+    let number = salvage(&f[..f.len() - 1], &mut out, &mut counts);
+    let granted = number == packed(0, 16, false, false) && out == [0, 0, 0, 4, 0, 0, 0, 0, 0, 0, 0, 16, 0, 0, 0, 16, 7] && counts == [4_194_304, 0, 4_194_304, 0];
+    (!refused || !granted).then(|| format!("the most entries: refused {refused}, granted {granted}, {number:x}, {out:?}, {counts:?}"))
 }

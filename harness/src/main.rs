@@ -12,8 +12,10 @@ mod model;
 mod oracle;
 mod plan;
 mod runs;
+mod salvage;
 mod text6;
 mod wire;
+mod wrecks;
 
 fn main() {
     let words: Vec<String> = std::env::args().skip(1).collect();
@@ -24,8 +26,9 @@ fn main() {
         (Some("differential"), Some(&[calls, seed])) => !differential::main(calls, seed) as i32,
         #[cfg(feature = "calls")]
         (Some("sample"), Some(&[frames, seed])) => !differential::sample(frames, seed) as i32,
+        (Some("wrecks"), Some(&[most, short])) => !wrecks::main(most, short) as i32,
         _ => {
-            eprintln!("usage: harness differential CALLS SEED, harness sample FRAMES SEED, or harness bench OPTIONS (`run` has the options)");
+            eprintln!("usage: harness differential CALLS SEED, harness sample FRAMES SEED, harness bench OPTIONS, or harness wrecks MOST SHORT (`run` has the options)");
             2
         }
     };

@@ -1,9 +1,10 @@
-//! What each call has to answer and to leave, by document 01, requests M-101, M-102, M-105, M-107 and M-112, and docs/CALLS.md: refusals, room, limits, shares, reports, files, text, damaged memory.
+//! What each call has to answer and to leave, by document 01, requests M-101, M-102, M-105, M-107, M-109 and M-112, and docs/CALLS.md: refusals, room, limits, shares, reports, files, text, damaged memory.
 use crate::files::{file, read_file, read_lines};
 use crate::text6::{read_line6, text6};
 use crate::layout::{decode, encode, header, held, room, State};
 use crate::lists::{self, cleared, width, List, Member};
 use crate::runs;
+use crate::salvage;
 use crate::wire::*;
 
 pub fn is_family(f: u8) -> bool {
@@ -414,6 +415,7 @@ pub fn apply(w: &mut [u32], c: &Call) -> Answer {
         LINES => return lines(w, c),
         NEW..=WORDS => return alone(c),
         COMPARE => return runs::compare(c),
+        SALVAGE => return salvage::salvage(c),
         WRITE_WORDS => {
             for (k, x) in c.tail.chunks_exact(4).enumerate() {
                 if let Some(y) = w.get_mut(c.a as usize + k) {

@@ -1,9 +1,10 @@
 //! The Rust crate iprange beside the model: one IpRange for each set, changed by each granted call.
 use crate::layout::State;
 use crate::files::{read_file, read_lines};
-use crate::lists::{List, Member};
+use crate::lists::{width, List, Member};
 use crate::model::{address, read_either};
 use crate::runs::cut;
+use crate::salvage::entries;
 use crate::wire::*;
 use ipnet::{Ipv4Net, Ipv6Net};
 use iprange::{IpNet, IpRange};
@@ -66,6 +67,21 @@ pub fn sides(c: &Call, a: &Answer) -> Option<String> {
     let ((f, l), (g, m)) = (read_file(first)?, read_file(second)?);
     let differs = f == g && if f == 4 { wrong::<Ipv4Net>(&l, &m, a) } else { wrong::<Ipv6Net>(&l, &m, a) };
     differs.then(|| "iprange says otherwise".to_string())
+}
+
+/// What iprange has of the entries of a wreck, added one by one, where that is another list than the one that was written.
+pub fn left(c: &Call, a: &Answer) -> Option<String> {
+    fn same<N: Numbers>(all: &[Member], l: &List) -> bool {
+        let mut r = IpRange::new();
+        all.iter().for_each(|&m| {
+            r.add(N::of(m));
+        });
+        r.iter().map(|m: N| m.member()).eq(l.iter().copied())
+    }
+    let (f, mut all) = entries(&c.tail).filter(|_| a.no == 0)?;
+    all.retain(|m| m.0 <= width(f));
+    let right = read_file(&a.tail[..a.x as usize]).is_some_and(|(g, l)| f == g && if f == 4 { same::<Ipv4Net>(&all, &l) } else { same::<Ipv6Net>(&all, &l) });
+    (!right).then(|| "iprange has another list".to_string())
 }
 
 pub struct Ranges<N: Numbers>(Vec<IpRange<N>>);

@@ -3,6 +3,7 @@ use crate::files::{file, file_of};
 use crate::layout::{room, State};
 use crate::lists::{self, cleared, width, List, Member};
 use crate::model::net;
+use crate::salvage;
 use crate::text6::text6;
 use crate::wire::*;
 
@@ -303,6 +304,17 @@ impl Plan {
         if d.one_in(2) { (second, first) } else { (first, second) }
     }
 
+    /// A salvage of a wreck: of a list of the pool or of another one, or a file that is broken in one place.
+    fn salvage(&self, d: &mut Dice, s: &State) -> Call {
+        if d.one_in(4) {
+            let f = self.file(d, s);
+            return salvage::call(d, f);
+        }
+        let list = if d.one_in(2) { s.sets[d.below(s.sets.len() as u64) as usize].list.iter().copied().collect() } else { (0..d.below(12)).map(|_| self.member(d)).collect() };
+        let f = salvage::wreck(d, self.family, list, |d| self.member(d));
+        salvage::call(d, f)
+    }
+
     /// Some lines, most of them networks of the plan.
     fn lines(&self, d: &mut Dice) -> Vec<u8> {
         let mut s = vec![];
@@ -328,6 +340,9 @@ impl Plan {
     pub fn call(&self, d: &mut Dice, s: &State) -> Call {
         let (a, b, c) = (self.set(d), self.set(d), self.set(d));
         let net = self.net(d, s);
+        if d.one_in(40) {
+            return self.salvage(d, s);
+        }
         let code = match d.below(100) {
             0..=17 => ADD,
             18..=19 => COMPARE,

@@ -67,6 +67,7 @@ pub const GROUPS: u8 = 39;
 pub const WORDS: u8 = 40;
 pub const READ_LINE_6: u8 = 41;
 pub const READ_LINE_EITHER: u8 = 42;
+pub const SALVAGE: u8 = 43;
 pub const COMPARE: u8 = 44;
 pub const WRITE_WORDS: u8 = 48;
 pub const READ_WORDS: u8 = 49;
@@ -93,7 +94,7 @@ impl Call {
     pub fn answer_tail(&self) -> usize {
         match self.code {
             LIST | RANGES => 8 * self.b as usize,
-            WRITE_LINE | SAVE => self.b as usize,
+            WRITE_LINE | SAVE | SALVAGE => self.b as usize,
             READ_WORDS => 4 * self.b as usize,
             _ => 0,
         }

@@ -1,6 +1,6 @@
 //! Set files of networks that come in any order: their entries one behind the other, which [`right`] makes a right file of.
 use crate::net::Row;
-use crate::{IpNet, Refusal};
+use crate::{ffi, IpNet, Refusal};
 
 /// The most networks that a set can have: a list of m networks has at least 2m - 1 nodes, and a pool at most 4,194,304. A file has room for twice as many, so
 /// for a set's networks and as many others.
@@ -58,34 +58,11 @@ fn push(file: &mut Vec<u8>, n: &Row) {
 
 /// The right file of entries in any order. Beyond what any set can have it is refused as the set would be.
 fn right(file: &[u8]) -> Result<Vec<u8>, Refusal> {
-    let family = file[3];
-    let mut nets: Vec<(u128, u8)> = file[HEADER..].chunks_exact(size(family)).map(entry).collect();
-    nets.sort_unstable();
-    // in the order of addresses what is inside a network follows it
-    let mut last: Option<IpNet> = None;
-    nets.retain(|&(address, len)| {
-        let net = Row::at(family, address, len).net();
-        let apart = last.is_none_or(|outer| !outer.contains(net));
-        if apart {
-            last = Some(net);
-        }
-        apart
-    });
-    if nets.len() > MOST {
+    let out = ffi::salvage(file)?;
+    if count(file[3], &out) > MOST {
         return Err(Refusal::OverLimit);
     }
-    nets.sort_unstable_by_key(|&(address, len)| (len, address));
-    let mut out = none(family);
-    nets.iter().for_each(|&(address, len)| push(&mut out, &Row::at(family, address, len)));
-    let total = out.len() as u32;
-    out[4..8].copy_from_slice(&(nets.len() as u32).to_be_bytes());
-    out[12..16].copy_from_slice(&total.to_be_bytes());
     Ok(out)
-}
-
-fn entry(bytes: &[u8]) -> (u128, u8) {
-    let (address, len) = bytes.split_at(bytes.len() - 1);
-    (address.iter().fold(0, |number, &byte| number << 8 | byte as u128), len[0])
 }
 
 #[cfg(test)]

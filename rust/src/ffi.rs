@@ -37,6 +37,7 @@ extern "C" {
     fn marlbrace_equal(pool: *const u32, pool_len: usize, first: u32, second: u32) -> u64;
     fn marlbrace_list(pool: *const u32, pool_len: usize, set: u32, rows: *mut u64, rows_len: usize) -> u64;
     fn marlbrace_save(pool: *const u32, pool_len: usize, set: u32, out: *mut u8, out_len: usize) -> u64;
+    fn marlbrace_salvage(file: *const u8, file_len: usize, out: *mut u8, out_len: usize, counts: *mut [u64; 4]) -> u64;
     fn marlbrace_read_line_either(line: *const u8, line_len: usize, row: *mut [u64; 3]) -> u64;
     fn marlbrace_write_line(family: u8, hi: u64, lo: u64, len: u8, out: *mut u8, out_len: usize) -> u64;
 }
@@ -154,6 +155,14 @@ pub(crate) fn family(pool: &[u32]) -> u8 {
 pub(crate) fn save(pool: &[u32], set: u32) -> Result<Vec<u8>, Refusal> {
     let mut out = vec![0u8; entries::bytes(family(pool), networks(pool, set)?.value() as usize)];
     granted(unsafe { marlbrace_save(pool.as_ptr(), pool.len(), set, out.as_mut_ptr(), out.len()) })?;
+    Ok(out)
+}
+
+/// The right file of what is left of a file's entries. It never has more bytes than the file.
+pub(crate) fn salvage(file: &[u8]) -> Result<Vec<u8>, Refusal> {
+    let mut out = vec![0u8; file.len()];
+    let a = granted(unsafe { marlbrace_salvage(file.as_ptr(), file.len(), out.as_mut_ptr(), out.len(), &mut [0; 4]) })?;
+    out.truncate(a.value() as usize);
     Ok(out)
 }
 

@@ -9,8 +9,6 @@ use tool_io::Input;
 use tool_io::NODES;
 use tool_io::WORDS;
 
-mod writing;
-
 // Lays the pool out, and adds the networks of the lines to its set. Whether none is refused.
 fn take(fd: i32, path: &[u8], pool: &mut [u32]) -> bool {
     let lines = tool_io::read_lines(fd, pool, NODES);
@@ -46,7 +44,7 @@ fn take_file(pool: &mut [u32]) -> bool {
 
 // Writes a file, and says so where that failed.
 fn write(path: &[u8], bytes: &[u8]) {
-    if !writing::write(path, bytes) {
+    if !tool_io::write_file(path, bytes) {
         tool_io::say_failed(b"lines-to-set", path);
     }
 }

@@ -7,34 +7,22 @@ use libc::STDERR_FILENO;
 use setfile_compare::compare;
 
 mod address;
-mod source;
 mod telling;
 
 // The bytes of the largest file.
 const ROOM: usize = 2000016;
 
-// Compares the first bytes of each.
-fn compared(first: &[u8], n: usize, second: &[u8], m: usize) {
-    if first.len() < n {
-        return;
-    }
-    if second.len() < m {
-        return;
-    }
-    telling::tell(compare(&first[0..n], &second[0..m]));
-}
-
 // Both files, in bytes that are lent.
 fn run(first: &mut [u8], second: &mut [u8]) {
-    let a = source::named(1, b"FIRST", first);
+    let a = tool_io::read_source(b"same", 1, b"FIRST", first);
     if !a.whole {
         return;
     }
-    let b = source::named(2, b"SECOND", second);
+    let b = tool_io::read_source(b"same", 2, b"SECOND", second);
     if !b.whole {
         return;
     }
-    compared(first, a.bytes, second, b.bytes);
+    telling::tell(compare(&first[..a.bytes], &second[..b.bytes]));
 }
 
 fn main() {

@@ -11,12 +11,6 @@ use tool_io::NODES;
 use tool_io::ROWS;
 use tool_io::WORDS;
 
-// One byte more of a file that was read: how many came, 0 at its end, or -1.
-fn past(fd: i32) -> isize {
-    let mut one = [0u8; 1];
-    libc::read(fd, &mut one)
-}
-
 // The family that the header of a file says. Another number than 6 is that of IPv4, or of no file.
 fn family_of(bytes: &[u8]) -> u8 {
     if bytes.len() >= 4 && bytes[3] == IPV6 {
@@ -39,38 +33,13 @@ fn load(pool: &mut [u32], bytes: &[u8]) -> u8 {
     }
 }
 
-// The same from an open file, by way of lent bytes.
-fn load_from(fd: i32, path: &[u8], pool: &mut [u32], bytes: &mut [u8]) -> u8 {
-    let n = io::read_full(fd, bytes);
-    let more = past(fd);
-    if more < 0 {
-        tool_io::say_failed(b"set-to-lines", path);
-        return 0;
-    }
-    if more > 0 {
-        io::write_all(
-            STDERR_FILENO,
-            b"set-to-lines: the file has more than 850016 bytes\n",
-        );
-        return 0;
-    }
-    load(pool, &bytes[..n])
-}
-
-// The same from the file that the argument names.
+// The same from the file that the argument names, by way of lent bytes.
 fn load_file(pool: &mut [u32], bytes: &mut [u8]) -> u8 {
-    let mut path = io::buffer();
-    let n = os::arg(1, &mut path);
-    if os::errno() != 0 {
-        tool_io::say_failed(b"set-to-lines", b"SETFILE");
+    let a = tool_io::read_source(b"set-to-lines", 1, b"SETFILE", bytes);
+    if !a.whole {
         return 0;
     }
-    let fd = tool_io::open_source(&path[..n]);
-    if fd < 0 {
-        tool_io::say_failed(b"set-to-lines", &path[..n]);
-        return 0;
-    }
-    load_from(fd, &path[..n], pool, bytes)
+    load(pool, &bytes[..a.bytes])
 }
 
 // Prints the networks of the set, by way of lent rows.

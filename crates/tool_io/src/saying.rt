@@ -51,3 +51,11 @@ pub fn say_failed(program: &[u8], what: &[u8]) {
     io::write_all(STDERR_FILENO, b": ");
     os::fail(what);
 }
+
+// A file of the program has more bytes than it can read.
+pub fn say_long(program: &[u8], most: usize) {
+    io::write_all(STDERR_FILENO, program);
+    io::write_all(STDERR_FILENO, b": the file has more than ");
+    io::print_decimal(STDERR_FILENO, most as u64);
+    io::write_all(STDERR_FILENO, b" bytes\n");
+}

@@ -9,8 +9,8 @@ use lib.Signed.{ltZ-no, yes-nonNeg, natAbs-le}
 use mir.Syntax.{w32, w64}
 use mir.Val.{Fits, toZ, ofZ}
 use mir.ValLaws.{toZ-ofZ}
-use Rattle.lines_to_set.proofs.writing.natural.Statement.{statement}
-use Rattle.lines_to_set.proofs.writing.natural.Tie as tie
+use Rattle.tool_io.proofs.writing.natural.Statement.{statement}
+use Rattle.tool_io.proofs.writing.natural.Tie as tie
 
 cast-result : tie.Need-cast-result
 cast-result c =

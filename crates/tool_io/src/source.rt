@@ -1,5 +1,8 @@
 // A file that is read whole.
-use libc::STDERR_FILENO;
+use crate::opening::open_source;
+use crate::saying::say_failed;
+use crate::saying::say_long;
+ghost use Rattle.io.specs.Counts.{Counts};
 
 // How many bytes the file has; or it is not read, and standard error has said why.
 pub struct Source {
@@ -19,18 +22,17 @@ fn past(fd: i32) -> isize {
 }
 
 // Reads an open file.
-fn read(fd: i32, path: &[u8], bytes: &mut [u8]) -> Source {
+fn read(program: &[u8], fd: i32, path: &[u8], bytes: &mut [u8]) -> Source
+    ensures { λ r. ⌜ Counts (r .bytes) (now (bytes .exit)) ⌝ }
+{
     let n = io::read_full(fd, bytes);
     let more = past(fd);
     if more < 0 {
-        tool_io::say_failed(b"same", path);
+        say_failed(program, path);
         return NOTHING;
     }
     if more > 0 {
-        io::write_all(
-            STDERR_FILENO,
-            b"same: the file has more than 2000016 bytes\n",
-        );
+        say_long(program, bytes.len());
         return NOTHING;
     }
     Source {
@@ -39,18 +41,20 @@ fn read(fd: i32, path: &[u8], bytes: &mut [u8]) -> Source {
     }
 }
 
-// Reads the file that the argument names.
-pub fn named(place: usize, what: &[u8], bytes: &mut [u8]) -> Source {
+// Reads the file that the argument at a place names, into bytes that are lent. It may have no more than these.
+pub fn read_source(program: &[u8], place: usize, what: &[u8], bytes: &mut [u8]) -> Source
+    ensures { λ r. ⌜ Counts (r .bytes) (now (bytes .exit)) ⌝ }
+{
     let mut path = io::buffer();
     let n = os::arg(place, &mut path);
     if os::errno() != 0 {
-        tool_io::say_failed(b"same", what);
+        say_failed(program, what);
         return NOTHING;
     }
-    let fd = tool_io::open_source(&path[..n]);
+    let fd = open_source(&path[..n]);
     if fd < 0 {
-        tool_io::say_failed(b"same", &path[..n]);
+        say_failed(program, &path[..n]);
         return NOTHING;
     }
-    read(fd, &path[..n], bytes)
+    read(program, fd, &path[..n], bytes)
 }

@@ -5,8 +5,8 @@ use native.Mathlib.Omega.{arith}
 use borrow.Author.Needs.{needs}
 use lib.ListN.{length}
 use Rattle.io.proofs.Counting.{counts}
-use Rattle.lines_to_set.proofs.writing.append.Statement.{statement}
-use Rattle.lines_to_set.proofs.writing.append.Tie as tie
+use Rattle.tool_io.proofs.writing.append.Statement.{statement}
+use Rattle.tool_io.proofs.writing.append.Tie as tie
 
 abbrev Inv-loop : tie.InvT-loop
 Inv-loop name₀ at text n i₀ name i = (i ≤ n) × (n ≤ length text) × (at + n ≤ length name) × (length name ≡ length name₀)

@@ -2,6 +2,7 @@
 // So a write that fails, as on a full disk, leaves the old file as it was.
 //
 // Where a function answers false, errno says why.
+use crate::opening::is_dash;
 use libc::PATH_MAX;
 use libc::STDOUT_FILENO;
 ghost use Prim.Native.Nat.{_≤_};
@@ -92,8 +93,8 @@ fn replace(path: &[u8], bytes: &[u8]) -> bool {
 }
 
 // Writes the bytes to the file of that name, or to standard output for -. A link, a device or a pipe is not replaced, but written to.
-pub fn write(path: &[u8], bytes: &[u8]) -> bool {
-    if tool_io::is_dash(path) {
+pub fn write_file(path: &[u8], bytes: &[u8]) -> bool {
+    if is_dash(path) {
         return put(STDOUT_FILENO, bytes);
     }
     if is_link(path) || !is_file(path) {
