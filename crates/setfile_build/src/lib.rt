@@ -9,7 +9,7 @@ ghost use Rattle.nets.specs.Tries.{trieOf};
 ghost use Rattle.nodes.specs.Words.{put, place, enc};
 ghost use Rattle.setfile_build.specs.Building.{Fillable};
 
-mod bits;
+pub mod bits;
 mod writing;
 
 // Writes the trie of the file's list from node o on.

@@ -1,0 +1,2 @@
+-- The networks below a path.
+pub mod Stream

@@ -1,0 +1,2 @@
+-- The passes put together.
+pub mod Pouring
