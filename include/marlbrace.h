@@ -68,6 +68,8 @@ uint64_t marlbrace_lines(uint32_t *pool, size_t pool_len, const uint8_t *text, s
 
 /* Lookups: yes where a member contains the whole network, and the value is the nodes that were read. A row is high word, low word, length. */
 uint64_t marlbrace_contains(const uint32_t *pool, size_t pool_len, uint32_t set, uint8_t family, uint64_t hi, uint64_t lo, uint8_t len);
+/* Many queries in one call, each a row as list writes it: answers[i] is what contains answers to query i, so that it has its own refusal where it is no network or its path is damaged. */
+uint64_t marlbrace_contains_all(const uint32_t *pool, size_t pool_len, uint32_t set, uint8_t family, const uint64_t *queries, size_t queries_len, uint64_t *answers, size_t answers_len);
 uint64_t marlbrace_supernet(const uint32_t *pool, size_t pool_len, uint32_t set, uint8_t family, uint64_t hi, uint64_t lo, uint8_t len, uint64_t row[3]);
 uint64_t marlbrace_is_empty(const uint32_t *pool, size_t pool_len, uint32_t set);
 uint64_t marlbrace_equal(const uint32_t *pool, size_t pool_len, uint32_t first, uint32_t second);

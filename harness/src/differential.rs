@@ -1,5 +1,5 @@
 //! Runs the same calls through the library, the model and iprange, and compares every answer, every list and every word after every step.
-use crate::exports::{exported, most, words};
+use crate::exports::{exported, many_along, most, words};
 use crate::files::read_lines;
 use crate::layout::decode;
 use crate::model::{apply, read_line};
@@ -110,7 +110,7 @@ pub fn compare(case: &Case, tally: &mut Tally) -> Option<String> {
         }
         at += 28 + c.answer_tail();
     }
-    case.calls.iter().find_map(|c| exported(&pool, c))
+    case.calls.iter().find_map(|c| exported(&pool, c)).or_else(|| many_along(case.words, &case.calls))
 }
 
 /// A shortest case that still differs, by leaving out one call after the other.

@@ -1,4 +1,5 @@
 //! The calls that are exported each for itself, as include/marlbrace.h declares them, on the words that a case leaves, beside the model.
+use crate::layout::header;
 use crate::model::apply;
 use crate::runs::cut;
 use crate::wire::*;
@@ -23,6 +24,7 @@ extern "C" {
     fn marlbrace_load(pool: *mut u32, pool_len: usize, set: u32, file: *const u8, file_len: usize) -> u64;
     fn marlbrace_lines(pool: *mut u32, pool_len: usize, text: *const u8, text_len: usize, counts: *mut [u64; 2]) -> u64;
     fn marlbrace_contains(pool: *const u32, pool_len: usize, set: u32, family: u8, hi: u64, lo: u64, len: u8) -> u64;
+    fn marlbrace_contains_all(pool: *const u32, pool_len: usize, set: u32, family: u8, queries: *const u64, queries_len: usize, answers: *mut u64, answers_len: usize) -> u64;
     fn marlbrace_supernet(pool: *const u32, pool_len: usize, set: u32, family: u8, hi: u64, lo: u64, len: u8, row: *mut [u64; 3]) -> u64;
     fn marlbrace_is_empty(pool: *const u32, pool_len: usize, set: u32) -> u64;
     fn marlbrace_equal(pool: *const u32, pool_len: usize, first: u32, second: u32) -> u64;
@@ -69,6 +71,11 @@ pub fn next(pool: &[u32], set: u32, n: &Net, row: &mut [u64; 3]) -> u64 {
 
 pub fn nth(pool: &[u32], set: u32, place: u32, row: &mut [u64; 3]) -> u64 {
     unsafe { marlbrace_nth(pool.as_ptr(), pool.len(), set, place, row) }
+}
+
+/// What contains answers to each query of a row, three numbers for each.
+pub fn contains_all(pool: &[u32], set: u32, family: u8, queries: &[u64], answers: &mut [u64]) -> u64 {
+    unsafe { marlbrace_contains_all(pool.as_ptr(), pool.len(), set, family, queries.as_ptr(), queries.len(), answers.as_mut_ptr(), answers.len()) }
 }
 
 pub fn list(pool: &[u32], set: u32, rows: &mut [u64]) -> u64 {
@@ -188,6 +195,47 @@ fn second(pool: &[u32], c: &Call) -> Option<u64> {
 /// The number of an answer: its value, its refusal, its flag and its report.
 fn packed(no: u8, x: u32, flag: bool, cut: bool) -> u64 {
     x as u64 | (no as u64) << 32 | (flag as u64) << 48 | (cut as u64) << 49
+}
+
+/// Up to ten queries beside the network of a lookup: it, other lengths and addresses, and numbers that are no network.
+fn beside(n: &Net) -> Vec<[u64; 3]> {
+    let (hi, lo, len) = (n.hi, n.lo, n.len as u64);
+    let queries = [[hi, lo, len], [hi, lo, len + 1], [hi, lo ^ 1 << (lo % 32), len], [hi, lo, len / 2], [hi, lo, len + 256], [hi, lo, 255], [hi, lo, u64::MAX], [hi ^ 1 << (lo % 64), lo, len], [0, 0, 0], [hi, !lo & 0xffff_ffff, len]];
+    queries.into_iter().cycle().skip(lo as usize % 10).take((lo / 8 + hi + len) as usize % 11).collect()
+}
+
+/// What is wrong with contains_all on the set of a lookup, if anything is: each answer is that of contains, by the model.
+fn many(words: &[u32], c: &Call) -> Option<String> {
+    let (family, queries) = (c.net.family, beside(&c.net));
+    let spare = c.net.lo as usize % 3;
+    let mut row = queries.concat();
+    row.extend(vec![9; spare]);
+    let mut answers = vec![7u64; if c.net.len % 8 == 3 { queries.len().saturating_sub(1) } else { queries.len() + spare }];
+    let mut expected = answers.clone();
+    let no = match header(words) {
+        None => 2,
+        Some((_, sets, _)) if c.a as usize >= sets => 3,
+        Some((other, _, _)) if other != family => 6,
+        Some(_) => if answers.len() < queries.len() { 11 } else { 0 },
+    };
+    for (i, &[hi, lo, len]) in queries.iter().enumerate().filter(|_| no == 0) {
+        expected[i] = if len > 255 { packed(7, 0, false, false) } else {
+            let a = apply(&mut words.to_vec(), &Call { a: c.a, net: Net { family, hi, lo, len: len as u8 }, ..Call::new(CONTAINS) });
+            packed(a.no, a.x, a.flag == 1, a.y == 1)
+        };
+    }
+    let number = contains_all(words, c.a, family, &row, &mut answers);
+    (number != packed(no, 0, false, false) || answers != expected).then(|| format!("contains_all of {queries:?} at {c:?}: answered {number:x} {answers:x?}, expected {no} {expected:x?}"))
+}
+
+/// The same at each lookup of a case, on the words that it comes to, damaged ones too.
+pub fn many_along(words: usize, calls: &[Call]) -> Option<String> {
+    let mut words = vec![0u32; words];
+    calls.iter().find_map(|c| {
+        let wrong = if matches!(c.code, CONTAINS | SUPERNET) { many(&words, c) } else { None };
+        apply(&mut words, c);
+        wrong
+    })
 }
 
 /// What is wrong with the exported call, if anything is.

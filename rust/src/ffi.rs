@@ -32,6 +32,7 @@ extern "C" {
     fn marlbrace_replan(pool: *mut u32, pool_len: usize, set: u32, share: u32, limit: u32) -> u64;
     fn marlbrace_load(pool: *mut u32, pool_len: usize, set: u32, file: *const u8, file_len: usize) -> u64;
     fn marlbrace_contains(pool: *const u32, pool_len: usize, set: u32, family: u8, hi: u64, lo: u64, len: u8) -> u64;
+    fn marlbrace_contains_all(pool: *const u32, pool_len: usize, set: u32, family: u8, queries: *const u64, queries_len: usize, answers: *mut u64, answers_len: usize) -> u64;
     fn marlbrace_supernet(pool: *const u32, pool_len: usize, set: u32, family: u8, hi: u64, lo: u64, len: u8, row: *mut [u64; 3]) -> u64;
     fn marlbrace_is_empty(pool: *const u32, pool_len: usize, set: u32) -> u64;
     fn marlbrace_equal(pool: *const u32, pool_len: usize, first: u32, second: u32) -> u64;
@@ -127,6 +128,14 @@ pub(crate) fn load(pool: &mut [u32], set: u32, file: &[u8]) -> Answer {
 
 pub(crate) fn contains(pool: &[u32], set: u32, n: &Row) -> Answer {
     granted(unsafe { marlbrace_contains(pool.as_ptr(), pool.len(), set, n.family, n.hi, n.lo, n.len) })
+}
+
+/// What contains answers to each network: of one that the call cannot take, its own refusal.
+pub(crate) fn contains_all(pool: &[u32], set: u32, family: u8, rows: &[Row]) -> Result<Vec<Granted>, Refusal> {
+    let queries: Vec<u64> = rows.iter().flat_map(|n| [n.hi, n.lo, n.len as u64]).collect();
+    let mut answers = vec![0u64; rows.len()];
+    granted(unsafe { marlbrace_contains_all(pool.as_ptr(), pool.len(), set, family, queries.as_ptr(), queries.len(), answers.as_mut_ptr(), answers.len()) })?;
+    answers.into_iter().map(granted).collect()
 }
 
 pub(crate) fn supernet(pool: &[u32], set: u32, n: &Row) -> Result<Option<Row>, Refusal> {

@@ -112,6 +112,27 @@ impl<'a> Set<'a> {
         ffi::contains(self.words, self.number, &net.row()).map(|a| a.yes())
     }
 
+    /// The same of many networks in one call, which is faster than asking for each: several walks are in flight at once. All are of the pool's family, else it is
+    /// refused WrongFamily.
+    ///
+    /// ```
+    /// # fn main() -> Result<(), Box<dyn std::error::Error>> {
+    /// let mut pool = marlbrace::Pool::new(4, 100, &[marlbrace::Plan::new(100, 100)])?;
+    /// pool.set_mut(0).add("10.0.0.0/8".parse()?)?;
+    /// let asked = ["10.1.2.3/32".parse()?, "11.0.0.0/8".parse()?, "10.0.0.0/7".parse()?];
+    /// assert_eq!(pool.set(0).contains_all(&asked)?, [true, false, false]);
+    /// # Ok(())
+    /// # }
+    /// ```
+    pub fn contains_all(&self, nets: &[IpNet]) -> Result<Vec<bool>, Refusal> {
+        let family = ffi::family(self.words);
+        if nets.iter().any(|net| net.family() != family) {
+            return Err(Refusal::WrongFamily);
+        }
+        let rows: Vec<_> = nets.iter().map(|net| net.row()).collect();
+        Ok(ffi::contains_all(self.words, self.number, family, &rows)?.iter().map(|a| a.yes()).collect())
+    }
+
     /// The member that contains the whole network.
     pub fn supernet(&self, net: IpNet) -> Result<Option<IpNet>, Refusal> {
         Ok(ffi::supernet(self.words, self.number, &net.row())?.map(|row| row.net()))

@@ -166,3 +166,18 @@ fn lines_are_read_and_written() -> Done {
     assert_eq!(format!("[{:>12}]", net("10.0.0.0/8")), "[  10.0.0.0/8]");
     Ok(())
 }
+
+/// Counted by hand: four and four queries and one more, each as contains answers it; the members of the second half are asked for beside their block.
+#[test]
+fn many_queries_in_one_call() -> Done {
+    let pool = pool_of(&["192.168.0.0/24", "192.168.1.0/24", "10.0.0.0/8"]);
+    let asked = ["10.0.0.0/8", "10.255.0.1/32", "11.0.0.0/8", "192.168.0.0/23", "192.168.1.0/24", "192.168.2.0/24", "0.0.0.0/0", "192.168.0.255/32", "10.0.0.0/7"];
+    let yes = [true, true, false, false, true, false, false, true, false];
+    for n in 0..=asked.len() {
+        assert_eq!(pool.set(0).contains_all(&nets(&asked[..n]))?, yes[..n]);
+    }
+    assert_eq!(pool.set(1).contains_all(&nets(&asked))?, [false; 9]);
+    assert_eq!(pool.set(3).contains_all(&[]), Err(Refusal::NoSet));
+    assert_eq!(pool.set(0).contains_all(&nets(&["10.0.0.0/8", "::1/128"])), Err(Refusal::WrongFamily));
+    Ok(())
+}

@@ -1,2 +1,3 @@
 -- An exported call tells what its call answers.
 pub mod Told
+pub mod Many

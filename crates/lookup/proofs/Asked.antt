@@ -44,12 +44,12 @@ module _ {A : Type 0} (w : List ℕ) (k : ℕ) (refuse : Refusal → A) (f : ℕ
   onRoot-at e lt = rw (e, lt-ltb k (getD w 2 0) lt)
 
 -- what follows from an answer of `root`
-abbrev by : {A : Type 0} → (Refusal → A) → (ℕ → A) → Answer → A
+abbrev pub by : {A : Type 0} → (Refusal → A) → (ℕ → A) → Answer → A
 by refuse f (answer.Granted r) = f r
 by refuse f (answer.Refused r) = refuse r
 
 module _ (w : List ℕ) (k : ℕ) (a : Answer) (e : a ≡ onRoot w k answer.Refused answer.Granted) where
-  onRoot-by : {A : Type 0} (refuse : Refusal → A) (f : ℕ → A) → by refuse f a ≡ onRoot w k refuse f
+  pub onRoot-by : {A : Type 0} (refuse : Refusal → A) (f : ℕ → A) → by refuse f a ≡ onRoot w k refuse f
   unfolding onRoot
   onRoot-by refuse f = ap (by refuse f) e ∙ go (isHeader w) (ltb k (getD w 2 0))
     where
@@ -93,7 +93,7 @@ module _ (w : List ℕ) (k : ℕ) (a : Answer) (e : a ≡ onRoot w k answer.Refu
     empty-told le = rw (le-leb r (getD w 3 0) le) at empty-root
 
 -- The network.
-prefix-bits : (p : Prefix) (n : Net) (s : PrefixBits) → prefixAs p ≡ answered (refusalOf n) noBits (startOf n) → p ≡ prefix.Bits s → (refusalOf n ≡ 0) × (s ≡ startOf n)
+pub prefix-bits : (p : Prefix) (n : Net) (s : PrefixBits) → prefixAs p ≡ answered (refusalOf n) noBits (startOf n) → p ≡ prefix.Bits s → (refusalOf n ≡ 0) × (s ≡ startOf n)
 prefix-bits p n s e h =
     let g = sym (ap prefixAs h) ∙ e in
     let k : refusalOf n ≡ 0 = sym (ap (λ x. x .0) g) in

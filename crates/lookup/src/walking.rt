@@ -40,7 +40,7 @@ pub fn root(w: &[u32], set: u32) -> Answer
 }
 
 // The distance to the child on the side of the bit, by the word x of a node.
-fn turn(bit: bool, x: u32) -> u32
+pub fn turn(bit: bool, x: u32) -> u32
     ensures { λ r. ⌜ r ≡ toward bit x ⌝ }
 {
     if bit {
@@ -50,7 +50,7 @@ fn turn(bit: bool, x: u32) -> u32
 }
 
 // What the path down from the node at place p shows, d bits down, where the nodes 1..=n stand from b on: with every test at every node.
-fn walk_tested(w: &[u32], b: usize, n: u32, p: usize, above: u8, bits: PrefixBits) -> Shown
+pub fn walk_tested(w: &[u32], b: usize, n: u32, p: usize, above: u8, bits: PrefixBits) -> Shown
     requires { ⌜ Room (now w) b n × (b ≤ p) × (p < b + n) × (bits .len + above ≤ 128) ⌝ }
     ensures { λ r. ⌜ r ≡ walk (now (w .entry)) b n above (p + 1 - b) (bitsLeft bits) ⌝ }
 {
@@ -161,7 +161,7 @@ fn walk_from(w: &[u32], b: usize, n: u32, root: u32, bits: PrefixBits) -> Shown
 }
 
 // What the path of a query shows, down from the root's number.
-fn query(w: &[u32], net: Net, root: u32) -> Shown
+pub fn query(w: &[u32], net: Net, root: u32) -> Shown
     requires { ⌜ isHeader (now w) ≡ true ⌝ }
     ensures { λ r. ⌜ r ≡ query (now (w .entry)) net root ⌝ }
 {

@@ -42,6 +42,8 @@ macro_rules! rows {
 pub const ROWS: &[Row] = rows! {
     contains_hit, "contains, hit / contains", "lookup", One;
     contains_miss, "contains, miss / contains", "lookup", One;
+    contains_all_hit, "contains_all, hit / contains", "lookup", One;
+    contains_all_miss, "contains_all, miss / contains", "lookup", One;
     supernet, "supernet / supernet", "lookup", One;
     list, "list / iterate", "network", One;
     walk, "nth: a walk of 1,000 steps / iterate", "network", One;
@@ -73,6 +75,30 @@ fn lookups<N: Numbers + Clone>(c: &Case<N>, hit: bool, ours: impl Fn(&Net) -> bo
     let right = |n: usize| assert_eq!(n, if hit { QUERIES } else { 0 });
     let a = || seconds(|| right(nets.iter().filter(|n| ours(n)).count()));
     c.beside(QUERIES, a, || seconds(|| right(same.iter().filter(|n| theirs(n)).count()))).checked(0)
+}
+
+/// All queries in one call of ours.
+fn many<N: Numbers + Clone>(c: &Case<N>, hit: bool) -> Took {
+    let wanted = queries(c.family, &c.list, hit);
+    let asked: Vec<u64> = wanted.iter().map(|&m| net(c.family, m)).flat_map(|n| [n.hi, n.lo, n.len as u64]).collect();
+    let same: Vec<N> = wanted.iter().map(|&m| N::of(m)).collect();
+    let right = |n: usize| assert_eq!(n, if hit { QUERIES } else { 0 });
+    let a = || {
+        let mut answers = vec![0; QUERIES];
+        seconds(|| {
+            granted(call::contains_all(&c.words, 0, c.family, &asked, &mut answers));
+            right(answers.iter().filter(|&a| a >> 48 & 1 == 1).count())
+        })
+    };
+    c.beside(QUERIES, a, || seconds(|| right(same.iter().filter(|n| c.range.contains(*n)).count()))).checked(0)
+}
+
+fn contains_all_hit<N: Numbers + Clone>(c: &Case<N>) -> Took {
+    many(c, true)
+}
+
+fn contains_all_miss<N: Numbers + Clone>(c: &Case<N>) -> Took {
+    many(c, false)
 }
 
 fn contains_hit<N: Numbers + Clone>(c: &Case<N>) -> Took {

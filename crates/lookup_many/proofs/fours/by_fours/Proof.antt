@@ -1,0 +1,49 @@
+-- `fours::by_fours` meets its contract. The loop's invariant: the answers up to number i are written. Assumes nothing.
+use denote.Ref.{now}
+use mathlib.Core.Path.{refl}
+use Prim.Native.Nat.{_-_, _/_}
+use native.Mathlib.Omega.{arith}
+use borrow.Author.Needs.{needs}
+use lib.ListN.{length}
+use Rattle.pool_state.proofs.Header.{isHeader-header}
+use Rattle.lookup_many.specs.Rules.{askedOf}
+use Rattle.lookup_many.proofs.Rows.{fill-none, Written, written-start, written-next}
+use Rattle.lookup_many.proofs.Ending.{seated}
+use Rattle.lookup_many.proofs.fours.by_fours.Statement.{statement}
+use Rattle.lookup_many.proofs.fours.by_fours.Tie as tie
+
+abbrev Inv-loop : tie.InvT-loop
+Inv-loop w root family queries answers₀ b n i₀ answers i = Written (askedOf w root family queries) (length queries / 3) answers₀ answers i
+
+abbrev μ-loop : tie.MeasureT-loop
+μ-loop w root family queries answers₀ b n i₀ answers i = length queries / 3 - i
+
+pub by-fours-spec : {M : Type 1} → statement M
+by-fours-spec =
+    tie.close
+    (tie.spec
+    Inv-loop
+    μ-loop
+    (λ c. omega (arith, isHeader-header _ (c .before .before .before .before .pre .0)))
+    (λ c. omega (arith, isHeader-header _ (c .before .before .before .before .pre .0)))
+    (λ c. omega (arith, isHeader-header _ (c .before .before .before .before .pre .0)))
+    (λ c. omega (arith, isHeader-header _ (c .before .before .before .before .pre .0)))
+    (λ c. omega (arith, isHeader-header _ (c .before .before .before .before .before .pre .0)))
+    (λ c. (omega arith, fill-none _ _))
+    (λ c. (omega arith, fill-none _ _))
+    (λ c. written-start _ _ _)
+    (λ c. search (needs, c .loop .inv .le))
+    (λ c κs.
+    let t = c .before in
+    let l = t .before in
+    let e = l .before in
+    let h = e .before .before .before .before .before .before .before .pre in
+    (seated (h .0) refl refl (e .before .if1 .left) (e .if2 .left) (h .1), record { queries = t .loop-test .taken; answers = omega (arith, l .loop .inv .same, h .2) }))
+    (λ c. search (needs, c .before .before .before .before .loop-test .taken))
+    (λ c. omega (arith, c .before .before .before .before .loop-test .taken))
+    (λ c.
+    let x = c .before .before in
+    let t = x .before .before in
+    written-next _ _ _ _ _ _ (t .before .loop .inv) (t .loop-test .taken) (x .four .ensures))
+    (λ c. c .before .loop .inv .same)
+    (λ c. let i = c .before .loop .inv in (i .le, i .is)))
