@@ -33,9 +33,10 @@ use Rattle.pool_state.specs.Steps.{Refuses, Surveyed}
 use Rattle.pool_state.specs.declared.Survey.{Survey}
 use Rattle.pool_state.proofs.Claims.{isState-family}
 use Rattle.pool_state.proofs.Decoded.{decode-header, decode-state}
-use Rattle.pool_state.proofs.Seen.{Seen, behind, seen, seen-state, seen-header, seen-figures, trieAt, seen-list, seen-size, seen-segment}
-use Rattle.pool_state.proofs.Changed.{withTrie, gap-asks}
-use Rattle.pool_state.proofs.Returns.{Result, change-seat, change-args, changed, netRules-own, netRules-other}
+use Rattle.pool_state.proofs.Seen.{Seen, behind, seen, seen-state, seen-header, seen-figures}
+use Rattle.pool_state.proofs.OnTries.{trieAt, seen-list, seen-size, seen-segment, withTrie, Result}
+use Rattle.pool_state.proofs.Changed.{shift-asks}
+use Rattle.pool_state.proofs.Returns.{change-seat, change-args, changed, netRules-own, netRules-other}
 use Rattle.change.specs.Steps.{Ready, Asks, Admits}
 use Rattle.change.specs.declared.calling.Asked.the-variants.{Go, Refused}
 use Rattle.change.proofs.Admitted.{admits-add, admits-remove}
@@ -148,7 +149,7 @@ module _ {T : Bits → Trie → Trie} {L : List Bits → Bits → List Bits} {w 
 
   -- it is granted, and written
   pub result-room : m ≤ roomOf S k → t .base + (v .used + 1 - 1) + size new ≤ length w + size old
-  result-room le = rw (h .seat) (omega (arith, gap-asks sees {u = w} le refl .room, counted, seen-size sees))
+  result-room le = rw (h .seat) (omega (arith, shift-asks sees {u = w} le refl .room, counted, seen-size sees))
 
   pub result-wrote : {u : List ℕ} {y : ℕ} → Spliced w u (t .base) (t .first) y new (behind S k) → u ≡ withTrie w S k v new
   result-wrote d = rw (h .seat) at (d .wrote)

@@ -16,10 +16,9 @@ use Rattle.pool_state.specs.Steps.{Judges, surveyWith, relinked}
 use Rattle.pool_state.specs.declared.Survey.{Survey}
 use Rattle.pool_state.specs.declared.Verdict.{Verdict}
 use Rattle.pool_state.specs.declared.Verdict.the-variants as verdict
-use Rattle.pool_state.proofs.Changed.{withTrie}
+use Rattle.pool_state.proofs.OnTries.{withTrie, result-refused, result-fits, result-granted}
 use Rattle.pool_state.proofs.Decoded.{decode-state}
 use Rattle.pool_state.proofs.Resurveyed.{resurveyed}
-use Rattle.pool_state.proofs.Returns.{result-refused, result-fits, result-granted}
 use Rattle.pool_state.proofs.Seen.{seen-header, seen-figures}
 use Rattle.change.specs.Calls.{listWith}
 use Rattle.change.specs.Steps.{Grows}

@@ -44,8 +44,9 @@ notedAs-one (noted.Refused x) (noted.Refused y) e = ap noted.Refused (number-one
 reported-same : (t : Bool) (p q : ℕ × (ℕ × Bool)) → _≡_ {A = ℕ × ℕ} (p .0, p .1 .0) (q .0, q .1 .0) → p .1 .1 ≡ (eqb (p .0) 0 && t) → q .1 .1 ≡ (eqb (q .0) 0 && t) → p ≡ q
 reported-same t (a, (m, b)) (c, (k, d)) e g h = let x : a ≡ c = ap (λ p. p .0) e in let y : m ≡ k = ap (λ p. p .1) e in let z : b ≡ d = g ∙ rw x (sym h) in cc
 
-module _ {n : Net} {w v u : List ℕ} {k : ℕ} {rs : State → List Rule} {f : State → SetState} {r s : Noted} where
-  pub reports-one : Reports n (Changed w k rs f) (notedAs r) v → Reports n (Changed w k rs f) (notedAs s) u → (r ≡ s) × (v ≡ u)
-  reports-one h g =
-      let x = changed-same (h .changed) (g .changed) in
-      (notedAs-one r s (reported-same (hasBitPast n) (notedAs r) (notedAs s) (x .0) (h .report) (g .report)), x .1)
+module _ {n : Net} {w v u : List ℕ} {k : ℕ} {rs : State → List Rule} {f : State → SetState} where
+  pub reports-same : {p q : ℕ × (ℕ × Bool)} → Reports n (Changed w k rs f) p v → Reports n (Changed w k rs f) q u → (p ≡ q) × (v ≡ u)
+  reports-same {p} {q} h g = let x = changed-same (h .changed) (g .changed) in (reported-same (hasBitPast n) p q (x .0) (h .report) (g .report), x .1)
+
+  pub reports-one : {r s : Noted} → Reports n (Changed w k rs f) (notedAs r) v → Reports n (Changed w k rs f) (notedAs s) u → (r ≡ s) × (v ≡ u)
+  reports-one {r} {s} h g = let x = reports-same h g in (notedAs-one r s (x .0), x .1)

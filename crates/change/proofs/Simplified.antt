@@ -6,12 +6,11 @@ use Prim.Native.Nat.{ℕ, suc, _+_, _-_, _≤_, _<_}
 use native.Mathlib.Omega.{arith}
 use lib.ListN.{length, getD}
 use borrow.Author.Tests.{le-ltb}
-use Rattle.nets.specs.Lists.{nodesL, simplifyL}
+use Rattle.nets.specs.Lists.{simplifyL}
 use Rattle.nets.specs.Tries.{Trie, size, simplifyT}
 use Rattle.nets.specs.Networks.{width}
 use Rattle.nets.specs.Refusals.{number, firstNo}
 use Rattle.nets.specs.declared.Refusal.{Refusal}
-use Rattle.nets.proofs.Nodes.{nodesL-listOf}
 use Rattle.nets.proofs.TrieOf.{isList-within}
 use Rattle.nets.proofs.Simplifying.{isList-simplify}
 use Rattle.nodes.specs.Words.{put, place, enc}
@@ -23,23 +22,25 @@ use Rattle.trie_emit.specs.declared.emitting.Emitted.{Emitted}
 use Rattle.trie_emit.specs.declared.emitting.Emitted.the-variants.{Full}
 use Rattle.trie_emit.proofs.Answers.{end-is, full-size, settled}
 use Rattle.trie_emit.proofs.Simplify.{size-simplify}
+use Rattle.pool_state.specs.Kept.{heldL}
 use Rattle.pool_state.specs.States.{State, held, roomOf}
 use Rattle.pool_state.specs.Decode.{base, sound, decode}
 use Rattle.pool_state.specs.Rules.{answerOn, answerAs}
 use Rattle.pool_state.specs.Changes.{setAt, listAt, withSet, changeRule, setWith, grantRules, relistRules, relistSet, relistNo}
-use Rattle.pool_state.specs.Steps.{Refuses, behindAt, Gap, relinked, Relink}
+use Rattle.pool_state.specs.Steps.{Refuses, behindAt, Shiftable, relinked, Relink}
 use Rattle.pool_state.specs.declared.Answer.{Answer}
 use Rattle.pool_state.specs.declared.Survey.{Survey}
+use Rattle.pool_state.proofs.Kept.{heldL-listOf}
 use Rattle.pool_state.proofs.Determined.{changed-one}
 use Rattle.pool_state.proofs.Leaves.{RelistLeaves, relist-leaves}
 use Rattle.pool_state.proofs.WithSet.{claim-roomOf}
 use Rattle.pool_state.proofs.Claims.{isList-listAt, held-limit}
-use Rattle.pool_state.proofs.Holds.{set-size}
+use Rattle.pool_state.proofs.OnTries.{decode-at, set-size, trieAt, seen-segment, withTrie, behind-last, change-granted}
 use Rattle.pool_state.proofs.Decoded.{decode-state, decode-set}
 use Rattle.pool_state.proofs.Judged.{relistNo-known}
-use Rattle.pool_state.proofs.Seen.{Seen, behind, seen-header, seen-figures, trieAt, seen-segment}
-use Rattle.pool_state.proofs.Changed.{withTrie, behind-last, relink-asks, gap-asks}
-use Rattle.pool_state.proofs.Returns.{change-seat, change-granted, changed}
+use Rattle.pool_state.proofs.Seen.{Seen, behind, seen-header, seen-figures}
+use Rattle.pool_state.proofs.Changed.{relink-asks, shift-asks}
+use Rattle.pool_state.proofs.Returns.{change-seat, changed}
 use Rattle.change.proofs.Admitted.{admits-simplify}
 use Rattle.change.specs.Simplified.{listSimple, noArgs, Simplifies, Shrunk}
 
@@ -64,9 +65,9 @@ module _ {w u : List ℕ} {b i e fuel : ℕ} {t : Trie} {x : Emitted} (g : Sourc
 abbrev simpleAt : State → ℕ → Trie
 simpleAt S k = simplifyT (trieAt S k)
 
-nodesL-simplify : (S : State) (k : ℕ) → nodesL (listSimple k S) ≡ size (simpleAt S k)
+heldL-simplify : (S : State) (k : ℕ) → heldL (listSimple k S) ≡ size (simpleAt S k)
 unfolding simplifyL
-nodesL-simplify S k = nodesL-listOf (simpleAt S k)
+heldL-simplify S k = heldL-listOf (simpleAt S k)
 
 module _ (w : List ℕ) (S : State) (k : ℕ) (d : decode w ≡ sound S) (lt : k < length (S .sets)) where
   trie-size : size (trieAt S k) ≡ held (setAt S k)
@@ -84,8 +85,8 @@ module _ (w : List ℕ) (S : State) (k : ℕ) (d : decode w ≡ sound S) (lt : k
   -- never refused for the mark, the limit or the room
   grant-simplify : firstNo (grantRules S k (listSimple k S)) ≡ 0
   grant-simplify =
-      let n = nodesL-simplify S k in
-      rw (admits-simplify S k (decode-state w S d), le-ltb (setAt S k .limit) (nodesL (listSimple k S)) (omega (arith, in-limit)), le-ltb (roomOf S k) (nodesL (listSimple k S)) (omega (arith, in-room)))
+      let n = heldL-simplify S k in
+      rw (admits-simplify S k (decode-state w S d), le-ltb (setAt S k .limit) (heldL (listSimple k S)) (omega (arith, in-limit)), le-ltb (roomOf S k) (heldL (listSimple k S)) (omega (arith, in-room)))
 
   pub relistNo-simplify : relistNo S k [] (simplifyL (listAt S k)) ≡ 0
   relistNo-simplify = relistNo-known S k [] (simplifyL (listAt S k)) lt ∙ grant-simplify
@@ -103,15 +104,15 @@ module _ {w : List ℕ} {S : State} {k : ℕ} {v : Survey} (h : Seen w S k v) {b
         here = rw o (seen-segment h);
         one = seen-figures h .first;
         behind = omega arith;
-        deep = rw (q, seen-header h .family) (decode-set w S (h .decoded) k (h .known) .trie .deep);
+        deep = rw (q, seen-header h .family) (decode-at w S (h .decoded) k (h .known) .deep);
       }
 
   module _ {u : List ℕ} {n : ℕ} (s : Shrunk w u b (v .at) (trieAt S k) n) where
     fits : n ≤ roomOf S k
     fits = omega (arith, in-room w S k (h .decoded) (h .known), s .nodes)
 
-    pub gap-closes : Gap u b v n
-    gap-closes = rw o (gap-asks h fits (ap length (s .wrote) ∙ length-put w (place b (v .at)) (enc (simpleAt S k))))
+    pub gap-closes : Shiftable u b v n
+    gap-closes = rw o (shift-asks h fits (ap length (s .wrote) ∙ length-put w (place b (v .at)) (enc (simpleAt S k))))
 
     module _ {x : List ℕ} (e : x ≡ put u (place b (v .at + n)) (behindAt u b v)) where
       closed : x ≡ withTrie w S k v (simpleAt S k)
@@ -132,7 +133,7 @@ simplify-one g h = changed-one g h
 -- What is left of a sound pool: a call on a set that is there is granted, and leaves the state with the list simplified.
 module _ {w v : List ℕ} {k : ℕ} {r : ℕ × ℕ} (h : Simplifies w k r v) where
   module _ (S : State) (d : decode w ≡ sound S) where
-    pub simplify-granted : k < length (S .sets) → r ≡ (0, nodesL (simplifyL (listAt S k)))
+    pub simplify-granted : k < length (S .sets) → r ≡ (0, heldL (simplifyL (listAt S k)))
     unfolding changeRule answerOn relistRules relistSet
     simplify-granted lt = h .answer ∙ rw (d, relistNo-simplify w S k d lt)
 

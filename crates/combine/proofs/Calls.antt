@@ -27,11 +27,12 @@ use Rattle.pool_state.specs.Changes.{setAt, listAt}
 use Rattle.pool_state.specs.Steps.{Refuses, Surveyed}
 use Rattle.pool_state.specs.declared.Survey.{Survey}
 use Rattle.pool_state.proofs.Decoded.{decode-header}
-use Rattle.pool_state.proofs.Seen.{Seen, trieAt, seen, seen-figures, seen-empty, seen-some}
-use Rattle.pool_state.proofs.Changed.{withTrie, behind-first, gap-asks}
-use Rattle.pool_state.proofs.Returns.{Result, isEmpty-some, change-seat, change-args, changed}
+use Rattle.pool_state.proofs.Seen.{Seen, seen, seen-figures, seen-empty, seen-some}
+use Rattle.pool_state.proofs.OnTries.{trieAt, withTrie, behind-first, Result}
+use Rattle.pool_state.proofs.Changed.{shift-asks}
+use Rattle.pool_state.proofs.Returns.{isEmpty-some, change-seat, change-args, changed}
 use Rattle.combine.specs.Rules.{combineRules}
-use Rattle.combine.specs.Steps.{Operation, merging, intersecting, excluding, excludingApart, combineL, Ready, Asks, sourcesOf, Reads, Admits, Writable, written}
+use Rattle.combine.specs.Steps.{Operation, merging, intersecting, excluding, excludingApart, combineL, Ready, Asks, sourcesOf, Reads, Admits, ResultFits, withResult}
 use Rattle.combine.specs.declared.asking.Destination.the-variants.{Empty, Refused}
 use Rattle.combine.specs.declared.asking.Sources.{Sources}
 use Rattle.combine.proofs.Sources.{Source, source}
@@ -180,7 +181,7 @@ module _ {op : ℕ} {w : List ℕ} {to first second : ℕ} {v : Survey} {s : Sou
 
   -- it is granted, and written
   module _ (fits : m ≤ roomOf S to) where
-    pub result-writes : Writable w op s v m (trieAt S first) (trieAt S second)
+    pub result-writes : ResultFits w op s v m (trieAt S first) (trieAt S second)
     result-writes =
         let h = here (c .ready) in
         let f = seen-figures h in
@@ -189,9 +190,9 @@ module _ {op : ℕ} {w : List ℕ} {to first second : ℕ} {v : Survey} {s : Sou
           reads = ready-reads (c .ready) refl;
           size = made-size;
           empty = c .ready .empty;
-          gap = gap-asks h fits refl;
+          gap = shift-asks h fits refl;
           few = omega (arith, fits, decode-header w S (h .decoded) .nodes);
         })
 
-    pub result-wrote : {y : List ℕ} → ((t u : Trie) → Writable w op s v m t u → y ≡ written w op s v m t u) → y ≡ withTrie w S to v made
+    pub result-wrote : {y : List ℕ} → ((t u : Trie) → ResultFits w op s v m t u → y ≡ withResult w op s v m t u) → y ≡ withTrie w S to v made
     result-wrote d = behind-first (here (c .ready)) made refl (rw made-size (rw (c .sources) at (d (trieAt S first) (trieAt S second) result-writes)))

@@ -22,7 +22,7 @@ use Rattle.trie_emit.specs.Combine.{opOn, Means, nothing, everything, standing}
 use Rattle.trie_emit.proofs.Combine.{opOn-except}
 use Rattle.pool_state.specs.Steps.{behindAt}
 use Rattle.pool_state.specs.declared.Survey.{Survey}
-use Rattle.combine.specs.Steps.{isCopy, Reads, movedTo, Writable, written}
+use Rattle.combine.specs.Steps.{isCopy, Reads, movedTo, ResultFits, withResult}
 use Rattle.combine.specs.declared.asking.Sources.{Sources}
 use Rattle.combine.proofs.Gaps.{opened-length, means-moved}
 
@@ -71,7 +71,7 @@ module _ {w : List ℕ} {s : Sources} {v : Survey} {t u : Trie} (h : Reads w s v
       rw (e, z) (opOn-except (s .levels) t none ∙ except-none (s .levels) t (h .inputs .deep-t))
 
 -- The words, once the gap is opened.
-module _ {w : List ℕ} {op : ℕ} {s : Sources} {v : Survey} {n : ℕ} {t u : Trie} (h : Writable w op s v n t u) {z : List ℕ} (e : z ≡ put w (place (s .base) (v .at + n)) (behindAt w (s .base) v))
+module _ {w : List ℕ} {op : ℕ} {s : Sources} {v : Survey} {n : ℕ} {t u : Trie} (h : ResultFits w op s v n t u) {z : List ℕ} (e : z ≡ put w (place (s .base) (v .at + n)) (behindAt w (s .base) v))
     (c : isCopy op s ≡ true) {i : ℕ} (q : i ≡ movedTo (v .at) n (s .first)) where
   there : Means z (s .base) (v .at) (v .at + n) i t
   there = rw q (means-moved h e (s .first) t (h .reads .inputs .first) (h .reads .whole-t))
@@ -86,7 +86,7 @@ module _ {w : List ℕ} {op : ℕ} {s : Sources} {v : Survey} {n : ℕ} {t u : T
   unfolding size
   copy-asks = (λ o. sym same-size ∙ ap size (means-none i t there o), (h .gap .first, (omega (arith, same-size, words .0), rw (opened-length h e) (omega arith))))
 
-  pub copy-wrote : {r : List ℕ} → r ≡ put z (place (s .base) (v .at)) (take n (drop (place (s .base) i) z)) → r ≡ written w op s v n t u
+  pub copy-wrote : {r : List ℕ} → r ≡ put z (place (s .base) (v .at)) (take n (drop (place (s .base) i) z)) → r ≡ withResult w op s v n t u
   copy-wrote d =
       let y : take n (drop (place (s .base) i) z) ≡ enc t = rw same-size at (words .1) in
       d ∙ rw (y, copied (h .reads) op c, e)

@@ -20,7 +20,7 @@ use Rattle.trie_emit.specs.declared.emitting.Emitted.the-variants.{Full}
 use Rattle.trie_emit.proofs.Answers.{full-size, settled}
 use Rattle.pool_state.specs.Steps.{behindAt}
 use Rattle.pool_state.specs.declared.Survey.{Survey}
-use Rattle.combine.specs.Steps.{movedTo, Whole, Writable, written}
+use Rattle.combine.specs.Steps.{movedTo, Whole, ResultFits, withResult}
 use Rattle.combine.specs.declared.asking.Sources.{Sources}
 
 -- a part of m words that move from p to q
@@ -36,7 +36,7 @@ has-moved {w} {ys} p q m d lp lq le h =
           rw a (getD-put-in w q xs (d + k) (omega arith) (omega arith) ∙ getD-take m (drop p w) (d + k) 0 (omega arith) ∙ getD-drop p w (d + k) 0 ∙ rw b (h .at k l));
     }
 
-module _ {w : List ℕ} {op : ℕ} {s : Sources} {v : Survey} {n : ℕ} {t u : Trie} (h : Writable w op s v n t u) {z : List ℕ} (e : z ≡ put w (place (s .base) (v .at + n)) (behindAt w (s .base) v)) where
+module _ {w : List ℕ} {op : ℕ} {s : Sources} {v : Survey} {n : ℕ} {t u : Trie} (h : ResultFits w op s v n t u) {z : List ℕ} (e : z ≡ put w (place (s .base) (v .at + n)) (behindAt w (s .base) v)) where
   pub opened-length : length z ≡ length w
   opened-length = rw e (length-put w (place (s .base) (v .at + n)) (behindAt w (s .base) v))
 
@@ -96,5 +96,5 @@ module _ {w : List ℕ} {op : ℕ} {s : Sources} {v : Survey} {n : ℕ} {t u : T
         let k : length y ≡ length w = rw (d .wrote) (length-put z (place (s .base) (v .at)) _ ∙ opened-length) in
         (h .gap .first, λ f. omega (arith, full-size x result (v .at) (d .answers) f))
 
-    pub write-wrote : {r : List ℕ} → r ≡ put y (place (s .base) (v .at)) (restOf x) → r ≡ written w op s v n t u
+    pub write-wrote : {r : List ℕ} → r ≡ put y (place (s .base) (v .at)) (restOf x) → r ≡ withResult w op s v n t u
     write-wrote q = rw (← e) (settled d q)

@@ -15,14 +15,14 @@ use Rattle.trie_emit.specs.Combine.{Here, Means}
 use Rattle.trie_emit.proofs.Sources.{means-here}
 use Rattle.pool_state.specs.States.{State}
 use Rattle.pool_state.specs.Decode.{recordAt, base, rootAt, decode}
-use Rattle.pool_state.specs.Rules.{startOf, surveyOf}
+use Rattle.pool_state.specs.Rules.{firstNode, surveyOf}
 use Rattle.pool_state.specs.Changes.{listAt}
 use Rattle.pool_state.specs.declared.Survey.{Survey}
-use Rattle.pool_state.proofs.Holds.{rootAt-trie}
-use Rattle.pool_state.proofs.Decoded.{decode-header, decode-root, decode-at}
-use Rattle.pool_state.proofs.Seen.{Seen, trieAt, survey-seen, seen-figures, own-has, seen-list, seen-size}
-use Rattle.pool_state.proofs.Changed.{startOf-behind}
-use Rattle.pool_state.proofs.Beside.{its, beside-seen, beside-root}
+use Rattle.pool_state.proofs.Decoded.{decode-header, decode-root}
+use Rattle.pool_state.proofs.OnTries.{trie-has, trie-root, decode-at, trieAt, seen-list, seen-size}
+use Rattle.pool_state.proofs.Seen.{Seen, survey-seen, seen-figures}
+use Rattle.pool_state.proofs.Changed.{firstNode-behind}
+use Rattle.pool_state.proofs.Beside.{its, beside-seen}
 use Rattle.combine.specs.Steps.{Whole}
 
 whole-root : (o e i : ℕ) (t : Trie) → (i < o → i + size t ≤ o) → i + size t ≤ e → Whole o e (cond (isNone t) 0 i) t
@@ -43,19 +43,19 @@ module _ {w : List ℕ} {S : State} {k : ℕ} {v : Survey} (h : Seen w S k v) (j
   source-before l = go (beside-seen h j lt) (decLt j k) (decLt k j)
     where
       go : Seen w S j (its h j lt) → Dec (j < k) → Dec (k < j) → (its h j lt) .at + size (trieAt S j) ≤ v .at
-      go g (yes a) b = omega (arith, startOf-behind j k 1 (S .sets) a (h .known), seen-size g)
-      go g (no a) (yes b) = absurd (omega (arith, startOf-behind k j 1 (S .sets) b (g .known)))
-      go g (no a) (no b) = let e : j ≡ k = omega arith in absurd (omega (arith, ap (λ n. startOf n 1 (S .sets)) e))
+      go g (yes a) b = omega (arith, firstNode-behind j k 1 (S .sets) a (h .known), seen-size g)
+      go g (no a) (yes b) = absurd (omega (arith, firstNode-behind k j 1 (S .sets) b (g .known)))
+      go g (no a) (no b) = let e : j ≡ k = omega arith in absurd (omega (arith, ap (λ n. firstNode n 1 (S .sets)) e))
 
   pub source : Source w S v j
   source =
       let g = beside-seen h j lt in
       let f = seen-figures g in
       let here : Here w (base (getD w 2 0)) 0 0 ((its h j lt) .at) (trieAt S j) =
-      record { has = own-has g; one = f .first; few = omega (arith, seen-size g); clear = λ n a b c d. omega arith } in
+      record { has = trie-has g; one = f .first; few = omega (arith, seen-size g); clear = λ n a b c d. omega arith } in
       record {
-        means = rw (beside-root h j lt) (means-here (trieAt S j) here);
-        whole = rw (beside-root h j lt) (whole-root (v .at) (v .used + 1) ((its h j lt) .at) (trieAt S j) source-before (omega (arith, seen-size g)));
+        means = rw (trie-root h j lt (seen-list g)) (means-here (trieAt S j) here);
+        whole = rw (trie-root h j lt (seen-list g)) (whole-root (v .at) (v .used + 1) ((its h j lt) .at) (trieAt S j) source-before (omega (arith, seen-size g)));
         deep = rw (decode-header w S (h .decoded) .family) (decode-at w S (h .decoded) j (g .known) .deep);
         list = seen-list g;
         few = omega (arith, seen-size g);

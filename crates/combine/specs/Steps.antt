@@ -6,7 +6,7 @@
 --   Admits w op to s v c         c says whether the set `to` may have what the operation makes of the sources, as far as its mark goes
 --   isCopy op s                  the operation leaves its first source as it is
 --   movedTo o n i                the number of node i after n nodes were put in before node o
---   Writable, written            what writing the result asks, and the words that it leaves
+--   ResultFits, withResult            what writing the result asks, and the words that it leaves
 use mathlib.Core.Bool.{Bool, cond, _&&_}
 use mathlib.Core.List.{List}
 use mathlib.Core.Path.{_≡_}
@@ -24,7 +24,7 @@ use Rattle.trie_emit.specs.Combine.{opOn, Inputs}
 use Rattle.pool_state.specs.States.{State, admits}
 use Rattle.pool_state.specs.Decode.{recordAt, base, sound, decode}
 use Rattle.pool_state.specs.Changes.{setAt, Relisted}
-use Rattle.pool_state.specs.Steps.{Surveyed, behindAt, Gap}
+use Rattle.pool_state.specs.Steps.{Surveyed, behindAt, Shiftable}
 use Rattle.pool_state.specs.declared.Survey.{Survey}
 use Rattle.combine.specs.Rules.{combineRules}
 use Rattle.combine.specs.declared.asking.Destination.{Destination}
@@ -81,13 +81,13 @@ abbrev pub isCopy : ℕ → Sources → Bool
 isCopy op s = eqb op 3 && eqb (s .second) 0
 
 -- the result has n nodes, and there is room for them
-pub record Writable (w : List ℕ) (op : ℕ) (s : Sources) (v : Survey) (n : ℕ) (t u : Trie) : Type 0 where
+pub record ResultFits (w : List ℕ) (op : ℕ) (s : Sources) (v : Survey) (n : ℕ) (t u : Trie) : Type 0 where
   pub reads : Reads w s v t u
   pub size : size (opOn op (s .levels) t u) ≡ n
   pub empty : v .held ≡ 0
-  pub gap : Gap w (s .base) v n
+  pub gap : Shiftable w (s .base) v n
   pub few : v .used + 1 + n ≤ 1073741824
 
 -- the sets behind the gap moved, and the result in it
-abbrev pub written : List ℕ → ℕ → Sources → Survey → ℕ → Trie → Trie → List ℕ
-written w op s v n t u = put (put w (place (s .base) (v .at + n)) (behindAt w (s .base) v)) (place (s .base) (v .at)) (enc (opOn op (s .levels) t u))
+abbrev pub withResult : List ℕ → ℕ → Sources → Survey → ℕ → Trie → Trie → List ℕ
+withResult w op s v n t u = put (put w (place (s .base) (v .at + n)) (behindAt w (s .base) v)) (place (s .base) (v .at)) (enc (opOn op (s .levels) t u))

@@ -25,7 +25,7 @@ ghost use Rattle.nets.specs.Tries.{Trie, size};
 ghost use Rattle.trie_emit.specs.Combine.{opOn};
 ghost use Rattle.pool_state.specs.Rules.{answerAs};
 ghost use Rattle.combine.specs.Rules.{Combined};
-ghost use Rattle.combine.specs.Steps.{Operation, combineL, Reads, Admits, movedTo, Writable, written};
+ghost use Rattle.combine.specs.Steps.{Operation, combineL, Reads, Admits, movedTo, ResultFits, withResult};
 ghost use Rattle.pool_state.specs.Steps.{Surveyed};
 
 // The number of a node after n nodes were put in before node `at`.
@@ -64,8 +64,8 @@ fn count(pool: &[u32], op: usize, s: Sources, v: Survey) -> usize
 
 // Writes the result, of n nodes, in the place of the empty destination; the sets behind it move, and with them the sources that are among them.
 fn write(pool: &mut [u32], op: usize, s: Sources, v: Survey, n: u32)
-    requires { ⌜ ((t : Trie) × (u : Trie) × Writable (now pool) op s v n t u) ⌝ }
-    ensures { λ _. ⌜ ((t u : Trie) → Writable (now (pool .entry)) op s v n t u → now (pool .exit) ≡ written (now (pool .entry)) op s v n t u) ⌝ }
+    requires { ⌜ ((t : Trie) × (u : Trie) × ResultFits (now pool) op s v n t u) ⌝ }
+    ensures { λ _. ⌜ ((t u : Trie) → ResultFits (now (pool .entry)) op s v n t u → now (pool .exit) ≡ withResult (now (pool .entry)) op s v n t u) ⌝ }
 {
     let at = v.at as usize;
     shift_behind(pool, s.base, v, n);

@@ -1,32 +1,33 @@
 -- Comparing two sets, by the tests of the code: where both have nodes, the second set has the first's list exactly if so many words from its root on are the first's, as no
--- trie's words begin another's. Assumes nothing.
-use mathlib.Core.Bool.{Bool, true, false, cond, false≢true}
+-- list's words begin another's. Assumes nothing.
+use mathlib.Core.Bool.{Bool, true, false, false≢true}
 use mathlib.Core.List.{List, [], _∷_}
 use mathlib.Core.Path.{_≡_, refl, sym, ap, _∙_}
-use Prim.Native.Nat.{ℕ, _+_, _*_, _≤_, _<_}
+use Prim.Native.Nat.{ℕ, _+_, _≤_, _<_}
 use native.Mathlib.Omega.{arith}
 use lib.Dec.{eqb}
 use lib.ListN.{length, getD}
 use borrow.Author.Tests.{le-leb, lt-leb, eq-eqb, ne-eqb}
 use Rattle.nets.specs.Bits.{Bits, equal}
-use Rattle.nets.specs.Tries.{Trie, none, node, size, levels, isNone, listOf, trieOf}
 use Rattle.nets.proofs.Strings.{and-left, and-right, equal-refl, equal-is}
-use Rattle.nodes.specs.Words.{Has, place, enc}
-use Rattle.nodes.specs.Parse.{Stands}
+use Rattle.nets.specs.Networks.{width}
+use Rattle.nodes.specs.Words.{Has, place}
 use Rattle.nodes.specs.declared.seats.Seat.{Seat}
-use Rattle.nodes.proofs.Tries.{some}
-use Rattle.nodes.proofs.Unique.{unique}
+use Rattle.pool_state.specs.Kept.{encL}
 use Rattle.pool_state.specs.States.{State}
 use Rattle.pool_state.specs.Decode.{recordAt, base, rootAt, decode}
-use Rattle.pool_state.specs.Rules.{answerOn, unknown, startOf, seatOf}
+use Rattle.pool_state.specs.Rules.{answerOn, unknown, firstNode, seatOf}
 use Rattle.pool_state.specs.Changes.{listAt}
 use Rattle.pool_state.specs.Steps.{Refuses, Surveyed}
 use Rattle.pool_state.specs.declared.Survey.{Survey}
 use Rattle.pool_state.proofs.Answered.{owes-seat}
+use Rattle.pool_state.proofs.Kept.{encL-one}
+use Rattle.pool_state.proofs.Claims.{isList-listAt}
 use Rattle.pool_state.proofs.Decoded.{decode-header, decode-root}
-use Rattle.pool_state.proofs.Seen.{Seen, trieAt, seen, seen-figures, own-has, own-length, seen-list, seen-size, seen-empty, seen-some}
+use Rattle.pool_state.proofs.Seen.{Seen, seen, seen-state, seen-figures, own-has, own-length, seen-empty, seen-some}
 use Rattle.compare.specs.Rules.{sameList, equalRule, Agree}
 use Rattle.pool_state.proofs.Beside.{its, beside-seen, beside-root}
+use Rattle.pool_state.proofs.Holds.{cons-some}
 
 -- Two lists are one.
 pub sameList-refl : (l : List Bits) → sameList l l ≡ true
@@ -54,13 +55,13 @@ rootAt-same : (i : ℕ) (m : List Bits) → 1 ≤ i → eqb (rootAt i m) 0 ≡ s
 rootAt-same i [] pos = refl
 rootAt-same i (p ∷ m) pos = ne-eqb i 0 (λ e. omega arith)
 
-root-some : (i : ℕ) (t : Trie) → (cond (isNone t) 0 i ≡ 0 → ⊥) → (t ≡ none → ⊥) × (cond (isNone t) 0 i ≡ i)
-root-some i none ne = absurd (ne refl)
-root-some i (node l r) ne = (some l r, refl)
+root-some : (i : ℕ) (l : List Bits) → (rootAt i l ≡ 0 → ⊥) → (l ≡ [] → ⊥) × (rootAt i l ≡ i)
+root-some i [] ne = absurd (ne refl)
+root-some i (p ∷ l) ne = (cons-some p l, refl)
 
-root-le : (i : ℕ) (t : Trie) → cond (isNone t) 0 i ≤ i
-root-le i none = omega arith
-root-le i (node l r) = omega arith
+root-le : (i : ℕ) (l : List Bits) → rootAt i l ≤ i
+root-le i [] = omega arith
+root-le i (p ∷ l) = omega arith
 
 -- A refusal of the first set is the call's, and the second has to be there too.
 pub equal-refused : (w : List ℕ) (first second : ℕ) {x : ℕ} → Refuses (decode w) first x → (x, false) ≡ equalRule (decode w) first second
@@ -103,7 +104,7 @@ module _ {w : List ℕ} {first second : ℕ} {v : Survey} (h : Surveyed w first 
   places =
       let f = seen-figures one in
       let g = seen-figures other in
-      (omega arith, omega (arith, beside-root one second lt, root-le (found .at) (trieAt state second)))
+      (omega arith, omega (arith, beside-root one second lt, root-le (found .at) (listAt state second)))
 
   pub equal-places : {s : Seat} → s ≡ seatOf w v → (place (s .base) (s .first) + v .held ≤ length w) × (place (s .base) (getD w (recordAt second) 0) + v .held ≤ length w)
   equal-places e = rw e places
@@ -111,7 +112,7 @@ module _ {w : List ℕ} {first second : ℕ} {v : Survey} (h : Surveyed w first 
   root-tells : eqb (getD w (recordAt second) 0) 0 ≡ sameList [] (listAt state second)
   root-tells =
       let g = other in
-      rw (decode-root w state (one .decoded) second (g .known)) (rootAt-same (startOf second 1 (state .sets)) (listAt state second) (omega (arith, seen-figures g .first)))
+      rw (decode-root w state (one .decoded) second (g .known)) (rootAt-same (firstNode second 1 (state .sets)) (listAt state second) (omega (arith, seen-figures g .first)))
 
   pub equal-empty : v .held ≡ 0 → (0, eqb (getD w (recordAt second) 0) 0) ≡ equalRule (decode w) first second
   equal-empty z = told (eqb (getD w (recordAt second) 0) 0) (rw (seen-empty one z) (sym root-tells))
@@ -125,14 +126,14 @@ module _ {w : List ℕ} {first second : ℕ} {v : Survey} (h : Surveyed w first 
 
     -- and so has the second
     module _ (root : getD w (recordAt second) 0 ≡ 0 → ⊥) where
-      there : (trieAt state second ≡ none → ⊥) × (getD w (recordAt second) 0 ≡ found .at)
+      there : (listAt state second ≡ [] → ⊥) × (getD w (recordAt second) 0 ≡ found .at)
       there =
           let r = beside-root one second lt in
-          let x = root-some (found .at) (trieAt state second) (λ e. root (r ∙ e)) in
+          let x = root-some (found .at) (listAt state second) (λ e. root (r ∙ e)) in
           (x .0, r ∙ x .1)
 
       -- the words agree
-      first-there : Agreed true → Has w (place b (found .at)) (enc (trieAt state first))
+      first-there : Agreed true → Has w (place b (found .at)) (encL (listAt state first))
       first-there f =
           let x = seen-figures one in
           let y = seen-figures other in
@@ -142,23 +143,16 @@ module _ {w : List ℕ} {first second : ℕ} {v : Survey} (h : Surveyed w first 
             at = λ k l. sym (g k (omega (arith, own-length one))) ∙ own-has one .at k l;
           }
 
-      one-trie : Agreed true → trieAt state first ≡ trieAt state second
-      unfolding size
-      one-trie f =
-          let t = trieAt state first in
-          let u = trieAt state second in
-          let x = seen-figures one in
-          let y = seen-figures other in
-          let n = 2 * getD w 3 0 in
-          let p : Stands w b n (levels t) (found .at) t = record { deep = omega arith; within = omega (arith, seen-size one); has = first-there f } in
-          let q : Stands w b n (levels u) (found .at) u = record { deep = omega arith; within = omega (arith, seen-size other); has = own-has other } in
-          unique (y .first) (λ e. some (sym (seen-size one) ∙ ap size e)) (there .0) p q
+      one-list : Agreed true → listAt state first ≡ listAt state second
+      one-list f =
+          let d = width (state .family) in
+          encL-one d d (isList-listAt state first (seen-state one)) (isList-listAt state second (seen-state one)) (seen-some one some) (there .0) (first-there f) (own-has other)
 
       tells : (c : Bool) → Agreed c → (0, c) ≡ equalRule (decode w) first second
-      tells true f = told true (rw (sym (seen-list one) ∙ ap listOf (one-trie f) ∙ seen-list other) (sameList-refl (listAt state second)))
+      tells true f = told true (rw (one-list f) (sameList-refl (listAt state second)))
       tells false (k, l, ne) =
-          told false (sameList-not (listAt state first) (listAt state second) (λ e. ne (own-has one .at k (omega (arith, own-length one)) ∙ ap (λ m. getD (enc (trieOf m)) k 0) e
-          ∙ rw (there .1) (sym (own-has other .at k (omega (arith, own-length one, ap (λ m. length (enc (trieOf m))) e)))))))
+          told false (sameList-not (listAt state first) (listAt state second) (λ e. ne (own-has one .at k (omega (arith, own-length one)) ∙ ap (λ m. getD (encL m) k 0) e
+          ∙ rw (there .1) (sym (own-has other .at k (omega (arith, own-length one, ap (λ m. length (encL m)) e)))))))
 
       pub equal-words : {s : Seat} → s ≡ seatOf w v → (c : Bool) → Agree w (place (s .base) (s .first)) (place (s .base) (getD w (recordAt second) 0)) (v .held) c
           → (0, c) ≡ equalRule (decode w) first second

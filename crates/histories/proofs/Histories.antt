@@ -8,9 +8,10 @@ use native.Mathlib.Omega.{arith}
 use lib.ListN.{length}
 use borrow.Author.Tests.{lt-ltb, le-ltb}
 use Rattle.nets.specs.Bits.{before, bits}
-use Rattle.nets.specs.Lists.{isList, nodesL, addL}
+use Rattle.nets.specs.Lists.{nodesL, isList, addL}
 use Rattle.nets.specs.Networks.{width, netBits, inRange, refusalOf}
 use Rattle.nets.specs.declared.Net.{Net}
+use Rattle.pool_state.specs.Kept.{heldL}
 use Rattle.pool_state.specs.States.{SetState, State, held, used, claimed, claimedBut, freeOf, roomOf, admits, isState}
 use Rattle.pool_state.specs.Decode.{leastWords, sound, decode}
 use Rattle.pool_state.specs.Rules.{answerOn, Setup, setup, emptyState, layoutNo, Laid, freeRule}
@@ -105,15 +106,15 @@ module _ {w : List ℕ} {S : State} (d : decode w ≡ sound S) where
     -- One that relists, by the share and the limit in force.
     module _ {u : List ℕ} {r : ℕ × ℕ} (c : Relist) (o : Outcome v (relist c) r u) where
       -- "the sum over all sets of the larger of share and nodes is at most the pool's": so a result within the share is never refused for room.
-      pub share-granted : nodesL (resultOf c (stateFrom S cs)) ≤ setAt (stateFrom S cs) (writes c) .share → r .0 ≡ 10 → ⊥
+      pub share-granted : heldL (resultOf c (stateFrom S cs)) ≤ setAt (stateFrom S cs) (writes c) .share → r .0 ≡ 10 → ⊥
       share-granted le e = callNo-share (stateFrom S cs) c history-state le (sym (number-is (relist c) o) ∙ e)
 
       -- "Room for a set is the pool's nodes less, for every other set, the larger of its share and the nodes of its list. A changing call is judged by the nodes of its result alone".
       pub room-exact : writes c < length (stateFrom S cs .sets) → argsNo c (stateFrom S cs) ≡ 0
           → admits (stateFrom S cs .family) (setAt (stateFrom S cs) (writes c)) (resultOf c (stateFrom S cs)) ≡ true
-          → nodesL (resultOf c (stateFrom S cs)) ≤ setAt (stateFrom S cs) (writes c) .limit
-          → (nodesL (resultOf c (stateFrom S cs)) ≤ roomOf (stateFrom S cs) (writes c) → r .0 ≡ 0)
-          × (roomOf (stateFrom S cs) (writes c) < nodesL (resultOf c (stateFrom S cs)) → r .0 ≡ 10)
+          → heldL (resultOf c (stateFrom S cs)) ≤ setAt (stateFrom S cs) (writes c) .limit
+          → (heldL (resultOf c (stateFrom S cs)) ≤ roomOf (stateFrom S cs) (writes c) → r .0 ≡ 0)
+          × (roomOf (stateFrom S cs) (writes c) < heldL (resultOf c (stateFrom S cs)) → r .0 ≡ 10)
       room-exact lt a m le =
           let e = number-is (relist c) o ∙ callNo-room (stateFrom S cs) c lt a m le in
           (λ k. rw (le-ltb _ _ k) at e, λ k. rw (lt-ltb _ _ k) at e)
@@ -164,7 +165,7 @@ pub worked-pool : (answersFrom pool100 (adds 1 59 ∷ []) ≡ (0, 60) ∷ [])
     × (answersFrom pool100 (adds 1 80 ∷ []) ≡ (9, 0) ∷ [])
     × (answersFrom pool100 (adds 0 39 ∷ adds 1 59 ∷ []) ≡ (0, 40) ∷ (0, 60) ∷ [])
     × (answersFrom pool100 (adds 0 40 ∷ adds 1 59 ∷ []) ≡ (10, 0) ∷ (0, 60) ∷ [])
-unfolding stateFrom answersFrom stateAfter changeRules withSet relistRules relistSet netRules refusalOf inRange width netBits bits addL nodesL before claimedBut claimed
+unfolding stateFrom answersFrom stateAfter changeRules withSet relistRules relistSet netRules refusalOf inRange width netBits bits addL heldL nodesL before claimedBut claimed
 worked-pool = (refl, refl, refl, refl, refl, refl)
 
 -- Shares that move, in the same pool. Set 0 gives 20 of its 40 nodes up, and then set 1 may have 80: its room is the pool less the share in force. Set 0 gets them back no more, at
@@ -178,5 +179,5 @@ pub worked-plans : (answersFrom pool100 (adds 1 79 ∷ replan 0 20 60 ∷ []) �
     × (answersFrom pool100 (replan 0 40 39 ∷ []) ≡ (13, 0) ∷ [])
     × (answersFrom pool100 (replan 1 0 60 ∷ adds 1 59 ∷ []) ≡ (0, 60) ∷ (0, 60) ∷ [])
     × (answersFrom pool100 (replan 1 0 59 ∷ adds 1 59 ∷ []) ≡ (13, 0) ∷ (0, 60) ∷ [])
-unfolding stateFrom answersFrom stateAfter changeRules withSet fits planRules relistRules relistSet netRules refusalOf inRange width netBits bits addL nodesL before claimedBut claimed
+unfolding stateFrom answersFrom stateAfter changeRules withSet fits planRules relistRules relistSet netRules refusalOf inRange width netBits bits addL heldL nodesL before claimedBut claimed
 worked-plans = (refl, refl, refl, refl, refl, refl, refl, refl)

@@ -3,7 +3,6 @@
 use mathlib.Core.List.{List, [], _∷_}
 use mathlib.Core.Path.{_≡_}
 use Prim.Native.Nat.{ℕ}
-use Rattle.nets.specs.Lists.{nodesL}
 use Rattle.nets.specs.declared.Net.{Net}
 use Rattle.pool_state.specs.States.{State}
 use Rattle.pool_state.specs.Decode.{sound, decode}

@@ -14,6 +14,7 @@ use Rattle.nets.specs.Groupings.{Grouping, both, isIn, names, mergedL}
 use Rattle.nets.specs.declared.Net.{Net}
 use Rattle.nets.proofs.TrieOf.{isList-within}
 use Rattle.nets.proofs.MergeOrder.{merge-order, mergedL-same}
+use Rattle.pool_state.specs.Kept.{heldL}
 use Rattle.pool_state.specs.States.{SetState, State, claimed, claimedBut}
 use Rattle.pool_state.specs.Decode.{sound, decode}
 use Rattle.pool_state.specs.Rules.{setup, emptyState}
@@ -108,7 +109,7 @@ pub worked-merges : (answersFrom pool5 through3 ≡ (0, 7) ∷ (0, 8) ∷ added)
     × (answersFrom pool5 (relist (merge 3 2 1) ∷ three) ≡ (9, 0) ∷ added)
     × (listAt (stateFrom pool5 through3) 4 ≡ netBits (net 8 6) ∷ [])
     × (listAt (stateFrom pool5 through4) 3 ≡ netBits (net 8 6) ∷ [])
-unfolding stateFrom answersFrom stateAfter changeRules withSet relistRules relistSet netRules refusalOf inRange width netBits bits addL nodesL before claimedBut claimed
+unfolding stateFrom answersFrom stateAfter changeRules withSet relistRules relistSet netRules refusalOf inRange width netBits bits addL heldL nodesL before claimedBut claimed
     combineRules mergeL simplifyL listOf trieOf simplifyT insertT levels
 worked-merges = (refl, refl, refl, refl, refl)
 

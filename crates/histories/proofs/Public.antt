@@ -10,13 +10,14 @@ use lib.ListN.{length}
 use borrow.Author.Tests.{eq-eqb}
 use Rattle.nets.specs.Bits.{Bits, before, bits}
 use Rattle.nets.specs.Tries.{levels, listOf, insertT, trieOf, simplifyT}
-use Rattle.nets.specs.Lists.{covers, nodesL, addL, removeL, simplifyL, mergeL, intersectL, differenceL, excludeL}
+use Rattle.nets.specs.Lists.{nodesL, covers, addL, removeL, simplifyL, mergeL, intersectL, differenceL, excludeL}
 use Rattle.nets.specs.Networks.{width, netBits, inRange, refusalOf}
 use Rattle.nets.specs.Refusals.{Rule, firstNo}
 use Rattle.nets.specs.declared.Net.{Net}
 use Rattle.nets.specs.declared.Refusal.the-variants.{OverLimit, NoRoom, NotPublic}
 use Rattle.inner_nets.specs.Inner.{overlaps, innerNets4, innerNets, inner, isPublic}
 use Rattle.inner_nets.proofs.Addresses.{isPublic-apart}
+use Rattle.pool_state.specs.Kept.{heldL}
 use Rattle.pool_state.specs.States.{SetState, State, claimed, claimedBut, roomOf, admits, isState}
 use Rattle.pool_state.specs.Decode.{sound, decode}
 use Rattle.pool_state.specs.Rules.{setup, emptyState}
@@ -62,7 +63,7 @@ module _ {w : List ℕ} {S : State} (d : decode w ≡ sound S) where
         let l = resultOf c T in
         let n : r .0 ≡ callNo T (relist c) = ap (λ x. x .0) (history-answer d h (relist c) o) in
         let e = n ∙ callNo-granting T c lt a in
-        let (x, y) = granting-14 (admits (T .family) (setAt T (writes c)) l) (ltb (setAt T (writes c) .limit) (nodesL l)) (ltb (roomOf T (writes c)) (nodesL l)) in
+        let (x, y) = granting-14 (admits (T .family) (setAt T (writes c)) l) (ltb (setAt T (writes c) .limit) (heldL l)) (ltb (roomOf T (writes c)) (heldL l)) in
         (λ q. e ∙ x q, λ q. y (sym e ∙ q))
 
     -- removing and simplifying never get it: what is left is clear as the set was
@@ -105,7 +106,7 @@ pub worked-order : (answersFrom pool3 (relist (merge 2 0 0) ∷ adds 2 12 6 ∷ 
     × (answersFrom pool3 (relist (merge 2 0 0) ∷ adds 0 10 16 ∷ []) ≡ (9, 0) ∷ (0, 17) ∷ [])
     × (answersFrom pool3 (relist (merge 2 0 0) ∷ replan 2 0 40 ∷ adds 0 10 16 ∷ []) ≡ (10, 0) ∷ (0, 0) ∷ (0, 17) ∷ [])
     × (answersFrom pool3 (makePublic 0 ∷ adds 0 10 16 ∷ []) ≡ (8, 0) ∷ (0, 17) ∷ [])
-unfolding stateFrom answersFrom stateAfter changeRules withSet fits planRules markRules relistRules relistSet netRules refusalOf inRange width netBits bits addL nodesL before claimedBut
+unfolding stateFrom answersFrom stateAfter changeRules withSet fits planRules markRules relistRules relistSet netRules refusalOf inRange width netBits bits addL heldL nodesL before claimedBut
     claimed combineRules mergeL simplifyL listOf trieOf simplifyT insertT levels isPublic overlaps inner innerNets innerNets4
 worked-order = (refl, refl, refl, refl, refl)
 
@@ -127,6 +128,6 @@ pub worked-results : (answersFrom pool4 (relist (merge 2 0 1) ∷ both) ≡ (14,
     × (answersFrom pool4 (relist (exclude 2 0 2) ∷ both) ≡ (14, 0) ∷ answered)
     × (answersFrom pool4 (adds 2 0 0 ∷ both) ≡ (14, 0) ∷ answered)
     × (answersFrom pool4 (adds 2 11 8 ∷ both) ≡ (0, 9) ∷ answered)
-unfolding stateFrom answersFrom stateAfter changeRules withSet markRules relistRules relistSet netRules refusalOf inRange width netBits bits addL removeL nodesL before claimedBut claimed
+unfolding stateFrom answersFrom stateAfter changeRules withSet markRules relistRules relistSet netRules refusalOf inRange width netBits bits addL removeL heldL nodesL before claimedBut claimed
     combineRules mergeL intersectL differenceL excludeL simplifyL listOf trieOf simplifyT insertT levels isPublic overlaps inner innerNets innerNets4
 worked-results = (refl, refl, refl, refl, refl, refl, refl)

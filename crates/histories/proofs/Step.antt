@@ -10,7 +10,7 @@ use lib.Dec.{eqb, leb, ltb}
 use lib.ListN.{length}
 use borrow.Author.Tests.{leb-false, le-ltb, eq-eqb, eqb-true}
 use Rattle.nets.specs.Bits.{Bits}
-use Rattle.nets.specs.Lists.{within, isList, nodesL, mergeL, intersectL, differenceL, excludeL}
+use Rattle.nets.specs.Lists.{within, isList, mergeL, intersectL, differenceL, excludeL}
 use Rattle.nets.specs.Networks.{width, netBits}
 use Rattle.nets.specs.Refusals.{Rule, firstNo}
 use Rattle.nets.specs.declared.Net.{Net}
@@ -21,6 +21,7 @@ use Rattle.nets.proofs.TrieOf.{isList-within, isList-add}
 use Rattle.nets.proofs.Simplifying.{isList-simplify}
 use Rattle.nets.proofs.Combining.{isList-merge, isList-intersect}
 use Rattle.nets.proofs.Laws.{isList-remove, isList-difference, isList-exclude}
+use Rattle.pool_state.specs.Kept.{heldL}
 use Rattle.pool_state.specs.States.{SetState, State, roomOf, admits, isState}
 use Rattle.pool_state.specs.Decode.{leastWords, sound, decode}
 use Rattle.pool_state.specs.Rules.{answerOn, unknown}
@@ -111,15 +112,15 @@ call-same (load k d) S T e h = (load-same (readFile d) k S T h, refl)
 
 -- A result within the share is judged by the mark and the limit of its set alone.
 abbrev pub ownRules : State → ℕ → List Bits → List Rule
-ownRules S k l = (not (admits (S .family) (setAt S k) l), NotPublic) ∷ (ltb (setAt S k .limit) (nodesL l), OverLimit) ∷ []
+ownRules S k l = (not (admits (S .family) (setAt S k) l), NotPublic) ∷ (ltb (setAt S k .limit) (heldL l), OverLimit) ∷ []
 
-pub relistNo-share : (S : State) (k : ℕ) (a : List Rule) (l : List Bits) → isState S ≡ true → (firstNo a ≡ 0 → nodesL l ≤ setAt S k .share)
+pub relistNo-share : (S : State) (k : ℕ) (a : List Rule) (l : List Bits) → isState S ≡ true → (firstNo a ≡ 0 → heldL l ≤ setAt S k .share)
     → relistNo S k a l ≡ firstNo (unknown S k ∷ (a ++ ownRules S k l))
 unfolding changeRules
 relistNo-share S k a l e f = go (leb (length (S .sets)) k) refl
   where
     args : k < length (S .sets) → (y : Bool) → eqb (firstNo a) 0 ≡ y → cond y (firstNo (grantRules S k l)) (firstNo a) ≡ cond y (firstNo (ownRules S k l)) (firstNo a)
-    args lt true q = rw (le-ltb (roomOf S k) (nodesL l) (share-roomOf S k e lt (nodesL l) (f (eqb-true (firstNo a) 0 q))))
+    args lt true q = rw (le-ltb (roomOf S k) (heldL l) (share-roomOf S k e lt (heldL l) (f (eqb-true (firstNo a) 0 q))))
     args lt false q = refl
 
     go : (x : Bool) → leb (length (S .sets)) k ≡ x → cond x 3 (firstNo (a ++ grantRules S k l)) ≡ cond x 3 (firstNo (a ++ ownRules S k l))
@@ -149,21 +150,21 @@ module _ (S : State) (c : Relist) where
   unfolding relistSet
   nextOf-is = refl
 
-  pub callNo-share : isState S ≡ true → nodesL (resultOf c S) ≤ setAt S (writes c) .share → callNo S (relist c) ≡ 10 → ⊥
+  pub callNo-share : isState S ≡ true → heldL (resultOf c S) ≤ setAt S (writes c) .share → callNo S (relist c) ≡ 10 → ⊥
   callNo-share e le q =
       let k = writes c in
       let l = resultOf c S in
       few-never (unknown S k ∷ argsOf c S) (ownRules S k l) (omega arith, rules-few c S)
-      (own-never (not (admits (S .family) (setAt S k) l)) (ltb (setAt S k .limit) (nodesL l)))
+      (own-never (not (admits (S .family) (setAt S k) l)) (ltb (setAt S k .limit) (heldL l)))
       (rw (callNo-is, relistNo-share S k (argsOf c S) l e (λ z. le)) at q)
 
   -- where its arguments are right: 14 where the set is public-only and the result overlaps an inner network, and else by the nodes of its result
   pub callNo-granting : writes c < length (S .sets) → argsNo c S ≡ 0 → callNo S (relist c) ≡ firstNo (grantRules S (writes c) (resultOf c S))
   callNo-granting lt a = callNo-is ∙ relistNo-known S (writes c) (argsOf c S) (resultOf c S) lt ∙ rw a
 
-  pub callNo-room : writes c < length (S .sets) → argsNo c S ≡ 0 → admits (S .family) (setAt S (writes c)) (resultOf c S) ≡ true → nodesL (resultOf c S) ≤ setAt S (writes c) .limit
-      → callNo S (relist c) ≡ cond (ltb (roomOf S (writes c)) (nodesL (resultOf c S))) 10 0
-  callNo-room lt a m le = callNo-granting lt a ∙ rw (m, le-ltb (setAt S (writes c) .limit) (nodesL (resultOf c S)) le)
+  pub callNo-room : writes c < length (S .sets) → argsNo c S ≡ 0 → admits (S .family) (setAt S (writes c)) (resultOf c S) ≡ true → heldL (resultOf c S) ≤ setAt S (writes c) .limit
+      → callNo S (relist c) ≡ cond (ltb (roomOf S (writes c)) (heldL (resultOf c S))) 10 0
+  callNo-room lt a m le = callNo-granting lt a ∙ rw (m, le-ltb (setAt S (writes c) .limit) (heldL (resultOf c S)) le)
 
   -- it leaves every share, limit and mark
   pub stateAfter-plan : (j : ℕ) → SamePlan (setAt (stateAfter S (relist c)) j) (setAt S j)

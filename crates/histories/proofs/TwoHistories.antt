@@ -8,8 +8,8 @@ use native.Mathlib.Omega.{arith}
 use lib.Dec.{eqb, leb}
 use lib.ListN.{length}
 use borrow.Author.Tests.{eqb-true, eqb-false}
-use Rattle.nets.specs.Lists.{nodesL}
 use Rattle.nets.specs.Refusals.{answered, firstNo}
+use Rattle.pool_state.specs.Kept.{heldL}
 use Rattle.pool_state.specs.States.{SetState, State, isState}
 use Rattle.pool_state.specs.Decode.{sound, decode}
 use Rattle.pool_state.specs.Rules.{answerOn, unknown, Setup, emptyState, Laid, onSet}
@@ -39,7 +39,7 @@ sameAt-other c {k} {S} ne h =
 alone-same : (c : Relist) {S T : State} → SameAt (writes c) S T → Alone S c → Alone T c
 alone-same c {S} {T} h a =
     let (x, y) = call-same c S T (a .names) h in
-    record { names = a .names; fits = λ q. omega (arith, a .fits (ap firstNo x ∙ q), ap nodesL y, ap (λ (s : SetState). s .share) (h .set)) }
+    record { names = a .names; fits = λ q. omega (arith, a .fits (ap firstNo x ∙ q), ap heldL y, ap (λ (s : SetState). s .share) (h .set)) }
 
 -- a call that gets one number, and of which one set becomes
 module _ (c : Call) {S T : State} (h : SameAt (target c) S T) (no : callNo S c ≡ callNo T c) (next : nextOf c S ≡ nextOf c T) where

@@ -13,7 +13,7 @@ use mathlib.Core.Path.{_≡_}
 use Prim.Native.Nat.{ℕ, _≤_}
 use lib.Dec.{eqb, leb}
 use lib.ListN.{length}
-use Rattle.nets.specs.Lists.{nodesL}
+use Rattle.pool_state.specs.Kept.{heldL}
 use Rattle.pool_state.specs.States.{State}
 use Rattle.pool_state.specs.Changes.{setAt}
 use Rattle.histories.specs.Calls.{Relist, Call, relist, replan, makePublic, writes, target, namesOne, argsNo, resultOf, answerOf, stateAfter, Outcome}
@@ -41,7 +41,7 @@ answersOn k (c ∷ cs) (r ∷ rs) = cond (eqb (target c) k) (r ∷ answersOn k c
 
 pub record Alone (S : State) (c : Relist) : Type 0 where
   pub names : namesOne c ≡ true
-  pub fits : argsNo c S ≡ 0 → nodesL (resultOf c S) ≤ setAt S (writes c) .share
+  pub fits : argsNo c S ≡ 0 → heldL (resultOf c S) ≤ setAt S (writes c) .share
 
 abbrev pub CallAlone : State → Call → Type 0
 CallAlone S (relist c) = Alone S c

@@ -9,7 +9,7 @@ use lib.Dec.{eqb}
 use lib.ListN.{length, getD, take}
 use borrow.Author.Tests.{eqb-true, eqb-false}
 use Rattle.nets.specs.Bits.{Bits}
-use Rattle.nets.specs.Lists.{addL, nodesL}
+use Rattle.nets.specs.Lists.{addL}
 use Rattle.nets.specs.Networks.{netBits}
 use Rattle.nets.specs.declared.Net.{Net}
 use Rattle.text_either.specs.Either.{readEither}

@@ -6,15 +6,18 @@ use Prim.Native.Nat.{ℕ}
 use native.Mathlib.Omega.{arith}
 use lib.Dec.{eqb, leb}
 use lib.ListN.{length}
-use borrow.Author.Tests.{eqb-true, eqb-false, ne-eqb}
-use Rattle.nets.specs.Lists.{addL, nodesL}
+use borrow.Author.Tests.{eqb-true, eqb-false, ne-eqb, lt-leb}
+use Rattle.nets.specs.Lists.{addL}
 use Rattle.nets.specs.Networks.{netBits}
 use Rattle.nets.specs.declared.Net.{Net}
 use Rattle.text_either.specs.Either.{readEither}
+use Rattle.pool_state.specs.Kept.{heldL}
 use Rattle.pool_state.specs.States.{State}
 use Rattle.pool_state.specs.Decode.{Decoded, damaged, sound, decode}
 use Rattle.pool_state.specs.Changes.{setAt, listAt, withSet, changeRules, changeRule, setWith, relistRules, relistSet, relistNo, netRules}
 use Rattle.pool_state.specs.Rules.{answerOn}
+use Rattle.pool_state.proofs.Claims.{isSize-is, isState-size}
+use Rattle.pool_state.proofs.Decoded.{decode-state}
 use Rattle.change.specs.Calls.{listWith, Added}
 use Rattle.change.proofs.Outcomes.{add-leaves}
 use Rattle.lines.specs.Lines.{addNo, addWords, lineNo, wordsWith, poolNo}
@@ -26,7 +29,7 @@ module _ (w : List ℕ) (S : State) (n : Net) (d : decode w ≡ sound S) (e : ad
   unfolding changeRule answerOn relistRules
   granted = sym (ap (λ D. changeRule D 0 (relistRules 0 (netRules n) (listWith 0 n)) (relistSet 0 (listWith 0 n)) .0) d) ∙ e
 
-  pub added : Added w 0 n (0, nodesL (listWith 0 n S)) (addWords w n)
+  pub added : Added w 0 n (0, heldL (listWith 0 n S)) (addWords w n)
   unfolding changeRule answerOn relistRules relistSet
   added = record { answer = rw (d, granted); words = refl }
 
@@ -46,9 +49,10 @@ line-added w l e = go (eqb (readEither l .0) 0) refl e
     go false q h = absurd (eqb-false (readEither l .0) 0 q h)
 
 -- A line of another family than the pool's gets 6, where it is a line at all.
-pub lineNo-other : (w l : List ℕ) (S : State) (n : Net) → decode w ≡ sound S → leb (length (S .sets)) 0 ≡ false → readEither l ≡ (0, n) → (n .family ≡ S .family → ⊥) → lineNo w l ≡ 6
+pub lineNo-other : (w l : List ℕ) (S : State) (n : Net) → decode w ≡ sound S → readEither l ≡ (0, n) → (n .family ≡ S .family → ⊥) → lineNo w l ≡ 6
 unfolding lineNo changeRule answerOn changeRules relistRules netRules
-lineNo-other w l S n d k e h =
+lineNo-other w l S n d e h =
+    let k : leb (length (S .sets)) 0 ≡ false = lt-leb (length (S .sets)) 0 (omega (arith, isSize-is (length (S .sets)) (S .nodes) (isState-size S (decode-state w S d)))) in
     let a : lineNo w l ≡ addNo w n = rw e in
     let b : addNo w n ≡ changeRule (sound S) 0 (relistRules 0 (netRules n) (listWith 0 n)) (relistSet 0 (listWith 0 n)) .0
     = ap (λ D. changeRule D 0 (relistRules 0 (netRules n) (listWith 0 n)) (relistSet 0 (listWith 0 n)) .0) d in

@@ -21,15 +21,15 @@ use Rattle.nets.proofs.Answers.{number-some, prefix-bits, prefix-refused}
 use Rattle.nodes.specs.Words.{put}
 use Rattle.pool_state.specs.States.{State}
 use Rattle.pool_state.specs.Decode.{Decoded, decode}
-use Rattle.pool_state.specs.Rules.{answerAs}
 use Rattle.pool_state.specs.Changes.{listAt}
 use Rattle.pool_state.specs.Steps.{Refuses}
 use Rattle.pool_state.specs.declared.Answer.{Answer}
 use Rattle.pool_state.specs.declared.Answer.the-variants as answer
-use Rattle.pool_state.proofs.Answered.{owes-refused, owes-granted, owes-seat, firstNo-short, firstNo-fits}
+use Rattle.pool_state.proofs.Answered.{owes-refused, owes-granted, owes-seat}
 use Rattle.pool_state.proofs.Claims.{isState-family}
 use Rattle.pool_state.proofs.Decoded.{decode-state}
-use Rattle.pool_state.proofs.Seen.{trieAt}
+use Rattle.pool_state.proofs.Filled.{Filled, fill-refused, fill-short, fill-granted}
+use Rattle.pool_state.proofs.OnTries.{trieAt}
 use Rattle.trie_paths.specs.Rows.{rowsOf}
 use Rattle.trie_paths.specs.Spans.{Holds}
 use Rattle.trie_paths.specs.Laying.{rowForm, tallied, clear, Starts, Layable, laid}
@@ -50,12 +50,20 @@ use Rattle.pool_state.proofs.Returns.{netRules-own, netRules-other}
 use Rattle.listing.proofs.Seats.{Sits}
 
 -- The returns of list.
-listed : {w v u : List ℕ} {k : ℕ} {r : Answer} → (answerAs r ≡ listRule (decode w) k (length v)) × (u ≡ rowsAfter v (decode w) k) → Listed w k v r u
-listed h = record { answer = h .0; rows = h .1 }
+abbrev Fills : List ℕ → ℕ → List ℕ → Answer → List ℕ → Type 0
+Fills w k v r u = Filled (decode w) k (length v) (λ S. 3 * length (listAt S k)) (λ S. length (listAt S k)) v (λ S. put v 0 (rowsOf (S .family) (listAt S k))) r u
+
+module _ {w v u : List ℕ} {k : ℕ} {r : Answer} where
+  pub list-fills : Listed w k v r u → Fills w k v r u
+  unfolding listRule rowsAfter listRules
+  list-fills h = record { answer = h .answer; left = h .rows }
+
+  listed : Fills w k v r u → Listed w k v r u
+  unfolding listRule rowsAfter listRules
+  listed h = record { answer = h .answer; rows = h .left }
 
 pub list-refused : {w v : List ℕ} {k : ℕ} (x : Refusal) → Refuses (decode w) k (number x) → Listed w k v (answer.Refused x) v
-unfolding listRule rowsAfter listRules
-list-refused {w} {v} {k} x e = listed (owes-seat _ 0 _ v _ (decode w) k e)
+list-refused {w} {v} {k} x e = listed (fill-refused (decode w) k (length v) _ _ v _ x e)
 
 module _ {w : List ℕ} {k : ℕ} {S : State} {s : Seat} (h : Sits w k S s) {n : ℕ} (c : n ≡ length (listOf (trieAt S k))) where
   counted : n ≡ length (listAt S k)
@@ -69,14 +77,12 @@ module _ {w : List ℕ} {k : ℕ} {S : State} {s : Seat} (h : Sits w k S s) {n :
   list-layable e q le = record { holds = h .holds; starts = rw e at q; fits = omega arith }
 
   pub list-short : {v : List ℕ} → length v < 3 * n → Listed w k v (answer.Refused ShortBuffer) v
-  unfolding listRule rowsAfter listRules
-  list-short {v} lt = listed (owes-refused _ 0 _ v _ (h .decoded) (firstNo-short S k (h .known) (rw counted at lt)) (number-some ShortBuffer))
+  list-short {v} lt = listed (fill-short (decode w) k (length v) _ _ v _ S (h .decoded) (h .known) (rw counted at lt))
 
   pub list-granted : {v u : List ℕ} → 3 * n ≤ length v → u ≡ laid (rowForm (s .family)) v (trieAt S k) → Listed w k v (answer.Granted n) u
-  unfolding listRule rowsAfter listRules
   list-granted {v} {u} le f =
       let g : u ≡ put v 0 (rowsOf (S .family) (listAt S k)) = rw (h .list, h .family) at (f ∙ rows-laid (s .family) (trieAt S k) v) in
-      rw (counted, g) (listed (owes-granted _ 0 _ v _ (h .decoded) (firstNo-fits S k (h .known) (rw counted at le))))
+      rw (counted, g) (listed (fill-granted (decode w) k (length v) _ _ v _ S (h .decoded) (h .known) (rw counted at le)))
 
 -- A place as an argument.
 pub place-start : {f : ℕ} {x : From} → x ≡ from.Start → Right f x place.Start

@@ -20,13 +20,13 @@ use Rattle.pool_state.specs.Decode.{damaged, sound, decode}
 use Rattle.pool_state.specs.Changes.{listAt}
 use Rattle.pool_state.specs.declared.Answer.{Answer}
 use Rattle.pool_state.specs.declared.Answer.the-variants as answer
-use Rattle.pool_state.proofs.Answered.{owes-damaged, owes-refused, owes-granted, owes-seat, firstNo-short, firstNo-fits}
-use Rattle.pool_state.proofs.Determined.{answerAs-one, owed-one}
+use Rattle.pool_state.proofs.Answered.{owes-damaged, owes-refused, owes-granted}
+use Rattle.pool_state.proofs.Filled.{filled-one, filled-damaged, filled-noset, filled-short, filled-whole}
 use Rattle.trie_paths.specs.Rows.{rowsOf}
-use Rattle.listing.specs.Calls.{listRules, listRule, rowsAfter, Listed, fromRules, placeFrom, nothing, foundAs, followerAs, nextRules, nextRule}
+use Rattle.listing.specs.Calls.{Listed, fromRules, placeFrom, nothing, foundAs, followerAs, nextRules, nextRule}
 use Rattle.trie_paths.proofs.RowForm.{length-rowsOf}
 use Rattle.listing.proofs.Seats.{sits-at}
-use Rattle.listing.proofs.Calls.{numbered, next-refused}
+use Rattle.listing.proofs.Calls.{list-fills, numbered, next-refused}
 use Rattle.listing.specs.declared.From.{From}
 use Rattle.listing.specs.declared.Follower.{Follower}
 use Rattle.listing.specs.declared.Follower.the-variants.{Network, End, Refused}
@@ -44,7 +44,7 @@ followerAs-one (Refused x) End e = absurd (number-some x (ap (λ y. y .0) e))
 followerAs-one (Refused x) (Refused y) e = ap Refused (number-one x y (ap (λ z. z .0) e))
 
 pub list-determined : {w v u x : List ℕ} {k : ℕ} {r s : Answer} → Listed w k v r u → Listed w k v s x → (r ≡ s) × (u ≡ x)
-list-determined {r = r} {s = s} g h = (answerAs-one r s (g .answer ∙ sym (h .answer)), g .rows ∙ sym (h .rows))
+list-determined g h = filled-one (list-fills g) (list-fills h)
 
 pub next-determined : (w : List ℕ) (k : ℕ) (x : From) (r s : Follower) → followerAs r ≡ nextRule (decode w) k x → followerAs s ≡ nextRule (decode w) k x → r ≡ s
 next-determined w k x r s e f = followerAs-one r s (e ∙ sym f)
@@ -52,22 +52,18 @@ next-determined w k x r s e f = followerAs-one r s (e ∙ sym f)
 -- The outcomes of list: damaged words, a set that is not there and a short buffer are refused, and the rows stay; else they begin with the rows of the list.
 module _ {w v u : List ℕ} {k : ℕ} {r : Answer} (h : Listed w k v r u) where
   pub list-damaged : decode w ≡ damaged → (r ≡ answer.Refused Damaged) × (u ≡ v)
-  unfolding listRule rowsAfter
-  list-damaged d = owed-one r (answer.Refused Damaged) (h .answer, h .rows) (owes-damaged _ 0 _ v _ d)
+  list-damaged = filled-damaged (list-fills h)
 
   module _ (S : State) (d : decode w ≡ sound S) where
     pub list-noset : length (S .sets) ≤ k → (r ≡ answer.Refused NoSet) × (u ≡ v)
-    unfolding listRule rowsAfter listRules
-    list-noset le = owed-one r (answer.Refused NoSet) (h .answer, h .rows) (owes-seat _ 0 _ v _ (decode w) k (rw d (le, refl)))
+    list-noset = filled-noset (list-fills h) S d
 
     module _ (lt : k < length (S .sets)) where
       pub list-small : length v < 3 * length (listAt S k) → (r ≡ answer.Refused ShortBuffer) × (u ≡ v)
-      unfolding listRule rowsAfter listRules
-      list-small less = owed-one r (answer.Refused ShortBuffer) (h .answer, h .rows) (owes-refused _ 0 _ v _ d (firstNo-short S k lt less) (number-some ShortBuffer))
+      list-small = filled-short (list-fills h) S d lt
 
       pub list-rows : 3 * length (listAt S k) ≤ length v → (r ≡ answer.Granted (length (listAt S k))) × (u ≡ put v 0 (rowsOf (S .family) (listAt S k)))
-      unfolding listRule rowsAfter listRules
-      list-rows le = owed-one r (answer.Granted (length (listAt S k))) (h .answer, h .rows) (owes-granted _ 0 _ v _ d (firstNo-fits S k lt le))
+      list-rows = filled-whole (list-fills h) S d lt
 
       -- entry by entry: no row is lost, the rows of the list come first, and what is past them stays
       module _ (le : 3 * length (listAt S k) ≤ length v) where

@@ -12,9 +12,10 @@ use Rattle.pool_state.specs.Changes.{listAt}
 use Rattle.pool_state.specs.declared.Seated.{Seated}
 use Rattle.pool_state.specs.declared.Seated.the-variants.{At}
 use Rattle.pool_state.specs.declared.Survey.{Survey}
-use Rattle.pool_state.proofs.Decoded.{decode-header, decode-set}
+use Rattle.pool_state.proofs.Decoded.{decode-header}
 use Rattle.pool_state.proofs.Seats.{seat-is, seated-at}
-use Rattle.pool_state.proofs.Seen.{Seen, behind, survey-seen, seen, seen-header, seen-segment, seen-list}
+use Rattle.pool_state.proofs.Seen.{Seen, behind, survey-seen, seen, seen-header}
+use Rattle.pool_state.proofs.OnTries.{decode-at, seen-segment, seen-list}
 use Rattle.trie_paths.specs.Spans.{Holds}
 
 -- the words w hold the state S, and the trie of its set k stands in the seat s
@@ -28,7 +29,6 @@ pub record Sits (w : List ℕ) (k : ℕ) (S : State) (s : Seat) : Type 0 where
 
 seen-sits : {w : List ℕ} {S : State} {k : ℕ} {v : Survey} {s : Seat} → Seen w S k v → s ≡ seatOf w v → Sits w k S s
 seen-sits {w} {S} {k} {v} h e =
-    let d = decode-set w S (h .decoded) k (h .known) in
     rw e
     (record {
       decoded = h .decoded;
@@ -36,7 +36,7 @@ seen-sits {w} {S} {k} {v} h e =
       seat = seat-is h;
       family = seen-header h .family;
       list = seen-list h;
-      holds = record { stands = record { u = v .used + 1; rest = behind S k; is = seen-segment h }; deep = rw (seen-header h .family) (d .trie .deep) };
+      holds = record { stands = record { u = v .used + 1; rest = behind S k; is = seen-segment h }; deep = rw (seen-header h .family) (decode-at w S (h .decoded) k (h .known) .deep) };
     })
 
 pub seated-sits : (w : List ℕ) (k : ℕ) {r : Seated} → seatedAs r ≡ seatedRule (decode w) k → (v : Survey) (s : Seat) → r ≡ At v s → (S : State) × Sits w k S s

@@ -10,6 +10,7 @@ use Rattle.nets.specs.Networks.{width, netWords, netBits, netFrom, inRange, ref
 use Rattle.nets.specs.declared.Net.{Net}
 use Rattle.nodes.specs.Words.{put}
 use Rattle.nodes.specs.Parse.{parse}
+use Rattle.pool_state.specs.Kept.{readL}
 use Rattle.pool_state.specs.Decode.{mark, damaged, isHeader, readSet, readSets, decode}
 use Rattle.lookup.specs.Walks.{walk, walkFrom}
 use Rattle.lookup.specs.Rules.{unsought, onRoot, query, lookup, supernetRule, emptyRule}
@@ -40,5 +41,5 @@ pub beside : (supernetRule (words 1 (15 ∷ 0 ∷ 0 ∷ [])) 0 (ten 8) ≡ (2, u
     × (decode (words 1 (5 ∷ 0 ∷ 7 ∷ [])) ≡ damaged)
     × (supernetRule (words 1 (5 ∷ 0 ∷ 7 ∷ [])) 0 (ten 8) ≡ (0, (true, (netWords 4 0 0 1, (2, false)))))
     × (emptyRule (words 1 (5 ∷ 0 ∷ 7 ∷ [])) 0 ≡ (0, false))
-unfolding put isHeader onRoot query lookup walkFrom walk supernetRule emptyRule width bits netBits netFrom inRange refusalOf cleared hasBitPast decode readSets readSet parse size
+unfolding put isHeader onRoot query lookup walkFrom walk supernetRule emptyRule width bits netBits netFrom inRange refusalOf cleared hasBitPast decode readSets readSet readL parse size
 beside = (refl, refl, refl, refl, refl)

@@ -25,11 +25,12 @@ use Rattle.nets.proofs.Lookups.{supernetL-found, searchT-listOf}
 use Rattle.nets.proofs.Steps.{stepsT-listOf, stepsL-found}
 use Rattle.pool_state.specs.States.{State, held}
 use Rattle.pool_state.specs.Decode.{recordAt, base, decode, sound}
-use Rattle.pool_state.specs.Rules.{startOf}
+use Rattle.pool_state.specs.Rules.{firstNode}
 use Rattle.pool_state.specs.Changes.{setAt, listAt, netRules}
 use Rattle.pool_state.proofs.Claims.{isList-listAt}
 use Rattle.pool_state.proofs.Encoded.{HeaderOf}
-use Rattle.pool_state.proofs.Decoded.{decode-header, decode-state, decode-root, decode-at, decode-parts}
+use Rattle.pool_state.proofs.Decoded.{decode-header, decode-state, decode-root, decode-parts}
+use Rattle.pool_state.proofs.OnTries.{decode-at}
 use Rattle.lookup.specs.Walks.{walkFrom}
 use Rattle.lookup.specs.Rules.{unsought, unheld, onRoot, query, lookup, memberOf, isMember, supernetRule, containsRule, emptyAt, emptyRule, setNo, lookupNo, foundAs}
 use Rattle.lookup.specs.declared.walking.Shown.{Shown}
@@ -69,7 +70,7 @@ module _ (w : List ℕ) (S : State) (e : decode w ≡ sound S) (k : ℕ) where
   steps-found q p h = ap (λ l. stepsL l q) (sym list-of) ∙ stepsL-found (trieOf (listAt S k)) q p (ap (λ l. supernetL l q) list-of ∙ h)
 
   module _ (lt : k < length (S .sets)) where
-    one : 1 ≤ startOf k 1 (S .sets)
+    one : 1 ≤ firstNode k 1 (S .sets)
     one = omega (arith, decode-parts w S e k lt .1)
 
     walk-sound : (q : Bits) → walkFrom w (base (getD w 2 0)) (getD w 3 0) q (getD w (recordAt k) 0) ≡ shown 0 (supernetL (listAt S k) q) (stepsL (listAt S k) q)

@@ -10,25 +10,23 @@ use Rattle.nets.specs.Refusals.{number}
 use Rattle.nets.specs.declared.Net.{Net}
 use Rattle.nets.specs.declared.Refusal.{Refusal}
 use Rattle.nets.specs.declared.Refusal.the-variants.{ShortBuffer}
-use Rattle.nets.proofs.Answers.{number-some}
 use Rattle.pool_state.specs.States.{State}
 use Rattle.pool_state.specs.Decode.{decode}
 use Rattle.pool_state.specs.Changes.{listAt}
-use Rattle.pool_state.specs.Rules.{answerAs}
 use Rattle.pool_state.specs.Steps.{Refuses}
 use Rattle.pool_state.specs.declared.Answer.{Answer}
 use Rattle.pool_state.specs.declared.Answer.the-variants as answer
-use Rattle.pool_state.proofs.Answered.{owes-refused, owes-granted, owes-seat, firstNo-short, firstNo-fits}
+use Rattle.pool_state.proofs.Filled.{Filled, fill-refused, fill-short, fill-granted}
 use Rattle.pool_state.proofs.Claims.{isState-family}
 use Rattle.pool_state.proofs.Decoded.{decode-state}
-use Rattle.pool_state.proofs.Seen.{trieAt}
+use Rattle.pool_state.proofs.OnTries.{trieAt}
 use Rattle.trie_paths.specs.Spans.{Spans}
 use Rattle.listing.proofs.Seats.{Sits}
 use Rattle.nodes.specs.declared.seats.Seat.{Seat}
 use Rattle.trie_next.specs.Spots.{beforeAll, goneOn, StandsIn}
 use Rattle.trie_next.specs.declared.spots.Spot.{Spot}
 use Rattle.trie_next.proofs.Onward.{stands-nowhere, seat-gone}
-use Rattle.netrows.specs.Rows.{rowRules, rowRule, rowAfter, Listed}
+use Rattle.netrows.specs.Rows.{filled, rowRules, rowRule, rowAfter, Listed}
 use Rattle.netrows.specs.Turns.{idle, Begins}
 
 -- A turn that stores nothing begins a listing that leaves the row.
@@ -36,25 +34,32 @@ begins-idle : {w : List ℕ} {k n : ℕ} {a : Answer} → ((v : List Net) → le
 unfolding goneOn nextL listOf levels
 begins-idle {w} h = record { trie = none; stands = stands-nowhere w; family = refl; spot = refl; at = refl; fits = omega arith; told = h }
 
-listed : {w : List ℕ} {v u : List Net} {k : ℕ} {r : Answer} → (answerAs r ≡ rowRule (decode w) k (length v)) × (u ≡ rowAfter v (decode w) k) → Listed w k v r u
-listed h = record { answer = h .0; row = h .1 }
+-- A listing fills the row.
+abbrev Fills : List ℕ → ℕ → List Net → Answer → List Net → Type 0
+Fills w k v r u = Filled (decode w) k (length v) (λ S. length (listAt S k)) (λ S. length (listAt S k)) v (λ S. filled (S .family) (listAt S k) v) r u
+
+module _ {w : List ℕ} {v u : List Net} {k : ℕ} {r : Answer} where
+  pub list-fills : Listed w k v r u → Fills w k v r u
+  unfolding rowRule rowAfter rowRules
+  list-fills h = record { answer = h .answer; left = h .row }
+
+  listed : Fills w k v r u → Listed w k v r u
+  unfolding rowRule rowAfter rowRules
+  listed h = record { answer = h .answer; row = h .left }
 
 pub begins-refused : {w : List ℕ} {k n : ℕ} (x : Refusal) → Refuses (decode w) k (number x) → Begins w k n (idle (answer.Refused x))
-unfolding rowRule rowAfter rowRules
-begins-refused {w} {k} x e = begins-idle (λ v q. listed (owes-seat _ 0 _ v _ (decode w) k e))
+begins-refused {w} {k} x e = begins-idle (λ v q. listed (fill-refused (decode w) k (length v) _ _ v _ x e))
 
 module _ {w : List ℕ} {k : ℕ} {S : State} {s : Seat} (h : Sits w k S s) {m : ℕ} (c : (t : Trie) → Spans w (s .base) (s .first) (s .end) t → m ≡ length (listOf t)) where
   counted : m ≡ length (listAt S k)
   counted = c (trieAt S k) (h .holds .stands) ∙ ap length (h .list)
 
   pub begins-short : {n : ℕ} → n < m → Begins w k n (idle (answer.Refused ShortBuffer))
-  unfolding rowRule rowAfter rowRules
   begins-short lt = begins-idle (λ v q.
       let less : length v < length (listAt S k) = omega (arith, counted) in
-      listed (owes-refused _ 0 _ v _ (h .decoded) (firstNo-short S k (h .known) less) (number-some ShortBuffer)))
+      listed (fill-short (decode w) k (length v) _ _ v _ S (h .decoded) (h .known) less))
 
   pub begins-granted : {n : ℕ} (r : Spot) → m ≤ n → ((t : Trie) → StandsIn w s t → r ≡ goneOn (listOf t) (beforeAll s)) → Begins w k n (record { spot = r; at = 0; answer = answer.Granted m })
-  unfolding rowRule rowAfter rowRules
   begins-granted r le f =
       let e = f (trieAt S k) (h .holds) in
       let i : r .seat ≡ s = ap (λ (x : Spot). x .seat) e ∙ seat-gone (listOf (trieAt S k)) (beforeAll s) in
@@ -67,5 +72,5 @@ module _ {w : List ℕ} {k : ℕ} {S : State} {s : Seat} (h : Sits w k S s) {m :
         fits = omega (arith, c (trieAt S k) (h .holds .stands));
         told = λ v q.
             let room : length (listAt S k) ≤ length v = omega (arith, counted) in
-            rw (counted, i, h .family, h .list) (listed (owes-granted _ 0 _ v _ (h .decoded) (firstNo-fits S k (h .known) room)));
+            rw (counted, i, h .family, h .list) (listed (fill-granted (decode w) k (length v) _ _ v _ S (h .decoded) (h .known) room));
       }

@@ -1,6 +1,6 @@
 -- The outcomes of list into a row of networks: there is one, and on a sound pool the row begins with the set's list, each network with its family, words and length. Then those of page_of, which are list's on a
 -- page of zeros. Assumes nothing.
-use mathlib.Core.Path.{_≡_, refl, sym, ap, _∙_}
+use mathlib.Core.Path.{_≡_, refl, ap, _∙_}
 use mathlib.Core.List.{List, [], _∷_}
 use Prim.Native.Nat.{ℕ, zero, suc, _≤_, _<_}
 use native.Mathlib.Omega.{arith}
@@ -9,19 +9,18 @@ use Rattle.nets.specs.Bits.{Bits}
 use Rattle.nets.specs.Networks.{netFrom, noNet}
 use Rattle.nets.specs.declared.Net.{Net}
 use Rattle.nets.specs.declared.Refusal.the-variants.{Damaged, NoSet, ShortBuffer}
-use Rattle.nets.proofs.Answers.{number-some}
 use Rattle.pool_state.specs.States.{State}
 use Rattle.pool_state.specs.Decode.{damaged, sound, decode}
 use Rattle.pool_state.specs.Changes.{listAt}
 use Rattle.pool_state.specs.declared.Answer.{Answer}
 use Rattle.pool_state.specs.declared.Answer.the-variants.{Granted, Refused}
-use Rattle.pool_state.proofs.Answered.{owes-damaged, owes-refused, owes-granted, owes-seat, firstNo-short, firstNo-fits}
-use Rattle.pool_state.proofs.Determined.{answerAs-one, owed-one}
-use Rattle.netrows.specs.Rows.{filled, rowRules, rowRule, rowAfter, blank, Listed}
+use Rattle.pool_state.proofs.Filled.{filled-one, filled-damaged, filled-noset, filled-short, filled-whole}
+use Rattle.netrows.specs.Rows.{filled, blank, Listed}
 use Rattle.netrows.specs.declared.Page.{Page}
+use Rattle.netrows.proofs.Begun.{list-fills}
 
 pub list-determined : {w : List ℕ} {v u x : List Net} {k : ℕ} {r s : Answer} → Listed w k v r u → Listed w k v s x → (r ≡ s) × (u ≡ x)
-list-determined {r = r} {s = s} g h = (answerAs-one r s (g .answer ∙ sym (h .answer)), g .row ∙ sym (h .row))
+list-determined g h = filled-one (list-fills g) (list-fills h)
 
 -- The row with a list in its first entries, entry by entry.
 filled-length : (f : ℕ) (l : List Bits) (v : List Net) → length l ≤ length v → length (filled f l v) ≡ length v
@@ -43,23 +42,19 @@ filled-past f (p ∷ l) (x ∷ v) (suc i) h g = filled-past f l v i (omega arith
 
 module _ {w : List ℕ} {v u : List Net} {k : ℕ} {r : Answer} (h : Listed w k v r u) where
   pub list-damaged : decode w ≡ damaged → (r ≡ Refused Damaged) × (u ≡ v)
-  unfolding rowRule rowAfter
-  list-damaged d = owed-one r (Refused Damaged) (h .answer, h .row) (owes-damaged _ 0 _ v _ d)
+  list-damaged = filled-damaged (list-fills h)
 
   module _ (S : State) (d : decode w ≡ sound S) where
     pub list-noset : length (S .sets) ≤ k → (r ≡ Refused NoSet) × (u ≡ v)
-    unfolding rowRule rowAfter rowRules
-    list-noset le = owed-one r (Refused NoSet) (h .answer, h .row) (owes-seat _ 0 _ v _ (decode w) k (rw d (le, refl)))
+    list-noset = filled-noset (list-fills h) S d
 
     module _ (lt : k < length (S .sets)) where
       pub list-short : length v < length (listAt S k) → (r ≡ Refused ShortBuffer) × (u ≡ v)
-      unfolding rowRule rowAfter rowRules
-      list-short less = owed-one r (Refused ShortBuffer) (h .answer, h .row) (owes-refused _ 0 _ v _ d (firstNo-short S k lt less) (number-some ShortBuffer))
+      list-short = filled-short (list-fills h) S d lt
 
       module _ (le : length (listAt S k) ≤ length v) where
         pub list-row : (r ≡ Granted (length (listAt S k))) × (u ≡ filled (S .family) (listAt S k) v)
-        unfolding rowRule rowAfter rowRules
-        list-row = owed-one r (Granted (length (listAt S k))) (h .answer, h .row) (owes-granted _ 0 _ v _ d (firstNo-fits S k lt le))
+        list-row = filled-whole (list-fills h) S d lt le
 
         pub list-length : length u ≡ length v
         list-length = ap length (list-row .1) ∙ filled-length (S .family) (listAt S k) v le

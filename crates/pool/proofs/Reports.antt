@@ -9,16 +9,17 @@ use Rattle.nodes.specs.Words.{zeros, place}
 use Rattle.pool_state.specs.States.{State}
 use Rattle.pool_state.specs.Decode.{decode}
 use Rattle.pool_state.specs.Rules.{answerOn, seatOf, shareIn, limitIn, freeRule, heldRule, planRule, surveyOf}
-use Rattle.pool_state.specs.Changes.{setAt}
+use Rattle.pool_state.specs.Changes.{setAt, listAt}
 use Rattle.pool_state.specs.Steps.{Refuses}
 use Rattle.pool_state.specs.declared.Survey.{Survey}
 use Rattle.nodes.specs.declared.seats.Seat.{Seat}
 use Rattle.nodes.proofs.Has.{has-seg}
 use Rattle.nodes.proofs.Zeros.{zeros-enc}
+use Rattle.pool_state.proofs.Kept.{encL-trie}
 use Rattle.pool_state.proofs.Answered.{owes-seat}
-use Rattle.pool_state.proofs.Holds.{set-listOf}
-use Rattle.pool_state.proofs.Decoded.{decode-set, decode-share, decode-limit}
-use Rattle.pool_state.proofs.Seen.{Seen, placeOf, trieAt, survey-damaged, seen-header, own-length, own-has}
+use Rattle.pool_state.proofs.OnTries.{trieAt, seen-list}
+use Rattle.pool_state.proofs.Decoded.{decode-share, decode-limit}
+use Rattle.pool_state.proofs.Seen.{Seen, placeOf, survey-damaged, seen-header, own-length, own-has}
 
 -- A damaged pool, or no such set.
 pub free-damaged : (w : List ℕ) (k : ℕ) (v : Survey) → v ≡ surveyOf (decode w) k → v .sound ≡ false → (2, 0) ≡ freeRule (decode w)
@@ -44,7 +45,7 @@ module _ {w : List ℕ} {S : State} {k : ℕ} {v : Survey} (h : Seen w S k v) wh
   networks : zeros (take (v .held) (drop (placeOf w v) w)) ≡ length (setAt S k .list)
   networks =
       rw (← own-length h)
-      (ap zeros (has-seg (own-has h)) ∙ zeros-enc (trieAt S k) ∙ ap length (set-listOf (S .family) (setAt S k) (decode-set w S (h .decoded) k (h .known) .rules)))
+      (ap zeros (has-seg (own-has h) ∙ encL-trie (listAt S k)) ∙ zeros-enc (trieAt S k) ∙ ap length (seen-list h))
 
   pub held-numbers : {s : Seat} → s ≡ seatOf w v → (0, (v .held, zeros (take (v .held) (drop (place (s .base) (s .first)) w)))) ≡ heldRule (decode w) k
   unfolding heldRule answerOn

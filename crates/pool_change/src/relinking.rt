@@ -6,11 +6,11 @@ ghost use mathlib.Core.Path.{_≡_};
 ghost use Prim.Native.Nat.{_+_};
 ghost use Rattle.nodes.specs.Words.{put, place};
 ghost use Rattle.pool_state.specs.Rules.{answerAs};
-ghost use Rattle.pool_state.specs.Steps.{behindAt, Gap, ownRoot, movedRoot, relinked, Movable, Relink};
+ghost use Rattle.pool_state.specs.Steps.{behindAt, Shiftable, ownRoot, movedRoot, relinked, Movable, Relink};
 
 // Moves the words of the sets behind a set to where they stand once the set has n nodes.
 pub fn shift_behind(w: &mut [u32], b: usize, v: Survey, n: u32)
-    requires { ⌜ Gap (now w) b v n ⌝ }
+    requires { ⌜ Shiftable (now w) b v n ⌝ }
     ensures { λ _. ⌜ now (w .exit) ≡ put (now (w .entry)) (place b (v .at + n)) (behindAt (now (w .entry)) b v) ⌝ }
 {
     let at = v.at as usize;

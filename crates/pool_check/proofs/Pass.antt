@@ -9,28 +9,29 @@ use lib.Dec.{eqb, leb}
 use lib.ListN.{length, getD}
 use borrow.Author.Tests.{le-leb, lt-leb, eq-eqb, ne-eqb, not-true, not-false}
 use Rattle.nets.specs.Networks.{width}
-use Rattle.nets.specs.Tries.{Trie, size}
+use Rattle.nets.specs.Bits.{Bits}
 use Rattle.nets.proofs.Strings.{cond-both}
-use Rattle.nodes.specs.Parse.{Room, Read, bad, ok, parse, after}
+use Rattle.nodes.specs.Parse.{Room, parse, after}
+use Rattle.pool_state.specs.Kept.{heldL, ReadList, badList, okList, endL}
 use Rattle.pool_state.specs.Decode.{recordAt, base, isHeader, readSet, isRight, decode}
 use Rattle.pool_state.specs.Rules.{shareIn, noSurvey, surveyOf}
-use Rattle.nodes.proofs.Unique.{got}
+use Rattle.pool_state.proofs.Kept.{heldL-nil, endL-parse}
 use Rattle.pool_state.proofs.Header.{isHeader-header, header-room}
 use Rattle.pool_check.proofs.Scan.{found, turn, scan, scan-survey}
 
 -- One set.
 module _ (w : List ℕ) (b n f s i : ℕ) where
-  pub readSet-none : getD w (recordAt s) 0 ≡ 0 → i ≡ after i (readSet w b n f s i)
-  unfolding readSet after size
-  readSet-none z = rw (eq-eqb (getD w (recordAt s) 0) 0 z, add-zero)
+  pub readSet-none : getD w (recordAt s) 0 ≡ 0 → i ≡ endL i (readSet w b n f s i)
+  unfolding readSet endL
+  readSet-none z = rw (eq-eqb (getD w (recordAt s) 0) 0 z, heldL-nil, add-zero)
 
-  pub readSet-off : (getD w (recordAt s) 0 ≡ 0 → ⊥) → (getD w (recordAt s) 0 ≡ i → ⊥) → 0 ≡ after i (readSet w b n f s i)
-  unfolding readSet after
+  pub readSet-off : (getD w (recordAt s) 0 ≡ 0 → ⊥) → (getD w (recordAt s) 0 ≡ i → ⊥) → 0 ≡ endL i (readSet w b n f s i)
+  unfolding readSet endL
   readSet-off nz off = rw (ne-eqb (getD w (recordAt s) 0) 0 nz, ne-eqb (getD w (recordAt s) 0) i off)
 
-  pub readSet-at : (getD w (recordAt s) 0 ≡ 0 → ⊥) → getD w (recordAt s) 0 ≡ i → after i (parse w b n f i) ≡ after i (readSet w b n f s i)
+  pub readSet-at : (getD w (recordAt s) 0 ≡ 0 → ⊥) → getD w (recordAt s) 0 ≡ i → after i (parse w b n f i) ≡ endL i (readSet w b n f s i)
   unfolding readSet
-  readSet-at nz on = rw (ne-eqb (getD w (recordAt s) 0) 0 nz, eq-eqb (getD w (recordAt s) 0) i on)
+  readSet-at nz on = rw (ne-eqb (getD w (recordAt s) 0) 0 nz, eq-eqb (getD w (recordAt s) 0) i on) (sym (endL-parse w b n f i))
 
 -- The loop: set s is next, and what is left to scan completes the answer.
 pub record Pass (w : List ℕ) (k sets n b f s i c a h : ℕ) : Type 0 where
@@ -64,10 +65,15 @@ pass-start w k f h e =
       is = rw z (scan-survey w k h);
     }
 
-lost : (i : ℕ) (x : Read) → 1 ≤ i → 0 ≡ after i x → x ≡ bad
-unfolding after
-lost i bad pos e = refl
-lost i (ok t) pos e = absurd (omega arith)
+lost : (i : ℕ) (x : ReadList) → 1 ≤ i → 0 ≡ endL i x → x ≡ badList
+unfolding endL
+lost i badList pos e = refl
+lost i (okList l) pos e = absurd (omega arith)
+
+got : (i r : ℕ) (x : ReadList) → r ≡ endL i x → (r ≡ 0 → ⊥) → (l : List Bits) × (x ≡ okList l) × (r ≡ i + heldL l)
+unfolding endL
+got i r badList h ne = absurd (ne h)
+got i r (okList l) h ne = (l, refl, h)
 
 -- two numbers that are picked by one test
 picked : (t : Bool) (x y a h : ℕ) → _≡_ {A = ℕ × ℕ} (cond t (x, y) (a, h)) (cond t x a, cond t y h)
@@ -79,7 +85,7 @@ module _ {w : List ℕ} {k sets n b f s i c a h : ℕ} (o : Pass w k sets n b f 
   unfolding scan
   pass-done le = let e : sets - s ≡ 0 = omega arith in rw e at (o .is)
 
-  module _ (more : s < sets) {e : ℕ} (end : e ≡ after i (readSet w b n f s i)) where
+  module _ (more : s < sets) {e : ℕ} (end : e ≡ endL i (readSet w b n f s i)) where
     left : sets - s ≡ suc (sets - (s + 1))
     left = omega arith
 
@@ -88,10 +94,10 @@ module _ {w : List ℕ} {k sets n b f s i c a h : ℕ} (o : Pass w k sets n b f 
     pass-bad z = rw (left, scan, ← o .fuel, lost i (readSet w b n f s i) (o .pos) (sym z ∙ end)) at (o .is)
 
     module _ (some : e ≡ 0 → ⊥) where
-      there : (t : Trie) × (readSet w b n f s i ≡ ok t) × (e ≡ i + size t)
+      there : (l : List Bits) × (readSet w b n f s i ≡ okList l) × (e ≡ i + heldL l)
       there = got i e (readSet w b n f s i) end some
 
-      pub pass-found : (f : ℕ) × (t : Trie) × (readSet w b n f s i ≡ ok t) × (e ≡ i + size t)
+      pub pass-found : (f : ℕ) × (l : List Bits) × (readSet w b n f s i ≡ okList l) × (e ≡ i + heldL l)
       pass-found = (f, there .0, there .1, there .2)
 
       pub pass-up : i ≤ e
@@ -101,7 +107,7 @@ module _ {w : List ℕ} {k sets n b f s i c a h : ℕ} (o : Pass w k sets n b f 
       unfolding scan
       opened = rw (left, scan, ← o .fuel, there .1) at (o .is)
 
-      module _ {r : Bool} (right : (f : ℕ) (t : Trie) → readSet w b n f s i ≡ ok t → e ≡ i + size t → r ≡ isRight w (getD w 1 0) s t) where
+      module _ {r : Bool} (right : (f : ℕ) (l : List Bits) → readSet w b n f s i ≡ okList l → e ≡ i + heldL l → r ≡ isRight w (getD w 1 0) s l) where
         is-right : r ≡ isRight w (getD w 1 0) s (there .0)
         is-right = right f (there .0) (there .1) (there .2)
 
@@ -112,7 +118,7 @@ module _ {w : List ℕ} {k sets n b f s i c a h : ℕ} (o : Pass w k sets n b f 
           allowed : cond (leb (c + q) n) (scan w b n (getD w 1 0) k (sets - (s + 1)) (s + 1) e (c + q) (cond (eqb s k) i a, cond (eqb s k) (e - i) h)) noSurvey ≡ surveyOf (decode w) k
           allowed =
               let z : i + (e - i) ≡ e = omega (arith, pass-up) in
-              let y : size (there .0) ≡ e - i = omega (arith, there .2) in
+              let y : heldL (there .0) ≡ e - i = omega (arith, there .2) in
               rw (sym is-right ∙ not-false r fit, y, ← claim, picked (eqb s k) i (e - i) a h, z) at opened
 
           pub pass-over : n - c < q → noSurvey ≡ surveyOf (decode w) k

@@ -10,12 +10,12 @@ use lib.Dec.{eqb, leb}
 use lib.ListN.{getD}
 use borrow.Author.Tests.{le-leb, lt-leb, eq-eqb, ne-eqb, leb-true, leb-false}
 use Rattle.nets.specs.Networks.{width}
-use Rattle.nets.specs.Tries.{Trie, size}
-use Rattle.nets.proofs.Nodes.{nodesL-listOf, nodesL-empty}
-use Rattle.nodes.specs.Parse.{Read, bad, ok}
+use Rattle.nets.specs.Bits.{Bits}
+use Rattle.pool_state.specs.Kept.{heldL, ReadList, badList, okList}
+use Rattle.pool_state.proofs.Kept.{heldL-nil}
 use Rattle.pool_state.specs.States.{SetState, held, claim, used, claimed}
 use Rattle.pool_state.specs.Decode.{base, damaged, sound, ReadSets, badSets, okSets, setOf, isRight, setBefore, isHeader, readSet, readSets, judged, decode}
-use Rattle.pool_state.specs.Rules.{shareIn, noSet, noSurvey, startOf, surveyOf}
+use Rattle.pool_state.specs.Rules.{shareIn, noSet, noSurvey, firstNode, surveyOf}
 use Rattle.pool_state.specs.declared.Survey.{Survey}
 
 -- Start and nodes of set k, of the sets from s and number i on; p where it is not among them.
@@ -27,8 +27,8 @@ chosen-past : (k s i : ℕ) (p : ℕ × ℕ) (xs : List SetState) → k < s → 
 chosen-past k s i p [] lt = refl
 chosen-past k s i p (x ∷ xs) lt = rw (ne-eqb s k (omega arith)) (chosen-past k (s + 1) (i + held x) p xs (omega arith))
 
-chosen-start : (j s i : ℕ) (xs : List SetState) → chosen (s + j) s i (0, 0) xs ≡ (startOf j i xs, held (getD xs j noSet))
-chosen-start j s i [] = rw nodesL-empty
+chosen-start : (j s i : ℕ) (xs : List SetState) → chosen (s + j) s i (0, 0) xs ≡ (firstNode j i xs, held (getD xs j noSet))
+chosen-start j s i [] = rw heldL-nil
 chosen-start zero s i (x ∷ xs) = rw (eq-eqb s (s + 0) (omega arith)) (chosen-past (s + 0) (s + 1) (i + held x) (i, held x) xs (omega arith))
 chosen-start (suc j) s i (x ∷ xs) =
     let e : s + suc j ≡ s + 1 + j = omega arith in
@@ -39,11 +39,11 @@ abbrev pub found : ℕ → ℕ → ℕ × ℕ → Survey
 found i c p = record { sound = true; used = i - 1; claimed = c; at = p .0; held = p .1 }
 
 module _ (w : List ℕ) (b n f k : ℕ) where
-  -- set s, whose trie is t: where it is right and its claim within the pool, the pass goes on
-  abbrev pub turn : (ℕ → ℕ → ℕ × ℕ → Survey) → ℕ → ℕ → ℕ → ℕ × ℕ → Trie → Survey
-  turn next s i c p t =
-      cond (isRight w f s t)
-      (cond (leb (c + max (shareIn w s) (size t)) n) (next (i + size t) (c + max (shareIn w s) (size t)) (cond (eqb s k) (i, size t) p)) noSurvey)
+  -- set s, whose list is l: where it is right and its claim within the pool, the pass goes on
+  abbrev pub turn : (ℕ → ℕ → ℕ × ℕ → Survey) → ℕ → ℕ → ℕ → ℕ × ℕ → List Bits → Survey
+  turn next s i c p l =
+      cond (isRight w f s l)
+      (cond (leb (c + max (shareIn w s) (heldL l)) n) (next (i + heldL l) (c + max (shareIn w s) (heldL l)) (cond (eqb s k) (i, heldL l) p)) noSurvey)
       noSurvey
 
   -- m sets of the family f are still to come, from set s and number i on; the claims before them are c, and p is what is known of set k
@@ -51,8 +51,8 @@ module _ (w : List ℕ) (b n f k : ℕ) where
   scan zero s i c p = found i c p
   scan (suc m) s i c p =
       elim (readSet w b n (suc (width f)) s i) [
-        | bad ↦ noSurvey
-        | ok t ↦ turn (scan m (s + 1)) s i c p t
+        | badList ↦ noSurvey
+        | okList l ↦ turn (scan m (s + 1)) s i c p l
       ]
 
   -- the same, from all the sets that are read
@@ -91,23 +91,22 @@ module _ (w : List ℕ) (b n f k : ℕ) where
   scan-finish zero s i c p le = rw (add-zero c, add-zero i, le-leb c n le)
   scan-finish (suc m) s i c p le = go (readSet w b n (suc (width f)) s i) (scan-finish m (s + 1))
     where
-      go : (r : Read)
+      go : (r : ReadList)
           → ((j d : ℕ) (q : ℕ × ℕ) → d ≤ n → scan m (s + 1) j d q ≡ finish (s + 1) j d q (readSets w b n f m (s + 1) j))
-          → elim r [ bad ↦ noSurvey | ok t ↦ turn (scan m (s + 1)) s i c p t ] ≡
-          finish s i c p (elim r [ bad ↦ badSets | ok t ↦ setBefore (isRight w f s t) (setOf w s t) (readSets w b n f m (s + 1) (i + size t)) ])
-      go bad ih = refl
-      go (ok t) ih =
-          let x = setOf w s t in
+          → elim r [ badList ↦ noSurvey | okList l ↦ turn (scan m (s + 1)) s i c p l ] ≡
+          finish s i c p (elim r [ badList ↦ badSets | okList l ↦ setBefore (isRight w f s l) (setOf w s l) (readSets w b n f m (s + 1) (i + heldL l)) ])
+      go badList ih = refl
+      go (okList l) ih =
+          let x = setOf w s l in
           let q = cond (eqb s k) (i, held x) p in
-          rw (← nodesL-listOf t)
-          (finish-set s i c p x (isRight w f s t) (readSets w b n f m (s + 1) (i + held x)) (scan m (s + 1) (i + held x) (c + claim x) q) (ih (i + held x) (c + claim x) q))
+          finish-set s i c p x (isRight w f s l) (readSets w b n f m (s + 1) (i + held x)) (scan m (s + 1) (i + held x) (c + claim x) q) (ih (i + held x) (c + claim x) q)
 
 finish-judged : (w : List ℕ) (b f k : ℕ) (r : ReadSets) → finish w b (getD w 3 0) f k 0 1 0 (0, 0) r ≡ surveyOf (judged w r) k
 unfolding surveyOf
 finish-judged w b f k badSets = refl
 finish-judged w b f k (okSets xs) = rw (zero-add (claimed xs)) (go (leb (claimed xs) (getD w 3 0)))
   where
-    start : chosen k 0 1 (0, 0) xs ≡ (startOf k 1 xs, held (getD xs k noSet))
+    start : chosen k 0 1 (0, 0) xs ≡ (firstNode k 1 xs, held (getD xs k noSet))
     start = rw (zero-add k) at (chosen-start k 0 1 xs)
 
     go : (o : Bool) → cond o (found (1 + used xs) (claimed xs) (chosen k 0 1 (0, 0) xs)) noSurvey

@@ -1,21 +1,25 @@
 // The check of a whole pool, in one pass over its sets, and the seat of one of them. Of a public-only set the ways down to the inner networks are read, and no list.
+use claims::claim_at;
 use nets::families::is_family;
 use nodes::reading::trie_end;
 use pool_state::Survey;
 use trie_meets::standing::is_clear;
 ghost use mathlib.Core.Path.{_≡_};
 ghost use mathlib.Core.Bool.{true, not, cond, _&&_, _||_};
-ghost use Prim.Native.Nat.{ℕ, suc, _+_, _≤_, _<_, max};
+ghost use mathlib.Core.List.{List};
+ghost use Prim.Native.Nat.{ℕ, suc, _+_, _≤_, _<_};
 ghost use lib.Dec.{eqb, leb};
 ghost use lib.ListN.{length, getD};
+ghost use Rattle.nets.specs.Bits.{Bits};
 ghost use Rattle.nets.specs.Networks.{width};
-ghost use Rattle.nets.specs.Tries.{Trie, size, listOf};
 ghost use Rattle.inner_nets.specs.Inner.{isPublic};
-ghost use Rattle.nodes.specs.Parse.{Room, ok, after};
+ghost use Rattle.nodes.specs.Parse.{Room};
+ghost use Rattle.pool_state.specs.Kept.{heldL, okList, endL};
 ghost use Rattle.pool_state.specs.States.{isSize};
 ghost use Rattle.pool_state.specs.Decode.{base, isHeader, readSet, isRight, decode};
 ghost use Rattle.pool_state.specs.Rules.{shareIn, limitIn, publicIn, noSurvey, surveyOf};
 
+pub mod claims;
 pub mod seats;
 
 // The first word of every pool.
@@ -79,12 +83,12 @@ pub fn most_levels(family: u32) -> u32
     129
 }
 
-// The number after the trie of set s, where i is the next number that is not placed, or 0 where the set is damaged.
+// The number after the nodes of set s, where i is the next number that is not placed, or 0 where the set is damaged.
 fn set_end(w: &[u32], b: usize, n: u32, fuel: u32, s: usize, i: u32) -> u32
     requires { ⌜ Room (now w) b n ⌝ }
     requires { ⌜ (1 ≤ i) × (fuel ≤ 129) ⌝ }
     requires { ⌜ (s < 64) × (base (s + 1) ≤ length (now w)) ⌝ }
-    ensures { λ r. ⌜ r ≡ after i (readSet (now (w .entry)) b n fuel s i) ⌝ }
+    ensures { λ r. ⌜ r ≡ endL i (readSet (now (w .entry)) b n fuel s i) ⌝ }
 {
     let root = w[HEAD + RECORD * s];
     if root == 0 {
@@ -113,8 +117,8 @@ fn in_limit(w: &[u32], s: usize, nodes: u32) -> bool
 fn keeps_mark(w: &[u32], b: usize, n: u32, s: usize, i: u32) -> bool
     requires { ⌜ Room (now w) b n × (1 ≤ i) ⌝ }
     requires { ⌜ (s < 64) × (base (s + 1) ≤ length (now w)) ⌝ }
-    requires { ⌜ ((f : ℕ) × (t : Trie) × (readSet (now w) b n f s i ≡ ok t)) ⌝ }
-    ensures { λ r. ⌜ ((f : ℕ) (t : Trie) → readSet (now (w .entry)) b n f s i ≡ ok t → r ≡ (leb (publicIn (now (w .entry)) s) 1 && (not (eqb (publicIn (now (w .entry)) s) 1) || isPublic (getD (now (w .entry)) 1 0) (listOf t)))) ⌝ }
+    requires { ⌜ ((f : ℕ) × (l : List Bits) × (readSet (now w) b n f s i ≡ okList l)) ⌝ }
+    ensures { λ r. ⌜ ((f : ℕ) (l : List Bits) → readSet (now (w .entry)) b n f s i ≡ okList l → r ≡ (leb (publicIn (now (w .entry)) s) 1 && (not (eqb (publicIn (now (w .entry)) s) 1) || isPublic (getD (now (w .entry)) 1 0) l))) ⌝ }
 {
     let mark = w[HEAD + RECORD * s + 3];
     if mark == 0 {
@@ -129,29 +133,17 @@ fn keeps_mark(w: &[u32], b: usize, n: u32, s: usize, i: u32) -> bool
     is_clear(w, b, n, i, w[1])
 }
 
-// The rules of set s, whose trie stands from node i up to node `end`.
+// The rules of set s, whose list stands from node i up to node `end`.
 fn is_right(w: &[u32], b: usize, n: u32, s: usize, i: u32, end: u32) -> bool
     requires { ⌜ Room (now w) b n × (1 ≤ i) ⌝ }
     requires { ⌜ (s < 64) × (base (s + 1) ≤ length (now w)) ⌝ }
-    requires { ⌜ ((f : ℕ) × (t : Trie) × (readSet (now w) b n f s i ≡ ok t) × (end ≡ i + size t)) ⌝ }
-    ensures { λ r. ⌜ ((f : ℕ) (t : Trie) → readSet (now (w .entry)) b n f s i ≡ ok t → end ≡ i + size t → r ≡ isRight (now (w .entry)) (getD (now (w .entry)) 1 0) s t) ⌝ }
+    requires { ⌜ ((f : ℕ) × (l : List Bits) × (readSet (now w) b n f s i ≡ okList l) × (end ≡ i + heldL l)) ⌝ }
+    ensures { λ r. ⌜ ((f : ℕ) (l : List Bits) → readSet (now (w .entry)) b n f s i ≡ okList l → end ≡ i + heldL l → r ≡ isRight (now (w .entry)) (getD (now (w .entry)) 1 0) s l) ⌝ }
 {
     if !in_limit(w, s, end - i) {
         return false;
     }
     keeps_mark(w, b, n, s, i)
-}
-
-// What set s claims of the pool: the larger of its share and its nodes.
-pub fn claim_at(w: &[u32], s: usize, nodes: u32) -> u32
-    requires { ⌜ (s < 64) × (base (s + 1) ≤ length (now w)) ⌝ }
-    ensures { λ r. ⌜ r ≡ max (shareIn (now (w .entry)) s) nodes ⌝ }
-{
-    let share = w[HEAD + RECORD * s + 1];
-    if share < nodes {
-        return nodes;
-    }
-    share
 }
 
 // The value x where this set is the one asked for, or what there was.

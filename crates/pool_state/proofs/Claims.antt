@@ -12,6 +12,7 @@ use Rattle.nets.specs.Bits.{Bits, before}
 use Rattle.nets.specs.Lists.{isList, nodesL}
 use Rattle.nets.specs.Networks.{isFamily, width}
 use Rattle.nets.proofs.Strings.{and-left, and-right}
+use Rattle.pool_state.specs.Kept.{heldL}
 use Rattle.pool_state.specs.States.{SetState, State, held, claim, used, claimed, claimedBut, freeOf, roomOf, admits, keepsRules, isSize, isSet, areSets, isState}
 use Rattle.pool_state.specs.Rules.{noSet}
 
@@ -83,7 +84,7 @@ module _ (f : ℕ) (x : SetState) (xs : List SetState) (e : areSets f (x ∷ xs)
 
 -- So every set of a state keeps them; a number that is no set's has an empty one, which does too.
 areSets-at : (f k : ℕ) (xs : List SetState) → areSets f xs ≡ true → isSet f (getD xs k noSet) ≡ true
-unfolding isList nodesL
+unfolding isList heldL nodesL
 areSets-at f k [] e = refl
 areSets-at f zero (x ∷ xs) e = areSets-head f x xs e
 areSets-at f (suc k) (x ∷ xs) e = areSets-at f k xs (areSets-tail f x xs e)
@@ -133,12 +134,12 @@ abbrev poolWith : List Bits → State
 poolWith l = record { family = 6; nodes = 100; sets = record { share = 40; limit = 60; public = false; list = [] } ∷ record { share = 30; limit = 80; public = false; list = l } ∷ [] }
 
 pub room-empty : (isState (poolWith []) ≡ true) × (roomOf (poolWith []) 1 ≡ 60) × (roomOf (poolWith []) 0 ≡ 70)
-unfolding isState claimed claimedBut isList nodesL
+unfolding isState claimed claimedBut isList heldL nodesL
 room-empty = (refl, refl, refl)
 
 abbrev one59 : List Bits
 one59 = replicate 59 false ∷ []
 
-pub room-one59 : (isState (poolWith one59) ≡ true) × (nodesL one59 ≡ 60) × (roomOf (poolWith one59) 0 ≡ 40)
-unfolding isState claimed claimedBut isList nodesL before width
+pub room-one59 : (isState (poolWith one59) ≡ true) × (heldL one59 ≡ 60) × (roomOf (poolWith one59) 0 ≡ 40)
+unfolding isState claimed claimedBut isList heldL nodesL before width
 room-one59 = (refl, refl, refl)

@@ -10,21 +10,20 @@ use lib.Dec.{leb}
 use lib.ListN.{length, getD, take, drop, replicate}
 use borrow.Author.Tests.{le-leb}
 use Rattle.nets.specs.Bits.{digit}
-use Rattle.nets.specs.Lists.{isList, nodesL}
+use Rattle.nets.specs.Lists.{isList}
 use Rattle.nets.specs.Networks.{width}
-use Rattle.nets.specs.Tries.{trieOf}
 use Rattle.nets.proofs.Strings.{and-left, and-right}
-use Rattle.nets.proofs.Nodes.{nodesL-empty}
-use Rattle.nodes.specs.Words.{put, Has, enc}
-use Rattle.nodes.specs.Parse.{Stands}
+use Rattle.nodes.specs.Words.{put, Has}
+use Rattle.pool_state.specs.Kept.{encL}
 use Rattle.pool_state.specs.States.{State, used, claimed, isSet, areSets, isState}
 use Rattle.pool_state.specs.Decode.{recordAt, base, leastWords, rootAt, nodeWords, over, sound, decode}
-use Rattle.pool_state.specs.Rules.{noSet, startOf, total, Setup, layoutNo, emptySets, emptyState, laid, withinLimits, isSetup}
+use Rattle.pool_state.specs.Rules.{noSet, firstNode, total, Setup, layoutNo, emptySets, emptyState, laid, withinLimits, isSetup}
 use Rattle.nodes.proofs.Put.{length-put}
 use Rattle.nodes.proofs.Has.{has-head, has-at}
+use Rattle.pool_state.proofs.Kept.{StandsL, heldL-nil}
 use Rattle.pool_state.proofs.Claims.{isState-sets, isState-claimed, used-claimed}
 use Rattle.pool_state.proofs.Setups.{Kept, isSetup-kept, length-emptySets}
-use Rattle.pool_state.proofs.Holds.{HoldsSet, length-nodeWords, nodeWords-at, startOf-is, holds-at}
+use Rattle.pool_state.proofs.Holds.{HoldsSet, length-nodeWords, nodeWords-at, firstNode-is, holds-at}
 use Rattle.pool_state.proofs.Encoded.{HeaderOf, sound-header, sound-decode, decode-sound, over-sound, sound-over}
 
 module _ (w : List ℕ) (S : State) (e : decode w ≡ sound S) where
@@ -36,7 +35,7 @@ module _ (w : List ℕ) (S : State) (e : decode w ≡ sound S) where
   pub decode-state : isState S ≡ true
   decode-state = decode-sound w S e .state
 
-  -- Each node has at most one place: the tries of the sets stand one behind the other.
+  -- Each node has at most one place: the lists of the sets stand one behind the other.
   pub decode-has : Has w (base (length (S .sets))) (nodeWords (S .sets))
   decode-has = has-at (omega arith) (decode-sound w S e .holds .nodes)
 
@@ -44,12 +43,12 @@ module _ (w : List ℕ) (S : State) (e : decode w ≡ sound S) where
   pub decode-used : (length (nodeWords (S .sets)) ≡ used (S .sets)) × (used (S .sets) ≤ claimed (S .sets)) × (claimed (S .sets) ≤ S .nodes)
   decode-used = (length-nodeWords (S .family) (S .sets) (isState-sets S decode-state), used-claimed (S .sets), isState-claimed S decode-state)
 
-  -- Set k: its record, its trie, and the tries before and behind it.
+  -- Set k: its record, its list, and the lists before and behind it.
   module _ (k : ℕ) (lt : k < length (S .sets)) where
-    pub decode-set : HoldsSet w (base (length (S .sets))) (S .nodes) (S .family) k (startOf k 1 (S .sets)) (getD (S .sets) k noSet)
+    pub decode-set : HoldsSet w (base (length (S .sets))) (S .nodes) (S .family) k (firstNode k 1 (S .sets)) (getD (S .sets) k noSet)
     decode-set = rw zero-add at (holds-at 0 k (S .sets) (omega arith) lt (decode-sound w S e .holds))
 
-    pub decode-root : getD w (recordAt k) 0 ≡ rootAt (startOf k 1 (S .sets)) (getD (S .sets) k noSet .list)
+    pub decode-root : getD w (recordAt k) 0 ≡ rootAt (firstNode k 1 (S .sets)) (getD (S .sets) k noSet .list)
     decode-root = has-head (decode-set .here)
 
     pub decode-share : getD w (recordAt k + 1) 0 ≡ getD (S .sets) k noSet .share
@@ -61,12 +60,12 @@ module _ (w : List ℕ) (S : State) (e : decode w ≡ sound S) where
     pub decode-public : getD w (recordAt k + 3) 0 ≡ digit (getD (S .sets) k noSet .public)
     decode-public = decode-set .here .at 3 (omega arith)
 
-    pub decode-at : Stands w (base (length (S .sets))) (S .nodes) (suc (width (S .family))) (startOf k 1 (S .sets)) (trieOf (getD (S .sets) k noSet .list))
-    decode-at = decode-set .trie
+    pub decode-list : StandsL w (base (length (S .sets))) (S .nodes) (width (S .family)) (firstNode k 1 (S .sets)) (getD (S .sets) k noSet .list)
+    decode-list = decode-set .list
 
-    pub decode-parts : (nodeWords (S .sets) ≡ nodeWords (take k (S .sets)) ++ (enc (trieOf (getD (S .sets) k noSet .list)) ++ nodeWords (drop (suc k) (S .sets))))
-        × (startOf k 1 (S .sets) ≡ 1 + length (nodeWords (take k (S .sets))))
-    decode-parts = (nodeWords-at k (S .sets) lt, startOf-is (S .family) k 1 (S .sets) (isState-sets S decode-state) lt)
+    pub decode-parts : (nodeWords (S .sets) ≡ nodeWords (take k (S .sets)) ++ (encL (getD (S .sets) k noSet .list) ++ nodeWords (drop (suc k) (S .sets))))
+        × (firstNode k 1 (S .sets) ≡ 1 + length (nodeWords (take k (S .sets))))
+    decode-parts = (nodeWords-at k (S .sets) lt, firstNode-is (S .family) k 1 (S .sets) (isState-sets S decode-state) lt)
 
 -- Encoding and decoding are inverse.
 pub over-decode : (w : List ℕ) (S : State) → decode w ≡ sound S → over w S ≡ w
@@ -84,8 +83,8 @@ over-one w S T e f le lf q = decode-one (over w T) S T (rw q at (decode-over w S
 
 -- A granted layout: every set is empty.
 isSet-empty : (f x y : ℕ) → leb x y ≡ true → isSet f (record { share = x; limit = y; public = false; list = [] }) ≡ true
-unfolding isList nodesL
-isSet-empty f x y e = rw (e, le-leb 0 y (omega arith))
+unfolding isList
+isSet-empty f x y e = rw (e, heldL-nil, le-leb 0 y (omega arith))
 
 emptySets-is : (v : ℕ) (shares limits : List ℕ) → withinLimits shares limits ≡ true → (areSets v (emptySets shares limits) ≡ true) × (claimed (emptySets shares limits) ≡ total shares)
 unfolding claimed total
@@ -93,7 +92,7 @@ emptySets-is v [] limits e = (refl, refl)
 emptySets-is v (x ∷ shares) [] e = absurd (false≢true e)
 emptySets-is v (x ∷ shares) (y ∷ limits) e =
     let h = emptySets-is v shares limits (and-right (leb x y) (withinLimits shares limits) e) in
-    (rw (isSet-empty v x y (and-left (leb x y) (withinLimits shares limits) e)) (h .0), omega (arith, h .1, nodesL-empty))
+    (rw (isSet-empty v x y (and-left (leb x y) (withinLimits shares limits) e)) (h .0), omega (arith, h .1, heldL-nil))
 
 layoutNo-kept : (w : List ℕ) (p : Setup) → layoutNo w p ≡ 0 → Kept (length w) p
 unfolding layoutNo

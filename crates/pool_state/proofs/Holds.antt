@@ -1,4 +1,4 @@
--- Sets in words: `readSets` gives sets exactly where the words hold them (`Holds`), the records each at its place and the tries one behind the other.
+-- Sets in words: `readSets` gives sets exactly where the words hold them (`Holds`), the records each at its place and the lists one behind the other.
 -- Assumes nothing.
 use mathlib.Core.Path.{_≡_, refl, sym, ap, _∙_, subst}
 use mathlib.Core.Bool.{Bool, true, false, cond}
@@ -9,38 +9,27 @@ use lib.Dec.{eqb, leb}
 use lib.ListN.{length, getD, take, drop, length-append}
 use borrow.Author.Tests.{eq-eqb, ne-eqb, eqb-true, leb-true}
 use Rattle.nets.specs.Bits.{Bits, digit}
-use Rattle.nets.specs.Lists.{nodesL}
 use Rattle.nets.specs.Networks.{width}
-use Rattle.nets.specs.Tries.{Trie, none, size, levels, listOf, trieOf}
 use Rattle.nets.proofs.Strings.{and-left, and-right}
-use Rattle.nets.proofs.Nodes.{nodesL-listOf}
-use Rattle.nets.proofs.TrieOf.{isList-within, levels-trieOf, listOf-trieOf, trieOf-listOf, isList-listOf}
-use Rattle.nodes.specs.Words.{put, Has, Apart, place, enc}
-use Rattle.nodes.specs.Parse.{Room, Read, bad, ok, parse, Stands}
+use Rattle.nodes.specs.Words.{put, Has, Apart, place}
+use Rattle.nodes.specs.Parse.{Room}
+use Rattle.pool_state.specs.Kept.{heldL, encL, ReadList, badList, okList, readL}
 use Rattle.pool_state.specs.States.{SetState, held, used, keepsRules, isSet, areSets}
 use Rattle.pool_state.specs.Decode.{recordAt, rootAt, nodeWords, ReadSets, badSets, okSets, readSet, setOf, isRight, setBefore, readSets}
-use Rattle.pool_state.specs.Rules.{noSet, startOf}
+use Rattle.pool_state.specs.Rules.{noSet, firstNode}
 use Rattle.nodes.proofs.Has.{has-put, has-front, has-back, has-head, has-at, has-join}
-use Rattle.nodes.proofs.Tries.{length-enc}
-use Rattle.nodes.proofs.Parsed.{parse-of, none-stands, stands}
+use Rattle.pool_state.proofs.Kept.{StandsL, length-encL, heldL-nil, nil-stands, readL-of, readL-stands}
 use Rattle.pool_state.proofs.Claims.{isSet-list, isSet-rules, areSets-head, areSets-tail}
 
--- The trie of a set.
-module _ (v : ℕ) (x : SetState) (e : isSet v x ≡ true) where
-  pub set-listOf : listOf (trieOf (x .list)) ≡ x .list
-  set-listOf = listOf-trieOf (width v) (x .list) (isSet-list v x e)
-
-  pub set-size : size (trieOf (x .list)) ≡ held x
-  set-size = sym (nodesL-listOf (trieOf (x .list))) ∙ ap nodesL set-listOf
-
-  set-levels : levels (trieOf (x .list)) ≤ suc (width v)
-  set-levels = levels-trieOf (width v) (x .list) (isList-within (width v) (x .list) (isSet-list v x e))
+-- The words of a set, and of sets.
+set-words : (v : ℕ) (x : SetState) → isSet v x ≡ true → length (encL (x .list)) ≡ held x
+set-words v x e = length-encL (width v) (x .list) (isSet-list v x e)
 
 pub length-nodeWords : (v : ℕ) (xs : List SetState) → areSets v xs ≡ true → length (nodeWords xs) ≡ used xs
 unfolding nodeWords used
 length-nodeWords v [] e = refl
 length-nodeWords v (x ∷ xs) e =
-    omega (arith, length-append (enc (trieOf (x .list))) (nodeWords xs), length-enc (trieOf (x .list)), set-size v x (areSets-head v x xs e), length-nodeWords v xs (areSets-tail v x xs e))
+    omega (arith, length-append (encL (x .list)) (nodeWords xs), set-words v x (areSets-head v x xs e), length-nodeWords v xs (areSets-tail v x xs e))
 
 -- What stands in the words w, with the nodes 1..n from b on and lists of the family v: the record of a set, records, a set, and sets; the first is set s and begins at node i.
 abbrev pub recordOf : ℕ → SetState → List ℕ
@@ -61,7 +50,7 @@ records-put w s i (x ∷ xs) q ys far h = (
 pub record HoldsSet (w : List ℕ) (b n v s i : ℕ) (x : SetState) : Type 0 where
   pub rules : isSet v x ≡ true
   pub here : Has w (recordAt s) (recordOf i x)
-  pub trie : Stands w b n (suc (width v)) i (trieOf (x .list))
+  pub list : StandsL w b n (width v) i (x .list)
 
 pub record Holds (w : List ℕ) (b n v s i : ℕ) (xs : List SetState) : Type 0 where
   pub rules : areSets v xs ≡ true
@@ -75,7 +64,7 @@ module _ {w : List ℕ} {b n v s i : ℕ} {x : SetState} {xs : List SetState} (p
   holds-cons h g = record {
     rules = rw (h .rules) (g .rules);
     records = (h .here, g .records);
-    nodes = has-join (enc (trieOf (x .list))) (nodeWords xs) (h .trie .has) (has-at (omega (arith, length-enc (trieOf (x .list)), set-size v x (h .rules))) (g .nodes));
+    nodes = has-join (encL (x .list)) (nodeWords xs) (h .list .has) (has-at (omega (arith, set-words v x (h .rules))) (g .nodes));
     within = omega (arith, g .within);
   }
 
@@ -86,33 +75,27 @@ module _ {w : List ℕ} {b n v s i : ℕ} {x : SetState} {xs : List SetState} (p
       record {
         rules = e;
         here = h .records .0;
-        trie = record {
-          deep = set-levels v x e;
-          within = omega (arith, set-size v x e, h .within);
-          has = has-front (enc (trieOf (x .list))) (nodeWords xs) (h .nodes);
-        };
+        list = record { list = isSet-list v x e; within = omega (arith, h .within); has = has-front (encL (x .list)) (nodeWords xs) (h .nodes) };
       }
 
   holds-tail : Holds w b n v s i (x ∷ xs) → Holds w b n v (s + 1) (i + held x) xs
   unfolding nodeWords used
   holds-tail h =
-      let e = set-size v x (areSets-head v x xs (h .rules)) in
+      let e = set-words v x (areSets-head v x xs (h .rules)) in
       record {
         rules = areSets-tail v x xs (h .rules);
         records = h .records .1;
-        nodes = has-at (omega (arith, length-enc (trieOf (x .list)))) (has-back (enc (trieOf (x .list))) (nodeWords xs) (h .nodes));
+        nodes = has-at (omega arith) (has-back (encL (x .list)) (nodeWords xs) (h .nodes));
         within = omega (arith, h .within);
       }
 
 -- The root's number tells the empty list from the others.
-pub rootAt-trie : (i : ℕ) (l : List Bits) → (trieOf l ≡ none → ⊥) → rootAt i l ≡ i
-unfolding trieOf
-rootAt-trie i [] ne = absurd (ne refl)
-rootAt-trie i (p ∷ l) ne = refl
+pub rootAt-some : (i : ℕ) (l : List Bits) → (l ≡ [] → ⊥) → rootAt i l ≡ i
+rootAt-some i [] ne = absurd (ne refl)
+rootAt-some i (p ∷ l) ne = refl
 
-trieOf-some : (p : Bits) (l : List Bits) → listOf (trieOf (p ∷ l)) ≡ p ∷ l → trieOf (p ∷ l) ≡ none → ⊥
-unfolding listOf levels
-trieOf-some p l e z = let q : listOf none ≡ p ∷ l = rw z at e in let y : _≡_ {A = ℕ} 0 1 = cc in omega arith
+pub cons-some : (p : Bits) (l : List Bits) → p ∷ l ≡ [] → ⊥
+cons-some p l e = let y : _≡_ {A = ℕ} 0 1 = cc in omega arith
 
 -- The word of a mark, and the mark of a word.
 pub digit-is : (c : Bool) → eqb (digit c) 1 ≡ c
@@ -129,28 +112,27 @@ digit-of (suc zero) le = refl
 digit-of (suc (suc x)) le = absurd (omega arith)
 
 -- A set is read where the words hold it,
-readSet-root : (w : List ℕ) (b n f s i : ℕ) (l : List Bits) → 1 ≤ i → getD w (recordAt s) 0 ≡ rootAt i l → listOf (trieOf l) ≡ l → Stands w b n f i (trieOf l) → readSet w b n f s i ≡ ok (trieOf l)
-unfolding readSet trieOf
-readSet-root w b n f s i [] pos r e h = rw (eq-eqb (getD w (recordAt s) 0) 0 r)
-readSet-root w b n f s i (p ∷ l) pos r e h =
-    rw (r, ne-eqb i 0 (omega arith), eq-eqb i i refl) (parse-of w b n f (trieOf (p ∷ l)) i pos (trieOf-some p l e) h)
+readSet-root : (w : List ℕ) (b n d s i : ℕ) (l : List Bits) → 1 ≤ i → getD w (recordAt s) 0 ≡ rootAt i l → StandsL w b n d i l → readSet w b n (suc d) s i ≡ okList l
+unfolding readSet
+readSet-root w b n d s i [] pos r h = rw (eq-eqb (getD w (recordAt s) 0) 0 r)
+readSet-root w b n d s i (p ∷ l) pos r h = rw (r, ne-eqb i 0 (omega arith), eq-eqb i i refl) (readL-of pos (cons-some p l) h)
 
 module _ {w : List ℕ} {b n v s i : ℕ} {x : SetState} (pos : 1 ≤ i) (h : HoldsSet w b n v s i x) where
-  readSet-of : readSet w b n (suc (width v)) s i ≡ ok (trieOf (x .list))
-  readSet-of = readSet-root w b n (suc (width v)) s i (x .list) pos (has-head (h .here)) (set-listOf v x (h .rules)) (h .trie)
+  readSet-of : readSet w b n (suc (width v)) s i ≡ okList (x .list)
+  readSet-of = readSet-root w b n (width v) s i (x .list) pos (has-head (h .here)) (h .list)
 
-  setOf-of : setOf w s (trieOf (x .list)) ≡ x
-  setOf-of = rw (h .here .at 1 (omega arith), h .here .at 2 (omega arith), h .here .at 3 (omega arith), digit-is (x .public), set-listOf v x (h .rules))
+  setOf-of : setOf w s (x .list) ≡ x
+  setOf-of = rw (h .here .at 1 (omega arith), h .here .at 2 (omega arith), h .here .at 3 (omega arith), digit-is (x .public))
 
-  isRight-of : isRight w v s (trieOf (x .list)) ≡ true
+  isRight-of : isRight w v s (x .list) ≡ true
   isRight-of =
       let a : leb (getD w (recordAt s + 3) 0) 1 ≡ true = rw (h .here .at 3 (omega arith)) (digit-few (x .public)) in
       rw a (ap (keepsRules v) setOf-of ∙ isSet-rules v x (h .rules))
 
-readSets-step : (w : List ℕ) (b n f m s i : ℕ) (t : Trie) → readSet w b n (suc (width f)) s i ≡ ok t
-    → readSets w b n f (suc m) s i ≡ setBefore (isRight w f s t) (setOf w s t) (readSets w b n f m (s + 1) (i + size t))
+readSets-step : (w : List ℕ) (b n f m s i : ℕ) (l : List Bits) → readSet w b n (suc (width f)) s i ≡ okList l
+    → readSets w b n f (suc m) s i ≡ setBefore (isRight w f s l) (setOf w s l) (readSets w b n f m (s + 1) (i + heldL l))
 unfolding readSets
-readSets-step w b n f m s i t e = rw (e, readSets)
+readSets-step w b n f m s i l e = rw (e, readSets)
 
 pub readSets-of : (w : List ℕ) (b n v s i : ℕ) (xs : List SetState) → 1 ≤ i → Holds w b n v s i xs → readSets w b n v (length xs) s i ≡ okSets xs
 unfolding readSets
@@ -158,12 +140,11 @@ readSets-of w b n v s i [] pos h = refl
 readSets-of w b n v s i (x ∷ xs) pos h =
     let g = holds-head pos h in
     let e = readSets-of w b n v (s + 1) (i + held x) xs (omega arith) (holds-tail pos h) in
-    readSets-step w b n v (length xs) s i (trieOf (x .list)) (readSet-of pos g)
-    ∙ rw (isRight-of pos g, setOf-of pos g, set-size v x (g .rules), e)
+    readSets-step w b n v (length xs) s i (x .list) (readSet-of pos g) ∙ rw (isRight-of pos g, setOf-of pos g, e)
 
 -- and what is read stands there.
-never-read : (t : Trie) → bad ≡ ok t → ⊥
-never-read t e = let z : _≡_ {A = ℕ} 0 1 = cc in omega arith
+never-read : (l : List Bits) → badList ≡ okList l → ⊥
+never-read l e = let z : _≡_ {A = ℕ} 0 1 = cc in omega arith
 
 never-sets : (xs : List SetState) → badSets ≡ okSets xs → ⊥
 never-sets xs e = let z : _≡_ {A = ℕ} 0 1 = cc in omega arith
@@ -185,29 +166,29 @@ has-four w p le = record { fits = le; at = go }
     go (suc (suc (suc (suc k)))) l = absurd (omega arith)
 
 module _ (w : List ℕ) (b n : ℕ) (room : Room w b n) where
-  readSet-stands : (f s i : ℕ) (t : Trie) → 1 ≤ i → i ≤ suc n → readSet w b n f s i ≡ ok t → (getD w (recordAt s) 0 ≡ rootAt i (listOf t)) × Stands w b n f i t
-  unfolding readSet levels listOf
-  readSet-stands f s i t pos le e = go (eqb (getD w (recordAt s) 0) 0) (eqb (getD w (recordAt s) 0) i) refl refl e
+  readSet-stands : (d s i : ℕ) (l : List Bits) → 1 ≤ i → i ≤ suc n → readSet w b n (suc d) s i ≡ okList l → (getD w (recordAt s) 0 ≡ rootAt i l) × StandsL w b n d i l
+  unfolding readSet
+  readSet-stands d s i l pos le e = go (eqb (getD w (recordAt s) 0) 0) (eqb (getD w (recordAt s) 0) i) refl refl e
     where
-      go : (c d : Bool) → eqb (getD w (recordAt s) 0) 0 ≡ c → eqb (getD w (recordAt s) 0) i ≡ d → cond c (ok none) (cond d (parse w b n f i) bad) ≡ ok t
-          → (getD w (recordAt s) 0 ≡ rootAt i (listOf t)) × Stands w b n f i t
-      go true d z q h =
-          let a : none ≡ t = cc in
-          subst (λ (u : Trie). (getD w (recordAt s) 0 ≡ rootAt i (listOf u)) × Stands w b n f i u) a (eqb-true (getD w (recordAt s) 0) 0 z, none-stands w b n f i le (omega (arith, room .long)))
+      go : (c o : Bool) → eqb (getD w (recordAt s) 0) 0 ≡ c → eqb (getD w (recordAt s) 0) i ≡ o → cond c (okList []) (cond o (readL w b n (suc d) i) badList) ≡ okList l
+          → (getD w (recordAt s) 0 ≡ rootAt i l) × StandsL w b n d i l
+      go true o z q h =
+          let a : [] ≡ l = cc in
+          subst (λ m. (getD w (recordAt s) 0 ≡ rootAt i m) × StandsL w b n d i m) a (eqb-true (getD w (recordAt s) 0) 0 z, nil-stands w b n d i le (omega (arith, room .long)))
       go false true z q h =
-          let a = stands w b n room f i t pos h in
-          (eqb-true (getD w (recordAt s) 0) i q ∙ sym (rootAt-trie i (listOf t) (λ r. a .1 (sym (trieOf-listOf t) ∙ r))), a .0)
-      go false false z q h = absurd (never-read t h)
+          let (a, ne) = readL-stands room pos h in
+          (eqb-true (getD w (recordAt s) 0) i q ∙ sym (rootAt-some i l ne), a)
+      go false false z q h = absurd (never-read l h)
 
   module _ (v m s i : ℕ) (pos : 1 ≤ i) (le : i ≤ suc n) (fits : recordAt (s + suc m) ≤ length w) where
-    readSet-holds : (t : Trie) → readSet w b n (suc (width v)) s i ≡ ok t → isRight w v s t ≡ true → HoldsSet w b n v s i (setOf w s t)
-    readSet-holds t e r =
-        let h = readSet-stands (suc (width v)) s i t pos le e in
-        let z = leb-true (getD w (recordAt s + 3) 0) 1 (and-left (leb (getD w (recordAt s + 3) 0) 1) (keepsRules v (setOf w s t)) r) in
+    readSet-holds : (l : List Bits) → readSet w b n (suc (width v)) s i ≡ okList l → isRight w v s l ≡ true → HoldsSet w b n v s i (setOf w s l)
+    readSet-holds l e r =
+        let h = readSet-stands (width v) s i l pos le e in
+        let z = leb-true (getD w (recordAt s + 3) 0) 1 (and-left (leb (getD w (recordAt s + 3) 0) 1) (keepsRules v (setOf w s l)) r) in
         record {
-          rules = rw (isList-listOf (width v) t (h .1 .deep)) (and-right (leb (getD w (recordAt s + 3) 0) 1) (keepsRules v (setOf w s t)) r);
+          rules = rw (h .1 .list) (and-right (leb (getD w (recordAt s + 3) 0) 1) (keepsRules v (setOf w s l)) r);
           here = rw (h .0, digit-of (getD w (recordAt s + 3) 0) z) at (has-four w (recordAt s) (omega arith));
-          trie = rw (trieOf-listOf t) (h .1);
+          list = h .1;
         }
 
     readSets-first : (xs : List SetState) → readSets w b n v (suc m) s i ≡ okSets xs
@@ -215,12 +196,12 @@ module _ (w : List ℕ) (b n : ℕ) (room : Room w b n) where
     unfolding readSets
     readSets-first xs e = go (readSet w b n (suc (width v)) s i) refl
       where
-        go : (r : Read) → readSet w b n (suc (width v)) s i ≡ r
+        go : (r : ReadList) → readSet w b n (suc (width v)) s i ≡ r
             → (x : SetState) × (ys : List SetState) × HoldsSet w b n v s i x × (readSets w b n v m (s + 1) (i + held x) ≡ okSets ys) × (x ∷ ys ≡ xs)
-        go bad q = absurd (never-sets xs (rw (q, readSets) at e))
-        go (ok t) q =
-            let a = setBefore-ok (isRight w v s t) (setOf w s t) (readSets w b n v m (s + 1) (i + size t)) xs (sym (readSets-step w b n v m s i t q) ∙ e) in
-            (setOf w s t, a .0, readSet-holds t q (a .2), ap (λ k. readSets w b n v m (s + 1) (i + k)) (nodesL-listOf t) ∙ a .1, a .3)
+        go badList q = absurd (never-sets xs (rw (q, readSets) at e))
+        go (okList l) q =
+            let a = setBefore-ok (isRight w v s l) (setOf w s l) (readSets w b n v m (s + 1) (i + heldL l)) xs (sym (readSets-step w b n v m s i l q) ∙ e) in
+            (setOf w s l, a .0, readSet-holds l q (a .2), a .1, a .3)
 
   pub readSets-holds : (v m s i : ℕ) (xs : List SetState) → 1 ≤ i → i ≤ suc n → recordAt (s + m) ≤ length w → readSets w b n v m s i ≡ okSets xs → Holds w b n v s i xs × (length xs ≡ m)
   unfolding readSets nodeWords used
@@ -231,30 +212,29 @@ module _ (w : List ℕ) (b n : ℕ) (room : Room w b n) where
   readSets-holds v (suc m) s i xs pos le fits e =
       let p = readSets-first v m s i pos le fits xs e in
       let h = p .2 in
-      let g = readSets-holds v m (s + 1) (i + held (p .0)) (p .1) (omega arith) (omega (arith, h .trie .within, set-size v (p .0) (h .rules))) (omega arith) (p .3) in
+      let g = readSets-holds v m (s + 1) (i + held (p .0)) (p .1) (omega arith) (omega (arith, h .list .within)) (omega arith) (p .3) in
       subst (λ ys. Holds w b n v s i ys × (length ys ≡ suc m)) (p .4) (holds-cons pos h (g .0), ap suc (g .1))
 
 -- Set k of sets in words, and the words of the nodes before it and behind it.
-pub holds-at : {w : List ℕ} {b n v i : ℕ} (s k : ℕ) (xs : List SetState) → 1 ≤ i → k < length xs → Holds w b n v s i xs → HoldsSet w b n v (s + k) (startOf k i xs) (getD xs k noSet)
+pub holds-at : {w : List ℕ} {b n v i : ℕ} (s k : ℕ) (xs : List SetState) → 1 ≤ i → k < length xs → Holds w b n v s i xs → HoldsSet w b n v (s + k) (firstNode k i xs) (getD xs k noSet)
 holds-at s k [] pos lt h = absurd (omega arith)
 holds-at s zero (x ∷ xs) pos lt h = let e : s + 0 ≡ s = omega arith in rw e (holds-head pos h)
 holds-at s (suc k) (x ∷ xs) pos lt h = let e : s + suc k ≡ s + 1 + k = omega arith in rw e (holds-at (s + 1) k xs (omega arith) (omega arith) (holds-tail pos h))
 
-pub nodeWords-at : (k : ℕ) (xs : List SetState) → k < length xs → nodeWords xs ≡ nodeWords (take k xs) ++ (enc (trieOf (getD xs k noSet .list)) ++ nodeWords (drop (suc k) xs))
+pub nodeWords-at : (k : ℕ) (xs : List SetState) → k < length xs → nodeWords xs ≡ nodeWords (take k xs) ++ (encL (getD xs k noSet .list) ++ nodeWords (drop (suc k) xs))
 unfolding nodeWords
 nodeWords-at k [] lt = absurd (omega arith)
 nodeWords-at zero (x ∷ xs) lt = refl
-nodeWords-at (suc k) (x ∷ xs) lt = rw (nodeWords-at k xs (omega arith)) (sym (append-assoc (enc (trieOf (x .list))) (nodeWords (take k xs)) _))
+nodeWords-at (suc k) (x ∷ xs) lt = rw (nodeWords-at k xs (omega arith)) (sym (append-assoc (encL (x .list)) (nodeWords (take k xs)) _))
 
-pub startOf-is : (v k i : ℕ) (xs : List SetState) → areSets v xs ≡ true → k < length xs → startOf k i xs ≡ i + length (nodeWords (take k xs))
+pub firstNode-is : (v k i : ℕ) (xs : List SetState) → areSets v xs ≡ true → k < length xs → firstNode k i xs ≡ i + length (nodeWords (take k xs))
 unfolding nodeWords
-startOf-is v k i [] e lt = absurd (omega arith)
-startOf-is v zero i (x ∷ xs) e lt = omega arith
-startOf-is v (suc k) i (x ∷ xs) e lt =
+firstNode-is v k i [] e lt = absurd (omega arith)
+firstNode-is v zero i (x ∷ xs) e lt = omega arith
+firstNode-is v (suc k) i (x ∷ xs) e lt =
     omega (
       arith,
-      startOf-is v k (i + held x) xs (areSets-tail v x xs e) (omega arith),
-      length-append (enc (trieOf (x .list))) (nodeWords (take k xs)),
-      length-enc (trieOf (x .list)),
-      set-size v x (areSets-head v x xs e),
+      firstNode-is v k (i + held x) xs (areSets-tail v x xs e) (omega arith),
+      length-append (encL (x .list)) (nodeWords (take k xs)),
+      set-words v x (areSets-head v x xs e),
     )

@@ -10,12 +10,13 @@ use lib.Dec.{eqb}
 use lib.ListN.{length}
 use borrow.Author.Tests.{le-ltb, eq-eqb, eqb-true, not-false}
 use Rattle.nets.specs.Bits.{Bits}
-use Rattle.nets.specs.Lists.{isList, nodesL}
+use Rattle.nets.specs.Lists.{isList}
 use Rattle.nets.specs.Networks.{width, netBits, refusalOf}
 use Rattle.nets.specs.Refusals.{Rule, firstNo}
 use Rattle.nets.specs.declared.Net.{Net}
 use Rattle.nets.proofs.Refused.{firstNo-zero, firstNo-both}
 use Rattle.nets.proofs.Numbers.{refusalOf-is, length-netBits}
+use Rattle.pool_state.specs.Kept.{heldL}
 use Rattle.pool_state.specs.States.{SetState, State, held, admits, isState}
 use Rattle.pool_state.specs.Decode.{leastWords, sound, decode}
 use Rattle.pool_state.specs.Rules.{leftOn}
@@ -106,7 +107,7 @@ pub record RelistLeaves (w : List ℕ) (S : State) (k : ℕ) (a : List Rule) (l 
   pub leaves : Leaves w S k (a ++ grantRules S k l) (setWith (setAt S k) l) v
   pub list : relistNo S k a l ≡ 0 → listAt (relistAfter S k a l) k ≡ l
   pub plan : (j : ℕ) → SamePlan (setAt (relistAfter S k a l) j) (setAt S j)
-  pub share : k < length (S .sets) → firstNo a ≡ 0 → admits (S .family) (setAt S k) l ≡ true → nodesL l ≤ setAt S k .share → r ≡ (0, nodesL l)
+  pub share : k < length (S .sets) → firstNo a ≡ 0 → admits (S .family) (setAt S k) l ≡ true → heldL l ≤ setAt S k .share → r ≡ (0, heldL l)
 
 module _ (S : State) (k : ℕ) (a : List Rule) (l : List Bits) where
   pub after-plan : (j : ℕ) → SamePlan (setAt (relistAfter S k a l) j) (setAt S j)
@@ -119,12 +120,12 @@ module _ (S : State) (k : ℕ) (a : List Rule) (l : List Bits) where
 
 module _ (a : State → List Rule) (f : State → List Bits) {w v : List ℕ} {S : State} {k : ℕ} {r : ℕ × ℕ} (d : decode w ≡ sound S)
     (i : firstNo (a S) ≡ 0 → isList (width (S .family)) (f S) ≡ true) (c : Relisted w k a f r v) where
-  answer-share : k < length (S .sets) → firstNo (a S) ≡ 0 → admits (S .family) (setAt S k) (f S) ≡ true → nodesL (f S) ≤ setAt S k .share → r ≡ (0, nodesL (f S))
+  answer-share : k < length (S .sets) → firstNo (a S) ≡ 0 → admits (S .family) (setAt S k) (f S) ≡ true → heldL (f S) ≤ setAt S k .share → r ≡ (0, heldL (f S))
   unfolding changeRule relistRules relistSet
   answer-share lt z m le =
       let e = decode-state w S d in
-      let p = le-ltb (setAt S k .limit) (nodesL (f S)) (omega (arith, share-limit S k e)) in
-      let q = le-ltb _ (nodesL (f S)) (share-roomOf S k e lt (nodesL (f S)) le) in
+      let p = le-ltb (setAt S k .limit) (heldL (f S)) (omega (arith, share-limit S k e)) in
+      let q = le-ltb _ (heldL (f S)) (share-roomOf S k e lt (heldL (f S)) le) in
       c .answer ∙ sym (owes-granted _ 0 _ w (λ T. w) d (relistNo-known S k (a S) (f S) lt ∙ rw (z, m, p, q)) .0)
 
   leaves-state : Leaves w S k (a S ++ grantRules S k (f S)) (setWith (setAt S k) (f S)) v

@@ -4,6 +4,8 @@ pub mod Claims
 pub mod WithSet
 -- What a call answers and leaves by its rules.
 pub mod Answered
+-- How a list is kept in words.
+pub mod Kept
 -- The header and layout, by the tests and the loops of the code.
 pub mod Header
 pub mod Setups
@@ -22,8 +24,11 @@ pub mod Changed
 pub mod Restated
 pub mod Planned
 pub mod Returns
+-- The same for a set as a trie.
+pub mod OnTries
 -- What each call comes to: one outcome, and what it leaves.
 pub mod Determined
+pub mod Filled
 pub mod Past
 pub mod Leaves
 pub mod Resurveyed

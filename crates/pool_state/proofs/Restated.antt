@@ -5,14 +5,13 @@ use Prim.Native.Nat.{ℕ, zero, suc, _+_, _<_}
 use native.Mathlib.Nat.{zero-add}
 use native.Mathlib.Omega.{arith}
 use lib.ListN.{length, getD}
-use Rattle.nets.specs.Lists.{nodesL}
-use Rattle.nets.specs.Tries.{trieOf}
-use Rattle.nodes.specs.Words.{put, Has, enc}
+use Rattle.nodes.specs.Words.{put, Has}
+use Rattle.pool_state.specs.Kept.{heldL, encL}
 use Rattle.nodes.proofs.Put.{put-behind-at}
 use Rattle.nodes.proofs.Has.{has-put, has-front, has-back, has-at, has-same}
 use Rattle.pool_state.specs.States.{SetState, State, held}
 use Rattle.pool_state.specs.Decode.{recordAt, nodeWords, overRecords, over, sound, decode}
-use Rattle.pool_state.specs.Rules.{noSet, startOf}
+use Rattle.pool_state.specs.Rules.{noSet, firstNode}
 use Rattle.pool_state.specs.Changes.{setAt, setsWith, withSet, planned, marked}
 use Rattle.pool_state.proofs.Holds.{recordOf, Records, records-put}
 use Rattle.pool_state.proofs.Encoded.{decode-sound, records-same}
@@ -34,14 +33,14 @@ module _ {w : List ℕ} {p r a b c : ℕ} where
       sym (put-behind-at w p (p + 3) (r ∷ a ∷ b ∷ []) (x ∷ []) refl) ∙ ap (λ u. put u (p + 3) (x ∷ [])) (has-same (has-front (r ∷ a ∷ b ∷ []) (c ∷ []) h))
 
 overRecords-restated : (k : ℕ) (x : SetState) (w : List ℕ) (s i : ℕ) (ss : List SetState) → k < length ss → x .list ≡ getD ss k noSet .list → Records w s i ss
-    → overRecords w s i (setsWith k x ss) ≡ put w (recordAt (s + k)) (recordOf (startOf k i ss) x)
+    → overRecords w s i (setsWith k x ss) ≡ put w (recordAt (s + k)) (recordOf (firstNode k i ss) x)
 unfolding overRecords
 overRecords-restated k x w s i [] lt e h = absurd (omega arith)
 overRecords-restated zero x w s i (z ∷ zs) lt e h =
     let a : s + 0 ≡ s = omega arith in
     let u = put w (recordAt s) (recordOf i x) in
     let g = records-put w (s + 1) (i + held z) zs (recordAt s) (recordOf i x) (λ j c d p q. omega arith) (h .1) in
-    rw a (ap (λ n. overRecords u (s + 1) (i + n) zs) (ap nodesL e) ∙ records-same u (s + 1) (i + held z) zs g)
+    rw a (ap (λ n. overRecords u (s + 1) (i + n) zs) (ap heldL e) ∙ records-same u (s + 1) (i + held z) zs g)
 overRecords-restated (suc k) x w s i (z ∷ zs) lt e h =
     let a : s + suc k ≡ s + 1 + k = omega arith in
     rw a (ap (λ u. overRecords u (s + 1) (i + held z) (setsWith k x zs)) (has-same (h .0)) ∙ overRecords-restated k x w (s + 1) (i + held z) zs (omega arith) e (h .1))
@@ -49,15 +48,15 @@ overRecords-restated (suc k) x w s i (z ∷ zs) lt e h =
 nodeWords-restated : (k : ℕ) (x : SetState) (ss : List SetState) → x .list ≡ getD ss k noSet .list → nodeWords (setsWith k x ss) ≡ nodeWords ss
 unfolding nodeWords
 nodeWords-restated k x [] e = refl
-nodeWords-restated zero x (s ∷ ss) e = ap (λ l. enc (trieOf l) ++ nodeWords ss) e
+nodeWords-restated zero x (s ∷ ss) e = ap (λ l. encL l ++ nodeWords ss) e
 nodeWords-restated (suc k) x (s ∷ ss) e = rw (nodeWords-restated k x ss e)
 
 module _ (w : List ℕ) (S : State) (k : ℕ) (d : decode w ≡ sound S) (lt : k < length (S .sets)) where
-  over-restated : (x : SetState) → x .list ≡ setAt S k .list → over w (withSet S k x) ≡ put w (recordAt k) (recordOf (startOf k 1 (S .sets)) x)
+  over-restated : (x : SetState) → x .list ≡ setAt S k .list → over w (withSet S k x) ≡ put w (recordAt k) (recordOf (firstNode k 1 (S .sets)) x)
   unfolding over withSet
   over-restated x e =
       let h = decode-sound w S d in
-      let xs = recordOf (startOf k 1 (S .sets)) x in
+      let xs = recordOf (firstNode k 1 (S .sets)) x in
       let r : overRecords w 0 1 (setsWith k x (S .sets)) ≡ put w (recordAt k) xs = rw (zero-add k) at (overRecords-restated k x w 0 1 (S .sets) lt e (h .holds .records)) in
       rw (length-setsWith k x (S .sets), has-same (h .header), r, nodeWords-restated k x (S .sets) e)
       (has-same (has-put (recordAt k) xs (has-at (omega arith) (h .holds .nodes)) (λ j a b c f. omega arith)))

@@ -1,5 +1,4 @@
--- The returns of a changing call, one law for each, by the tests on the way to it; and what becomes of a result that is counted and judged (`Result`).
--- Assumes nothing.
+-- The returns of a changing call, one law for each, by the tests on the way to it. Assumes nothing.
 use mathlib.Core.Path.{_≡_, refl, sym, ap, _∙_}
 use mathlib.Core.Bool.{Bool, true, false, not, cond}
 use mathlib.Core.List.{List, [], _∷_, _++_}
@@ -9,27 +8,19 @@ use native.Mathlib.Omega.{arith}
 use lib.Dec.{eqb}
 use borrow.Author.Tests.{eq-eqb, ne-eqb}
 use Rattle.nets.specs.Bits.{Bits}
-use Rattle.nets.specs.Lists.{nodesL}
-use Rattle.nets.specs.Tries.{Trie, size, listOf}
 use Rattle.nets.specs.Networks.{isFamily, inRange, refusalOf}
-use Rattle.nets.specs.Refusals.{number, Rule, firstNo}
+use Rattle.nets.specs.Refusals.{Rule, firstNo}
 use Rattle.nets.specs.declared.Net.{Net}
-use Rattle.nets.specs.declared.Refusal.{Refusal}
-use Rattle.nets.proofs.Answers.{number-some}
-use Rattle.nets.proofs.Nodes.{nodesL-listOf}
-use Rattle.nodes.specs.Words.{enc}
-use Rattle.pool_state.specs.States.{SetState, State, roomOf, admits}
+use Rattle.pool_state.specs.Kept.{heldL, encL}
+use Rattle.pool_state.specs.States.{SetState, State}
 use Rattle.pool_state.specs.Decode.{over, sound, decode}
-use Rattle.pool_state.specs.Rules.{verdictAs}
 use Rattle.pool_state.specs.Changes.{setAt, withSet, changeRules, changeNo, changeRule, wordsAfter, Changed, setWith, grantRules, relistRules, relistSet, Relisted, relistNo, netRules, isEmpty}
-use Rattle.pool_state.specs.Steps.{Refuses, Judges, relinked, Relink}
+use Rattle.pool_state.specs.Steps.{Refuses, relinked}
 use Rattle.pool_state.specs.declared.Survey.{Survey}
-use Rattle.pool_state.specs.declared.Verdict.{Verdict}
-use Rattle.pool_state.specs.declared.Verdict.the-variants as verdict
 use Rattle.pool_state.proofs.Answered.{owes-refused, owes-granted, owes-seat}
-use Rattle.pool_state.proofs.Seen.{Seen, behind}
-use Rattle.pool_state.proofs.Judged.{relistNo-known, grant-within}
-use Rattle.pool_state.proofs.Changed.{withTrie, over-change, relink-asks}
+use Rattle.pool_state.proofs.Seen.{Seen}
+use Rattle.pool_state.proofs.Judged.{relistNo-known}
+use Rattle.pool_state.proofs.Changed.{withWords, over-change}
 
 -- The number that a network gets in a pool of its family, and in another. In a pool's family a network is refused as 7 or not at all.
 pub refusalOf-known : (n : Net) → isFamily (n .family) ≡ true → (refusalOf n ≡ 0) ⊎ (refusalOf n ≡ 7)
@@ -97,44 +88,8 @@ module _ (a : State → List Rule) (f : State → List Bits) where
       pub change-judged : (x ≡ 0 → ⊥) → OwesRelist w k (x, 0) w
       change-judged ne = no judged ne
 
-      pub change-granted : {n : ℕ} {u y : List ℕ} (t : Trie) → x ≡ 0 → listOf t ≡ f S → size t ≡ n
-          → u ≡ withTrie w S k v t → y ≡ relinked u k (v .at) (v .held) n → OwesRelist w k (0, n) y
+      pub relist-granted : {n : ℕ} {u y : List ℕ} → x ≡ 0 → heldL (f S) ≡ n → u ≡ withWords w S k v (encL (f S)) → y ≡ relinked u k (v .at) (v .held) n → OwesRelist w k (0, n) y
       unfolding changeRule wordsAfter relistRules relistSet
-      change-granted {n} {u} {y} t q l e p g =
-          let o : y ≡ over w (withSet S k (setWith (setAt S k) (f S))) = g ∙ (rw (l, e) at (over-change h t p)) in
-          let i : nodesL (f S) ≡ n = ap nodesL (sym l) ∙ nodesL-listOf t ∙ e in
+      relist-granted {n} {u} {y} q i p g =
+          let o : y ≡ over w (withSet S k (setWith (setAt S k) (f S))) = g ∙ (rw i at (over-change h (f S) p)) in
           rw (o, ← i) (owes-granted _ 0 _ w _ (h .decoded) (judged ∙ q))
-
--- a call whose arguments are right, and whose result is the trie t, counted: it has m nodes; c says whether the set may have it as far as its mark goes
-pub record Result (w : List ℕ) (S : State) (k : ℕ) (v : Survey) (a : State → List Rule) (f : State → List Bits) (t : Trie) (c : Bool) (m : ℕ) : Type 0 where
-  pub seen : Seen w S k v
-  pub right : firstNo (a S) ≡ 0
-  pub list : listOf t ≡ f S
-  pub public : admits (S .family) (setAt S k) (f S) ≡ c
-  pub size : size t ≡ m
-
-module _ {w : List ℕ} {S : State} {k : ℕ} {v : Survey} {a : State → List Rule} {f : State → List Bits} {t : Trie} {c : Bool} {m : ℕ} {r : Verdict} (h : Result w S k v a f t c m)
-    (j : Judges w k c m r) where
-  nodes : nodesL (f S) ≡ m
-  nodes = ap nodesL (sym (h .list)) ∙ nodesL-listOf t ∙ h .size
-
-  says : verdictAs r ≡ firstNo (grantRules S k (f S))
-  says = j .verdict S (f S) (h .seen .decoded) (h .public) nodes
-
-  pub result-refused : (x : Refusal) → r ≡ verdict.No x → Relisted w k a f (number x, 0) w
-  result-refused x e = changed (change-judged a f (h .seen) (h .right) (ap verdictAs (sym e) ∙ says) (number-some x))
-
-  -- it is granted, and written
-  module _ (z : r ≡ verdict.Fits) where
-    fits : 0 ≡ firstNo (grantRules S k (f S))
-    fits = ap verdictAs (sym z) ∙ says
-
-    pub result-fits : m ≤ roomOf S k
-    result-fits = let g = grant-within S k (f S) (sym fits) .1 in omega (arith, nodes)
-
-    module _ {u : List ℕ} (e : u ≡ withTrie w S k v t) where
-      pub result-relinks : Relink u k (v .held) m
-      result-relinks = relink-asks (h .seen) (enc t ++ behind S k) result-fits e
-
-      pub result-granted : {x : ℕ × ℕ} {y : List ℕ} → x ≡ (0, m) → y ≡ relinked u k (v .at) (v .held) m → Relisted w k a f x y
-      result-granted q p = changed (rw q (change-granted a f (h .seen) (h .right) fits t refl (h .list) (h .size) e p))

@@ -1,30 +1,27 @@
 -- What a survey says of the state (`Seen`): its numbers are those of the decoded state. So they are in order among the numbers of the words (`Figures`), and the words of
--- its set, and those before and behind it, stand where they say. Assumes nothing.
+-- its set's list, and those before and behind it, stand where they say. Assumes nothing.
 use mathlib.Core.Path.{_≡_, refl, sym, ap, _∙_}
 use mathlib.Core.Bool.{true, false, false≢true, true≢false}
 use mathlib.Core.List.{List, [], _++_}
 use Prim.Native.Nat.{ℕ, suc, _+_, _-_, _≤_, _<_}
 use native.Mathlib.Omega.{arith}
 use lib.ListN.{length, getD, take, drop, length-append}
-use Rattle.nets.specs.Lists.{nodesL}
-use Rattle.nets.specs.Tries.{Trie, size, levels, listOf, trieOf}
-use Rattle.nets.proofs.Nodes.{nodesL-empty}
-use Rattle.nodes.specs.Words.{Has, enc, place}
+use Rattle.nets.specs.Lists.{isList}
+use Rattle.nets.specs.Networks.{width}
+use Rattle.nodes.specs.Words.{Has, place}
+use Rattle.pool_state.specs.Kept.{heldL, encL}
 use Rattle.pool_state.specs.States.{State, held, used, claimed, isState}
 use Rattle.pool_state.specs.Decode.{recordAt, base, leastWords, nodeWords, Decoded, damaged, sound, decode}
-use Rattle.pool_state.specs.Rules.{startOf, surveyOf}
-use Rattle.pool_state.specs.Changes.{setAt}
+use Rattle.pool_state.specs.Rules.{firstNode, surveyOf}
+use Rattle.pool_state.specs.Changes.{setAt, listAt}
 use Rattle.pool_state.specs.Steps.{Refuses, Surveyed, behindAt}
 use Rattle.pool_state.specs.declared.Survey.{Survey}
-use Rattle.nodes.specs.Segments.{Segment}
-use Rattle.nodes.proofs.Has.{has-front, has-back, has-at, has-seg, has-join}
-use Rattle.nodes.proofs.Segments.{none-is}
-use Rattle.nodes.proofs.Tries.{length-enc}
+use Rattle.nodes.proofs.Has.{has-front, has-back, has-at, has-seg}
+use Rattle.pool_state.proofs.Kept.{length-encL, heldL-nil, heldL-none}
 use Rattle.pool_state.proofs.Claims.{isState-claimed, used-claimed, claimedBut-is}
 use Rattle.pool_state.proofs.Header.{IsHeader, isHeader-header}
-use Rattle.pool_state.proofs.Holds.{set-listOf, set-size}
 use Rattle.pool_state.proofs.Encoded.{HeaderOf}
-use Rattle.pool_state.proofs.Decoded.{decode-header, decode-state, decode-has, decode-used, decode-set, decode-share, decode-at, decode-parts}
+use Rattle.pool_state.proofs.Decoded.{decode-header, decode-state, decode-has, decode-used, decode-share, decode-list, decode-parts}
 
 -- the words hold the state S, which has a set k, and v is what a pass over them finds out
 pub record Seen (w : List ℕ) (S : State) (k : ℕ) (v : Survey) : Type 0 where
@@ -32,7 +29,7 @@ pub record Seen (w : List ℕ) (S : State) (k : ℕ) (v : Survey) : Type 0 where
   pub known : k < length (S .sets)
   pub used : v .used ≡ used (S .sets)
   pub claimed : v .claimed ≡ claimed (S .sets)
-  pub at : v .at ≡ startOf k 1 (S .sets)
+  pub at : v .at ≡ firstNode k 1 (S .sets)
   pub held : v .held ≡ held (setAt S k)
 
 -- A survey is of sound words, or says that there is no state.
@@ -99,15 +96,12 @@ pub record Figures (w : List ℕ) (k : ℕ) (v : Survey) : Type 0 where
   pub share : getD w (recordAt k + 1) 0 ≤ v .claimed
   pub held : v .held ≤ v .claimed
 
--- where the trie of the set begins; the words of the sets before it, its trie, the words of the sets behind it
+-- where the nodes of the set begin; the words of the sets before it, and of those behind it
 abbrev pub placeOf : List ℕ → Survey → ℕ
 placeOf w v = place (base (getD w 2 0)) (v .at)
 
 abbrev pub before : State → ℕ → List ℕ
 before S k = nodeWords (take k (S .sets))
-
-abbrev pub trieAt : State → ℕ → Trie
-trieAt S k = trieOf (setAt S k .list)
 
 abbrev pub behind : State → ℕ → List ℕ
 behind S k = nodeWords (drop (suc k) (S .sets))
@@ -119,23 +113,26 @@ module _ {w : List ℕ} {S : State} {k : ℕ} {v : Survey} (h : Seen w S k v) wh
   pub seen-header : HeaderOf w S
   seen-header = decode-header w S (h .decoded)
 
-  pub own-length : length (enc (trieAt S k)) ≡ v .held
-  own-length = length-enc (trieAt S k) ∙ set-size (S .family) (setAt S k) (decode-set w S (h .decoded) k (h .known) .rules) ∙ sym (h .held)
+  own-list : isList (width (S .family)) (listAt S k) ≡ true
+  own-list = decode-list w S (h .decoded) k (h .known) .list
+
+  pub own-length : length (encL (listAt S k)) ≡ v .held
+  own-length = length-encL (width (S .family)) (listAt S k) own-list ∙ sym (h .held)
 
   pub before-length : v .at ≡ 1 + length (before S k)
   before-length = h .at ∙ decode-parts w S (h .decoded) k (h .known) .1
 
-  parts : nodeWords (S .sets) ≡ before S k ++ (enc (trieAt S k) ++ behind S k)
+  parts : nodeWords (S .sets) ≡ before S k ++ (encL (listAt S k) ++ behind S k)
   parts = decode-parts w S (h .decoded) k (h .known) .0
 
-  parts-has : Has w (base (length (S .sets))) (before S k ++ (enc (trieAt S k) ++ behind S k))
+  parts-has : Has w (base (length (S .sets))) (before S k ++ (encL (listAt S k) ++ behind S k))
   parts-has = rw parts at (decode-has w S (h .decoded))
 
   pub before-has : Has w (base (length (S .sets))) (before S k)
-  before-has = has-front (before S k) (enc (trieAt S k) ++ behind S k) parts-has
+  before-has = has-front (before S k) (encL (listAt S k) ++ behind S k) parts-has
 
-  pub own-has : Has w (placeOf w v) (enc (trieAt S k))
-  own-has = has-at (omega (arith, h .at, seen-header .sets)) (decode-at w S (h .decoded) k (h .known) .has)
+  pub own-has : Has w (placeOf w v) (encL (listAt S k))
+  own-has = has-at (omega (arith, h .at, seen-header .sets)) (decode-list w S (h .decoded) k (h .known) .has)
 
   pub behind-length : v .at + v .held + length (behind S k) ≡ v .used + 1
   behind-length =
@@ -146,12 +143,12 @@ module _ {w : List ℕ} {S : State} {k : ℕ} {v : Survey} (h : Seen w S k v) wh
         h .used,
         decode-used w S (h .decoded) .0,
         ap length parts,
-        length-append (before S k) (enc (trieAt S k) ++ behind S k),
-        length-append (enc (trieAt S k)) (behind S k),
+        length-append (before S k) (encL (listAt S k) ++ behind S k),
+        length-append (encL (listAt S k)) (behind S k),
       )
 
   pub behind-has : Has w (place (base (length (S .sets))) (v .at + v .held)) (behind S k)
-  behind-has = has-at (omega (arith, before-length, own-length)) (has-back (enc (trieAt S k)) (behind S k) (has-back (before S k) (enc (trieAt S k) ++ behind S k) parts-has))
+  behind-has = has-at (omega (arith, before-length, own-length)) (has-back (encL (listAt S k)) (behind S k) (has-back (before S k) (encL (listAt S k) ++ behind S k) parts-has))
 
   -- in words in which they still stand
   pub behindAt-is : {u : List ℕ} → Has u (place (base (length (S .sets))) (v .at + v .held)) (behind S k) → behindAt u (base (getD w 2 0)) v ≡ behind S k
@@ -178,32 +175,12 @@ module _ {w : List ℕ} {S : State} {k : ℕ} {v : Survey} (h : Seen w S k v) wh
         held = omega (arith, h .held, h .claimed);
       }
 
-  -- the trie of the set: it lists the set's networks, and stands where the survey says with the sets behind it behind it
-  pub seen-list : listOf (trieAt S k) ≡ setAt S k .list
-  seen-list = set-listOf (S .family) (setAt S k) (decode-set w S (h .decoded) k (h .known) .rules)
-
-  pub seen-size : size (trieAt S k) ≡ v .held
-  seen-size = sym (length-enc (trieAt S k)) ∙ own-length
-
   -- a set has no node exactly if its list is empty
   pub seen-empty : v .held ≡ 0 → setAt S k .list ≡ []
-  unfolding listOf levels
-  seen-empty e = sym seen-list ∙ ap listOf (none-is (trieAt S k) (seen-size ∙ e))
+  seen-empty e = heldL-none (listAt S k) (sym (h .held) ∙ e)
 
   pub seen-some : (v .held ≡ 0 → ⊥) → setAt S k .list ≡ [] → ⊥
-  seen-some ne e = ne (h .held ∙ ap nodesL e ∙ nodesL-empty)
-
-  pub seen-segment : Segment w (base (getD w 2 0)) (v .at) (v .at + v .held) (v .used + 1) (trieAt S k) (behind S k)
-  seen-segment =
-      let f = seen-figures in
-      record {
-        has = has-join _ _ own-has (has-at (omega (arith, f .first, own-length, seen-header .sets)) behind-has);
-        one = f .first;
-        end = omega (arith, seen-size);
-        used = omega (arith, behind-length);
-        few = omega (arith, f .used, f .claimed, f .nodes);
-        low = omega (arith, f .sets);
-      }
+  seen-some ne e = ne (h .held ∙ ap heldL e ∙ heldL-nil)
 
 pub figures : {w : List ℕ} {k : ℕ} {v : Survey} → Surveyed w k v → Figures w k v
 figures h = seen-figures (seen h .1)

@@ -10,10 +10,9 @@ use lib.Dec.{eqb, leb}
 use lib.ListN.{length, getD, set, drop, replicate, length-set, drop-of-length-le}
 use lib.Seq.{drop-cons}
 use borrow.Author.Tests.{le-leb, lt-leb, eq-eqb, ne-eqb, leb-true, eqb-true}
-use Rattle.nets.specs.Tries.{trieOf}
-use Rattle.nets.specs.Lists.{nodesL}
 use Rattle.nets.proofs.Strings.{and-left, and-right, bool-iff}
-use Rattle.nodes.specs.Words.{put, enc}
+use Rattle.nodes.specs.Words.{put}
+use Rattle.pool_state.proofs.Kept.{heldL-nil, encL-nil}
 use Rattle.pool_state.specs.States.{isSize}
 use Rattle.nets.specs.Networks.{isFamily}
 use Rattle.pool_state.specs.Decode.{mark, recordAt, leastWords, overRecords, nodeWords, over}
@@ -164,8 +163,9 @@ records-start shares limits w = record { within = omega arith; long = refl; rest
 
 overRecords-empty : (w : List ℕ) (s x y : ℕ) (shares limits : List ℕ) →
     overRecords (put w (recordAt s) (0 ∷ x ∷ y ∷ 0 ∷ [])) (s + 1) 1 (emptySets shares limits) ≡ overRecords w s 1 (emptySets (x ∷ shares) (y ∷ limits))
-unfolding overRecords nodesL
-overRecords-empty w s x y shares limits = refl
+unfolding overRecords
+overRecords-empty w s x y shares limits =
+    ap (λ n. overRecords (put w (recordAt s) (0 ∷ x ∷ y ∷ 0 ∷ [])) (s + 1) (1 + n) (emptySets shares limits)) (sym heldL-nil)
 
 module _ {shares limits w₀ w : List ℕ} {s : ℕ} (h : Recording shares limits w₀ w s) where
   pub records-turn : length shares ≡ length limits → s < length shares →
@@ -190,10 +190,10 @@ length-emptySets (x ∷ shares) [] e = absurd (omega arith)
 length-emptySets (x ∷ shares) (y ∷ limits) e = ap suc (length-emptySets shares limits (omega arith))
 
 nodeWords-emptySets : (shares limits : List ℕ) → nodeWords (emptySets shares limits) ≡ []
-unfolding nodeWords trieOf enc
+unfolding nodeWords
 nodeWords-emptySets [] limits = refl
 nodeWords-emptySets (x ∷ shares) [] = refl
-nodeWords-emptySets (x ∷ shares) (y ∷ limits) = nodeWords-emptySets shares limits
+nodeWords-emptySets (x ∷ shares) (y ∷ limits) = rw encL-nil (nodeWords-emptySets shares limits)
 
 -- layout: the two answers, by the test and what the writes leave
 module _ (w : List ℕ) (p : Setup) where

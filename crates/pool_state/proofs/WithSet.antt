@@ -12,10 +12,10 @@ use Rattle.nets.specs.Bits.{Bits}
 use Rattle.nets.specs.Lists.{isList}
 use Rattle.nets.specs.Networks.{width}
 use Rattle.nets.proofs.Strings.{and-left, and-right}
-use Rattle.pool_state.specs.States.{SetState, State, held, claim, used, claimed, claimedBut, freeOf, roomOf, admits, isSet, areSets, isState}
+use Rattle.pool_state.specs.States.{SetState, State, held, claim, used, claimed, roomOf, admits, isSet, areSets, isState}
 use Rattle.pool_state.specs.Rules.{noSet}
 use Rattle.pool_state.specs.Changes.{setAt, listAt, setsWith, withSet, fits, setWith}
-use Rattle.pool_state.proofs.Claims.{isState-family, isState-size, isState-sets, isState-claimed, areSets-head, areSets-tail, claimedBut-is, freeOf-is}
+use Rattle.pool_state.proofs.Claims.{isState-family, isState-size, isState-sets, isState-claimed, areSets-head, areSets-tail, claimedBut-is}
 
 -- Sets.
 pub length-setsWith : (k : ℕ) (x : SetState) (ss : List SetState) → length (setsWith k x ss) ≡ length ss
@@ -47,12 +47,6 @@ claimed-setsWith k x [] lt = absurd (omega arith)
 claimed-setsWith zero x (s ∷ ss) lt = omega arith
 claimed-setsWith (suc k) x (s ∷ ss) lt = omega (arith, claimed-setsWith k x ss (omega arith))
 
-claimedBut-setsWith : (k : ℕ) (x : SetState) (ss : List SetState) → claimedBut k (setsWith k x ss) ≡ claimedBut k ss
-unfolding claimedBut
-claimedBut-setsWith k x [] = refl
-claimedBut-setsWith zero x (s ∷ ss) = refl
-claimedBut-setsWith (suc k) x (s ∷ ss) = rw (claimedBut-setsWith k x ss)
-
 areSets-setsWith : (f k : ℕ) (x : SetState) (ss : List SetState) → areSets f ss ≡ true → isSet f x ≡ true → areSets f (setsWith k x ss) ≡ true
 areSets-setsWith f k x [] e i = refl
 areSets-setsWith f zero x (s ∷ ss) e i = rw i (areSets-tail f s ss e)
@@ -82,10 +76,6 @@ module _ (S : State) (k : ℕ) (x : SetState) where
   pub withSet-other : (j : ℕ) → (j ≡ k → ⊥) → setAt (withSet S k x) j ≡ setAt S j
   unfolding withSet
   withSet-other j ne = setsWith-other k j x (S .sets) ne
-
-  pub withSet-room : roomOf (withSet S k x) k ≡ roomOf S k
-  unfolding withSet
-  withSet-room = rw (claimedBut-setsWith k x (S .sets))
 
 module _ (S : State) (k : ℕ) (l : List Bits) where
   pub withSet-list : k < length (S .sets) → listAt (withSet S k (setWith (setAt S k) l)) k ≡ l
@@ -146,7 +136,3 @@ module _ (S : State) (k : ℕ) (e : isState S ≡ true) (lt : k < length (S .set
           areSets-setsWith (S .family) k x (S .sets) (isState-sets S e) s,
         )
         (le-leb _ _ c)
-
-    pub withSet-free : isState (withSet S k x) ≡ true → freeOf (withSet S k x) + held x ≡ freeOf S + held (setAt S k)
-    unfolding withSet
-    withSet-free i = omega (arith, used-setsWith k x (S .sets) lt, freeOf-is S e, freeOf-is (withSet S k x) i)

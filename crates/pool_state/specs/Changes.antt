@@ -30,11 +30,11 @@ use Prim.Native.Nat.{ℕ, zero, suc}
 use lib.Dec.{eqb, leb, ltb}
 use lib.ListN.{getD}
 use Rattle.nets.specs.Bits.{Bits}
-use Rattle.nets.specs.Lists.{nodesL}
 use Rattle.nets.specs.Refusals.{Rule, firstNo}
 use Rattle.nets.specs.Networks.{refusalOf}
 use Rattle.nets.specs.declared.Net.{Net}
 use Rattle.nets.specs.declared.Refusal.the-variants.{WrongFamily, BadNetwork, Occupied, OverLimit, NoRoom, BadShare, NotPublic}
+use Rattle.pool_state.specs.Kept.{heldL}
 use Rattle.pool_state.specs.States.{SetState, State, held, claim, roomOf, admits}
 use Rattle.pool_state.specs.Decode.{Decoded, over, decode}
 use Rattle.pool_state.specs.Rules.{answerOn, leftOn, unknown, noSet}
@@ -107,7 +107,7 @@ setWith s l = record { share = s .share; limit = s .limit; public = s .public; l
 
 abbrev pub grantRules : State → ℕ → List Bits → List Rule
 grantRules S k l =
-    (not (admits (S .family) (setAt S k) l), NotPublic) ∷ (ltb (setAt S k .limit) (nodesL l), OverLimit) ∷ (ltb (roomOf S k) (nodesL l), NoRoom) ∷ []
+    (not (admits (S .family) (setAt S k) l), NotPublic) ∷ (ltb (setAt S k .limit) (heldL l), OverLimit) ∷ (ltb (roomOf S k) (heldL l), NoRoom) ∷ []
 
 unfoldable pub relistRules : ℕ → (State → List Rule) → (State → List Bits) → State → List Rule
 relistRules k a f S = a S ++ grantRules S k (f S)

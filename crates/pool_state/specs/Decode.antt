@@ -1,5 +1,5 @@
 -- Words and states. Words 0 to 3 of a pool are a mark, the family, the sets and the nodes. The record of set s stands at 64 + 8 s: the number of its root (0: the
--- list is empty), its share, its limit, and 1 where it is public-only, else 0. The nodes stand from 64 + 8 sets on, node i in one word: the tries of the sets one behind the other, each in preorder.
+-- list is empty), its share, its limit, and 1 where it is public-only, else 0. The nodes stand from 64 + 8 sets on, node i in one word: the lists of the sets one behind the other.
 --
 --   over w S      the words w with the state S written over them
 --   decode w      the state that the words hold, or damaged
@@ -9,10 +9,9 @@ use Prim.Native.Nat.{ℕ, zero, suc, _+_, _*_}
 use lib.Dec.{eqb, leb}
 use lib.ListN.{length, getD}
 use Rattle.nets.specs.Bits.{Bits, digit}
-use Rattle.nets.specs.Tries.{Trie, none, size, listOf, trieOf}
 use Rattle.nets.specs.Networks.{isFamily, width}
-use Rattle.nodes.specs.Words.{put, enc}
-use Rattle.nodes.specs.Parse.{Read, bad, ok, parse}
+use Rattle.nodes.specs.Words.{put}
+use Rattle.pool_state.specs.Kept.{heldL, encL, ReadList, badList, okList, readL}
 use Rattle.pool_state.specs.States.{SetState, State, held, claimed, keepsRules, isSize}
 
 abbrev pub mark : ℕ
@@ -40,7 +39,7 @@ overRecords w s i (x ∷ xs) = overRecords (put w (recordAt s) (rootAt i (x .lis
 
 unfoldable pub nodeWords : List SetState → List ℕ
 nodeWords [] = []
-nodeWords (x ∷ xs) = enc (trieOf (x .list)) ++ nodeWords xs
+nodeWords (x ∷ xs) = encL (x .list) ++ nodeWords xs
 
 unfoldable pub over : List ℕ → State → List ℕ
 over w S =
@@ -59,16 +58,16 @@ isHeader w =
     (eqb (getD w 0 0) mark && isFamily (getD w 1 0))
     && (isSize (getD w 2 0) (getD w 3 0) && leb (leastWords (getD w 2 0) (getD w 3 0)) (length w))
 
--- the trie of set s, where the next number that is not placed is i, and the node of a set begins there or nowhere
-unfoldable pub readSet : List ℕ → ℕ → ℕ → ℕ → ℕ → ℕ → Read
-readSet w b n f s i = cond (eqb (getD w (recordAt s) 0) 0) (ok none) (cond (eqb (getD w (recordAt s) 0) i) (parse w b n f i) bad)
+-- the list of set s, where the next number that is not placed is i, and the nodes of a set begin there or nowhere
+unfoldable pub readSet : List ℕ → ℕ → ℕ → ℕ → ℕ → ℕ → ReadList
+readSet w b n f s i = cond (eqb (getD w (recordAt s) 0) 0) (okList []) (cond (eqb (getD w (recordAt s) 0) i) (readL w b n f i) badList)
 
-abbrev pub setOf : List ℕ → ℕ → Trie → SetState
-setOf w s t = record { share = getD w (recordAt s + 1) 0; limit = getD w (recordAt s + 2) 0; public = eqb (getD w (recordAt s + 3) 0) 1; list = listOf t }
+abbrev pub setOf : List ℕ → ℕ → List Bits → SetState
+setOf w s l = record { share = getD w (recordAt s + 1) 0; limit = getD w (recordAt s + 2) 0; public = eqb (getD w (recordAt s + 3) 0) 1; list = l }
 
 -- the word that says whether it is public-only is one of the two, and the set is within its rules
-abbrev pub isRight : List ℕ → ℕ → ℕ → Trie → Bool
-isRight w f s t = leb (getD w (recordAt s + 3) 0) 1 && keepsRules f (setOf w s t)
+abbrev pub isRight : List ℕ → ℕ → ℕ → List Bits → Bool
+isRight w f s l = leb (getD w (recordAt s + 3) 0) 1 && keepsRules f (setOf w s l)
 
 -- the set before the others, where c says that it is right
 abbrev pub setBefore : Bool → SetState → ReadSets → ReadSets
@@ -80,8 +79,8 @@ unfoldable pub readSets : List ℕ → ℕ → ℕ → ℕ → ℕ → ℕ → �
 readSets w b n f zero s i = okSets []
 readSets w b n f (suc m) s i =
     elim (readSet w b n (suc (width f)) s i) [
-      | bad ↦ badSets
-      | ok t ↦ setBefore (isRight w f s t) (setOf w s t) (readSets w b n f m (s + 1) (i + size t))
+      | badList ↦ badSets
+      | okList l ↦ setBefore (isRight w f s l) (setOf w s l) (readSets w b n f m (s + 1) (i + heldL l))
     ]
 
 abbrev pub judged : List ℕ → ReadSets → Decoded

@@ -1,5 +1,6 @@
--- What a reader must believe of a pool: the state, the words that hold it, the rules of the calls that change no list and of those that do. Steps is what the
+-- What a reader must believe of a pool: how it keeps a list, the state, the words that hold it, the rules of the calls that change no list and of those that do. Steps is what the
 -- inner functions ask and leave.
+pub mod Kept
 pub mod States
 pub mod Decode
 pub mod Rules

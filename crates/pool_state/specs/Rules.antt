@@ -148,23 +148,23 @@ abbrev pub noSurvey : Survey
 noSurvey = record { sound = false; used = 0; claimed = 0; at = 0; held = 0 }
 
 -- the number of the first node of set k, or where it would stand, if the first set's is i
-abbrev pub startOf : ℕ → ℕ → List SetState → ℕ
-startOf k i [] = 0
-startOf zero i (s ∷ ss) = i
-startOf (suc k) i (s ∷ ss) = startOf k (i + held s) ss
+abbrev pub firstNode : ℕ → ℕ → List SetState → ℕ
+firstNode k i [] = 0
+firstNode zero i (s ∷ ss) = i
+firstNode (suc k) i (s ∷ ss) = firstNode k (i + held s) ss
 
 unfoldable pub surveyOf : Decoded → ℕ → Survey
 surveyOf damaged k = noSurvey
 surveyOf (sound S) k =
-    record { sound = true; used = used (S .sets); claimed = claimed (S .sets); at = startOf k 1 (S .sets); held = held (getD (S .sets) k noSet) }
+    record { sound = true; used = used (S .sets); claimed = claimed (S .sets); at = firstNode k 1 (S .sets); held = held (getD (S .sets) k noSet) }
 
 abbrev pub seatAt : State → ℕ → Seat
 seatAt S k =
     record {
       family = S .family;
       base = base (length (S .sets));
-      first = startOf k 1 (S .sets);
-      end = startOf k 1 (S .sets) + held (getD (S .sets) k noSet);
+      first = firstNode k 1 (S .sets);
+      end = firstNode k 1 (S .sets) + held (getD (S .sets) k noSet);
     }
 
 abbrev pub seatOf : List ℕ → Survey → Seat

@@ -13,9 +13,10 @@ use Prim.Native.Nat.{ℕ, zero, suc, _+_, _-_, max}
 use lib.Dec.{leb}
 use lib.ListN.{length}
 use Rattle.nets.specs.Bits.{Bits}
-use Rattle.nets.specs.Lists.{isList, nodesL}
+use Rattle.nets.specs.Lists.{isList}
 use Rattle.nets.specs.Networks.{isFamily, width}
 use Rattle.inner_nets.specs.Inner.{isPublic}
+use Rattle.pool_state.specs.Kept.{heldL}
 
 pub record SetState : Type 0 where
   pub share : ℕ
@@ -29,7 +30,7 @@ pub record State : Type 0 where
   pub sets : List SetState
 
 abbrev pub held : SetState → ℕ
-held s = nodesL (s .list)
+held s = heldL (s .list)
 
 abbrev pub claim : SetState → ℕ
 claim s = max (s .share) (held s)

@@ -1,6 +1,6 @@
 -- The outcomes of ranges: the call has one, and on a sound pool the rows are the fewest ranges of the set, ascending and apart, and the only such ones.
 -- Assumes nothing.
-use mathlib.Core.Path.{_≡_, refl, sym, ap, _∙_}
+use mathlib.Core.Path.{_≡_, ap, _∙_}
 use mathlib.Core.Bool.{true}
 use mathlib.Core.List.{List}
 use Prim.Native.Nat.{ℕ, _*_, _≤_, _<_}
@@ -10,7 +10,6 @@ use lib.ListN.{length, getD}
 use Rattle.nets.specs.Lists.{isList}
 use Rattle.nets.specs.Networks.{width}
 use Rattle.nets.specs.declared.Refusal.the-variants.{Damaged, NoSet, ShortBuffer}
-use Rattle.nets.proofs.Answers.{number-some}
 use Rattle.ranges.specs.Ranges.{Range, spaced, Covering}
 use Rattle.ranges.specs.Addresses.{rangeRows}
 use Rattle.ranges.proofs.OfLists.{ranges-covering, ranges-spaced, ranges-fewest, ranges-one}
@@ -21,15 +20,14 @@ use Rattle.pool_state.specs.Decode.{damaged, sound, decode}
 use Rattle.pool_state.specs.Changes.{listAt}
 use Rattle.pool_state.specs.declared.Answer.{Answer}
 use Rattle.pool_state.specs.declared.Answer.the-variants as answer
-use Rattle.pool_state.proofs.Answered.{owes-damaged, owes-refused, owes-granted, owes-seat, firstNo-short, firstNo-fits}
-use Rattle.pool_state.proofs.Determined.{answerAs-one, owed-one}
+use Rattle.pool_state.proofs.Filled.{filled-one, filled-damaged, filled-noset, filled-short, filled-whole}
 use Rattle.listing.proofs.Seats.{sits-at}
 use Rattle.trie_ranges.proofs.Standing.{length-rangeRows}
-use Rattle.rangelist.specs.Calls.{rangesAt, rangesRules, rangesRule, rowsAfter, Ranges}
-use Rattle.rangelist.proofs.Calls.{sits-isList}
+use Rattle.rangelist.specs.Calls.{rangesAt, Ranges}
+use Rattle.rangelist.proofs.Calls.{ranges-fills, sits-isList}
 
 pub ranges-determined : {w v u x : List ℕ} {k : ℕ} {r s : Answer} → Ranges w k v r u → Ranges w k v s x → (r ≡ s) × (u ≡ x)
-ranges-determined {r = r} {s = s} g h = (answerAs-one r s (g .answer ∙ sym (h .answer)), g .rows ∙ sym (h .rows))
+ranges-determined g h = filled-one (ranges-fills g) (ranges-fills h)
 
 -- What the ranges of a set are, in every state that words hold.
 module _ (w : List ℕ) (S : State) (k : ℕ) (d : decode w ≡ sound S) (lt : k < length (S .sets)) where
@@ -55,23 +53,18 @@ module _ (w : List ℕ) (S : State) (k : ℕ) (d : decode w ≡ sound S) (lt : k
 -- Damaged words, a set that is not there and a short buffer are refused, and the rows stay; else they begin with the ranges.
 module _ {w v u : List ℕ} {k : ℕ} {r : Answer} (h : Ranges w k v r u) where
   pub ranges-damaged : decode w ≡ damaged → (r ≡ answer.Refused Damaged) × (u ≡ v)
-  unfolding rangesRule rowsAfter
-  ranges-damaged d = owed-one r (answer.Refused Damaged) (h .answer, h .rows) (owes-damaged _ 0 _ v _ d)
+  ranges-damaged = filled-damaged (ranges-fills h)
 
   module _ (S : State) (d : decode w ≡ sound S) where
     pub ranges-noset : length (S .sets) ≤ k → (r ≡ answer.Refused NoSet) × (u ≡ v)
-    unfolding rangesRule rowsAfter rangesRules
-    ranges-noset le = owed-one r (answer.Refused NoSet) (h .answer, h .rows) (owes-seat _ 0 _ v _ (decode w) k (rw d (le, refl)))
+    ranges-noset = filled-noset (ranges-fills h) S d
 
     module _ (lt : k < length (S .sets)) where
       pub ranges-small : length v < 4 * length (rangesAt S k) → (r ≡ answer.Refused ShortBuffer) × (u ≡ v)
-      unfolding rangesRule rowsAfter rangesRules
-      ranges-small less =
-          owed-one r (answer.Refused ShortBuffer) (h .answer, h .rows) (owes-refused _ 0 _ v _ d (firstNo-short S k lt less) (number-some ShortBuffer))
+      ranges-small = filled-short (ranges-fills h) S d lt
 
       pub ranges-rows : 4 * length (rangesAt S k) ≤ length v → (r ≡ answer.Granted (length (rangesAt S k))) × (u ≡ put v 0 (rangeRows (rangesAt S k)))
-      unfolding rangesRule rowsAfter rangesRules
-      ranges-rows le = owed-one r (answer.Granted (length (rangesAt S k))) (h .answer, h .rows) (owes-granted _ 0 _ v _ d (firstNo-fits S k lt le))
+      ranges-rows = filled-whole (ranges-fills h) S d lt
 
       -- number by number: no row is lost, the ranges come first, and what is past them stays
       module _ (le : 4 * length (rangesAt S k) ≤ length v) where

@@ -11,10 +11,11 @@ use Rattle.nodes.proofs.Put.{length-put}
 use Rattle.pool_state.specs.Decode.{base}
 use Rattle.pool_state.specs.Steps.{behindAt}
 use Rattle.pool_state.specs.declared.Survey.{Survey}
+use Rattle.pool_state.proofs.Kept.{heldL-is}
 use Rattle.setfile_build.specs.Building.{Fillable}
-use Rattle.setfile.specs.LoadSteps.{Writable, written}
+use Rattle.setfile.specs.LoadSteps.{FileFits, withFile}
 
-module _ {w : List ℕ} {v : Survey} {d : List ℕ} {f n : ℕ} {l : List Bits} (g : Writable w v d f n l) {z : List ℕ} (e : z ≡ put w (place (base (getD w 2 0)) (v .at + n)) (behindAt w (base (getD w 2 0)) v)) where
+module _ {w : List ℕ} {v : Survey} {d : List ℕ} {f n : ℕ} {l : List Bits} (g : FileFits w v d f n l) {z : List ℕ} (e : z ≡ put w (place (base (getD w 2 0)) (v .at + n)) (behindAt w (base (getD w 2 0)) v)) where
   opened : length z ≡ length w
   opened = rw e (length-put w (place (base (getD w 2 0)) (v .at + n)) (behindAt w (base (getD w 2 0)) v))
 
@@ -24,9 +25,9 @@ module _ {w : List ℕ} {v : Survey} {d : List ℕ} {f n : ℕ} {l : List Bits} 
       record {
         reads = g .reads;
         one = k .first;
-        few = omega (arith, k .last, g .few, g .nodes, g .empty);
-        room = omega (arith, opened, k .first, k .last, k .room, g .nodes, g .empty);
+        few = omega (arith, k .last, g .few, heldL-is l, g .nodes, g .empty);
+        room = omega (arith, opened, k .first, k .last, k .room, heldL-is l, g .nodes, g .empty);
       }
 
-  pub write-wrote : {y : List ℕ} → y ≡ put z (place (base (getD w 2 0)) (v .at)) (enc (trieOf l)) → y ≡ written w v n l
+  pub write-wrote : {y : List ℕ} → y ≡ put z (place (base (getD w 2 0)) (v .at)) (enc (trieOf l)) → y ≡ withFile w v n l
   write-wrote q = q ∙ ap (λ x. put x (place (base (getD w 2 0)) (v .at)) (enc (trieOf l))) e

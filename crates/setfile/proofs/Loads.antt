@@ -14,22 +14,25 @@ use Rattle.nets.specs.declared.Refusal.{Refusal}
 use Rattle.nets.specs.declared.Refusal.the-variants.{BadFile, WrongFamily, Occupied}
 use Rattle.nets.proofs.Answers.{number-some}
 use Rattle.nodes.specs.declared.seats.Seat.{Seat}
+use Rattle.pool_state.specs.Kept.{heldL}
 use Rattle.pool_state.specs.States.{State, roomOf, admits}
 use Rattle.pool_state.specs.Decode.{decode}
 use Rattle.pool_state.specs.Changes.{setAt, listAt}
 use Rattle.pool_state.specs.Steps.{Refuses}
 use Rattle.pool_state.specs.declared.Survey.{Survey}
+use Rattle.pool_state.proofs.Kept.{heldL-is}
 use Rattle.pool_state.proofs.Decoded.{decode-header}
 use Rattle.pool_state.proofs.Seats.{Seats, seats-family}
 use Rattle.pool_state.proofs.Seen.{Seen, seen, seen-figures, seen-empty, seen-some}
-use Rattle.pool_state.proofs.Changed.{withTrie, behind-first, gap-asks}
-use Rattle.pool_state.proofs.Returns.{Result, changed, isEmpty-some, change-seat, change-args}
+use Rattle.pool_state.proofs.Changed.{shift-asks}
+use Rattle.pool_state.proofs.OnTries.{withTrie, behind-first, Result}
+use Rattle.pool_state.proofs.Returns.{changed, isEmpty-some, change-seat, change-args}
 use Rattle.setfile_format.specs.Files.{File, broken, file, readFile}
 use Rattle.setfile_order.specs.Flow.{checkedOf}
 use Rattle.setfile_order.specs.declared.Checked.{Checked}
 use Rattle.setfile_order.specs.declared.Checked.the-variants as checked
 use Rattle.setfile.specs.Loading.{loadRules, fileList}
-use Rattle.setfile.specs.LoadSteps.{Ready, Asks, Admits, Writable, written}
+use Rattle.setfile.specs.LoadSteps.{Ready, Asks, Admits, FileFits, withFile}
 use Rattle.setfile.specs.declared.loading.Loadable.the-variants as loadable
 use Rattle.setfile_build.proofs.Filling.{file-listOf, file-size}
 
@@ -41,9 +44,9 @@ checked-broken : (x : File) → checkedOf x ≡ checked.Broken → x ≡ broken
 checked-broken broken e = refl
 checked-broken (file f l) e = never cc
 
-checked-file : (x : File) (f n : ℕ) → checkedOf x ≡ checked.File f n → (l : List Bits) × (x ≡ file f l) × (n ≡ nodesL l)
+checked-file : (x : File) (f n : ℕ) → checkedOf x ≡ checked.File f n → (l : List Bits) × (x ≡ file f l) × (n ≡ heldL l)
 checked-file broken f n e = never cc
-checked-file (file g l) f n e = let p : g ≡ f = cc in (l, ap (λ h. file h l) p, cc)
+checked-file (file g l) f n e = let p : g ≡ f = cc in let q : n ≡ nodesL l = cc in (l, ap (λ h. file h l) p, q ∙ sym (heldL-is l))
 
 -- The number that a file and a set get.
 module _ (x : File) (k : ℕ) (S : State) where
@@ -109,7 +112,7 @@ module _ {w : List ℕ} {k : ℕ} {d : List ℕ} {v : Survey} {f n : ℕ} (c : R
   after-is = ap fileList (c .reads)
 
   trie-size : size trie ≡ n
-  trie-size = file-size d (c .reads) ∙ sym (c .nodes)
+  trie-size = file-size d (c .reads) ∙ sym (c .nodes ∙ heldL-is (c .list))
 
   trie-list : listOf trie ≡ after
   trie-list = file-listOf d (c .reads) ∙ sym after-is
@@ -131,18 +134,18 @@ module _ {w : List ℕ} {k : ℕ} {d : List ℕ} {v : Survey} {f n : ℕ} (c : R
 
   -- it is granted, and written
   module _ (fits : n ≤ roomOf S k) where
-    pub load-writes : Writable w v d f n (c .list)
+    pub load-writes : FileFits w v d f n (c .list)
     load-writes =
         let x = seen-figures known in
         record {
           reads = c .reads;
           nodes = sym (c .nodes);
-          gap = gap-asks known fits refl;
+          gap = shift-asks known fits refl;
           empty = c .empty;
           few = omega (arith, fits, decode-header w S (known .decoded) .nodes);
           sets = x .sets;
           long = omega (arith, x .long);
         }
 
-    pub load-wrote : {y : List ℕ} → ((l : List Bits) → Writable w v d f n l → y ≡ written w v n l) → y ≡ withTrie w S k v trie
+    pub load-wrote : {y : List ℕ} → ((l : List Bits) → FileFits w v d f n l → y ≡ withFile w v n l) → y ≡ withTrie w S k v trie
     load-wrote i = behind-first known trie refl (rw trie-size (i (c .list) load-writes))

@@ -1,13 +1,12 @@
 -- The outcomes of save: each call has one. On a sound pool the bytes begin with the set's file, byte by byte, those past it stay, and the file reads back as the set's list.
 -- Assumes nothing.
-use mathlib.Core.Path.{_≡_, refl, sym, ap, _∙_}
+use mathlib.Core.Path.{_≡_, refl, ap, _∙_}
 use mathlib.Core.List.{List, [], _∷_}
 use Prim.Native.Nat.{ℕ, _≤_, _<_}
 use native.Mathlib.Omega.{arith}
 use lib.ListN.{length, getD, take}
 use Rattle.nets.specs.Networks.{width}
 use Rattle.nets.specs.declared.Refusal.the-variants.{Damaged, NoSet, ShortBuffer}
-use Rattle.nets.proofs.Answers.{number-some}
 use Rattle.nodes.specs.Words.{put}
 use Rattle.nodes.proofs.Put.{length-put, getD-put-behind}
 use Rattle.pool_state.specs.States.{State}
@@ -16,17 +15,16 @@ use Rattle.pool_state.specs.Changes.{setAt, listAt}
 use Rattle.pool_state.specs.declared.Answer.{Answer}
 use Rattle.pool_state.specs.declared.Answer.the-variants as answer
 use Rattle.pool_state.proofs.Claims.{isState-family, isSet-list}
-use Rattle.pool_state.proofs.Answered.{owes-damaged, owes-refused, owes-granted, owes-seat, firstNo-short, firstNo-fits}
-use Rattle.pool_state.proofs.Determined.{answerAs-one, owed-one}
-use Rattle.pool_state.proofs.Holds.{set-listOf}
+use Rattle.pool_state.proofs.Filled.{filled-one, filled-damaged, filled-noset, filled-short, filled-whole}
+use Rattle.pool_state.proofs.OnTries.{set-listOf}
 use Rattle.pool_state.proofs.Decoded.{decode-state, decode-set}
 use Rattle.setfile_format.specs.Files.{file, readFile}
 use Rattle.setfile_format.proofs.Written.{readFile-fileOf}
-use Rattle.setfile.specs.Calls.{fileAt, saveRules, saveRule, bytesAfter, Saved}
-use Rattle.setfile.proofs.Returns.{decode-few}
+use Rattle.setfile.specs.Calls.{fileAt, Saved}
+use Rattle.setfile.proofs.Returns.{save-fills, decode-few}
 
 pub save-determined : {w v u x : List ℕ} {k : ℕ} {r s : Answer} → Saved w k v r u → Saved w k v s x → (r ≡ s) × (u ≡ x)
-save-determined {r = r} {s = s} g h = (answerAs-one r s (g .answer ∙ sym (h .answer)), g .bytes ∙ sym (h .bytes))
+save-determined g h = filled-one (save-fills g) (save-fills h)
 
 -- the file of a set of a sound pool reads as its family and its list
 pub readFile-fileAt : (w : List ℕ) (S : State) → decode w ≡ sound S → (k : ℕ) → k < length (S .sets) → readFile (fileAt S k) ≡ file (S .family) (listAt S k)
@@ -44,23 +42,19 @@ take-put (y ∷ v) (x ∷ xs) h = ap (λ l. x ∷ l) (take-put v xs (omega arith
 
 module _ {w v u : List ℕ} {k : ℕ} {r : Answer} (h : Saved w k v r u) where
   pub save-damaged : decode w ≡ damaged → (r ≡ answer.Refused Damaged) × (u ≡ v)
-  unfolding saveRule bytesAfter
-  save-damaged d = owed-one r (answer.Refused Damaged) (h .answer, h .bytes) (owes-damaged _ 0 _ v _ d)
+  save-damaged = filled-damaged (save-fills h)
 
   module _ (S : State) (d : decode w ≡ sound S) where
     pub save-noset : length (S .sets) ≤ k → (r ≡ answer.Refused NoSet) × (u ≡ v)
-    unfolding saveRule bytesAfter saveRules
-    save-noset le = owed-one r (answer.Refused NoSet) (h .answer, h .bytes) (owes-seat _ 0 _ v _ (decode w) k (rw d (le, refl)))
+    save-noset = filled-noset (save-fills h) S d
 
     module _ (lt : k < length (S .sets)) where
       pub save-small : length v < length (fileAt S k) → (r ≡ answer.Refused ShortBuffer) × (u ≡ v)
-      unfolding saveRule bytesAfter saveRules
-      save-small less = owed-one r (answer.Refused ShortBuffer) (h .answer, h .bytes) (owes-refused _ 0 _ v _ d (firstNo-short S k lt less) (number-some ShortBuffer))
+      save-small = filled-short (save-fills h) S d lt
 
       module _ (le : length (fileAt S k) ≤ length v) where
         pub save-file : (r ≡ answer.Granted (length (fileAt S k))) × (u ≡ put v 0 (fileAt S k))
-        unfolding saveRule bytesAfter saveRules
-        save-file = owed-one r (answer.Granted (length (fileAt S k))) (h .answer, h .bytes) (owes-granted _ 0 _ v _ d (firstNo-fits S k lt le))
+        save-file = filled-whole (save-fills h) S d lt le
 
         pub save-reads : readFile (take (length (fileAt S k)) u) ≡ file (S .family) (listAt S k)
         save-reads = rw (save-file .1, take-put v (fileAt S k) le) (readFile-fileAt w S d k lt)

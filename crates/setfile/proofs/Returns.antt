@@ -9,19 +9,17 @@ use Rattle.nets.specs.Tries.{listOf, trieOf}
 use Rattle.nets.specs.Refusals.{number}
 use Rattle.nets.specs.declared.Refusal.{Refusal}
 use Rattle.nets.specs.declared.Refusal.the-variants.{ShortBuffer}
-use Rattle.nets.proofs.Answers.{number-some}
 use Rattle.nodes.specs.Words.{put}
 use Rattle.pool_state.specs.States.{State}
 use Rattle.pool_state.specs.Decode.{sound, decode}
 use Rattle.pool_state.specs.Changes.{setAt, listAt}
-use Rattle.pool_state.specs.Rules.{answerAs}
 use Rattle.pool_state.specs.Steps.{Refuses}
 use Rattle.pool_state.specs.declared.Answer.{Answer}
 use Rattle.pool_state.specs.declared.Answer.the-variants as answer
-use Rattle.pool_state.proofs.Answered.{owes-refused, owes-granted, owes-seat, firstNo-short, firstNo-fits}
+use Rattle.pool_state.proofs.Filled.{Filled, fill-refused, fill-short, fill-granted}
 use Rattle.pool_state.proofs.Claims.{isState-claimed, claimedBut-is}
 use Rattle.pool_state.proofs.Header.{isHeader-header}
-use Rattle.pool_state.proofs.Holds.{set-size}
+use Rattle.pool_state.proofs.OnTries.{set-size}
 use Rattle.pool_state.proofs.Decoded.{decode-header, decode-state, decode-set}
 use Rattle.trie_paths.specs.Laying.{tallied, clear, Starts}
 use Rattle.listing.proofs.Seats.{Sits}
@@ -32,12 +30,20 @@ use Rattle.setfile_format.proofs.Written.{length-fileOf, fileBytes-few}
 use Rattle.setfile_write.specs.Saving.{Writable}
 use Rattle.setfile.specs.Calls.{fileAt, saveRules, saveRule, bytesAfter, Saved}
 
-saved : {w v u : List ℕ} {k : ℕ} {r : Answer} → (answerAs r ≡ saveRule (decode w) k (length v)) × (u ≡ bytesAfter v (decode w) k) → Saved w k v r u
-saved h = record { answer = h .0; bytes = h .1 }
+abbrev Fills : List ℕ → ℕ → List ℕ → Answer → List ℕ → Type 0
+Fills w k v r u = Filled (decode w) k (length v) (λ S. length (fileAt S k)) (λ S. length (fileAt S k)) v (λ S. put v 0 (fileAt S k)) r u
+
+module _ {w v u : List ℕ} {k : ℕ} {r : Answer} where
+  pub save-fills : Saved w k v r u → Fills w k v r u
+  unfolding saveRule bytesAfter saveRules
+  save-fills h = record { answer = h .answer; left = h .bytes }
+
+  saved : Fills w k v r u → Saved w k v r u
+  unfolding saveRule bytesAfter saveRules
+  saved h = record { answer = h .answer; bytes = h .left }
 
 pub save-refused : {w v : List ℕ} {k : ℕ} (x : Refusal) → Refuses (decode w) k (number x) → Saved w k v (answer.Refused x) v
-unfolding saveRule bytesAfter saveRules
-save-refused {w} {v} {k} x e = saved (owes-seat _ 0 _ v _ (decode w) k e)
+save-refused {w} {v} {k} x e = saved (fill-refused (decode w) k (length v) _ _ v _ x e)
 
 -- a set of a sound pool has no more networks than a file may have
 pub decode-few : (w : List ℕ) (S : State) → decode w ≡ sound S → (k : ℕ) → k < length (S .sets) → listOf (trieOf (listAt S k)) ≡ listAt S k → length (listAt S k) ≤ mostEntries
@@ -68,14 +74,12 @@ module _ {w : List ℕ} {k : ℕ} {S : State} {s : Seat} (h : Sits w k S s) {n :
     save-fits = rw q (fileBytes-few (s .family) n save-few)
 
     pub save-short : {v : List ℕ} → length v < m → Saved w k v (answer.Refused ShortBuffer) v
-    unfolding saveRule bytesAfter saveRules
-    save-short {v} lt = saved (owes-refused _ 0 _ v _ (h .decoded) (firstNo-short S k (h .known) (rw sized at lt)) (number-some ShortBuffer))
+    save-short {v} lt = saved (fill-short (decode w) k (length v) _ _ v _ S (h .decoded) (h .known) (rw sized at lt))
 
     pub save-writable : {r : ℕ} {c₀ c₁ : List ℕ} → c₀ ≡ tallied 0 (trieOf (listAt S k)) clear → Starts c₀ c₁ → m ≤ r → Writable w (s .base) (s .first) (s .end) (s .family) n c₁ r (trieOf (listAt S k))
     save-writable e o le = record { holds = h .holds; count = c; few = save-few; starts = rw e at o; fits = rw q at le }
 
     pub save-granted : {v u : List ℕ} → m ≤ length v → u ≡ put v 0 (fileOf (s .family) (listOf (trieOf (listAt S k)))) → Saved w k v (answer.Granted m) u
-    unfolding saveRule bytesAfter saveRules
     save-granted {v} {u} le f =
         let r : u ≡ put v 0 (fileAt S k) = rw (h .list, h .family) at f in
-        rw (sized, r) (saved (owes-granted _ 0 _ v _ (h .decoded) (firstNo-fits S k (h .known) (rw sized at le))))
+        rw (sized, r) (saved (fill-granted (decode w) k (length v) _ _ v _ S (h .decoded) (h .known) (rw sized at le)))

@@ -2,22 +2,22 @@
 --
 --   Ready w k d v f n    a load can go on: v is what a pass over the pool found for its empty set, and d is the file of a list of n nodes in the pool's family f;  Asks: that, or its refusal
 --   Admits w k d f c     c says whether set k may have the list of the file d of the pool's family f, as far as its mark goes
---   Writable             what writing the trie of the file's list asks
---   written              the words that it leaves
+--   FileFits             what writing the trie of the file's list asks
+--   withFile              the words that it leaves
 use mathlib.Core.Bool.{Bool}
 use mathlib.Core.List.{List}
 use mathlib.Core.Path.{_≡_}
 use Prim.Native.Nat.{ℕ, _+_, _≤_}
 use lib.ListN.{length, getD}
 use Rattle.nets.specs.Bits.{Bits}
-use Rattle.nets.specs.Lists.{nodesL}
 use Rattle.nets.specs.Refusals.{number}
 use Rattle.nets.specs.Tries.{trieOf}
 use Rattle.nodes.specs.Words.{put, place, enc}
+use Rattle.pool_state.specs.Kept.{heldL}
 use Rattle.pool_state.specs.States.{State, admits}
 use Rattle.pool_state.specs.Decode.{base, sound, decode}
 use Rattle.pool_state.specs.Changes.{setAt}
-use Rattle.pool_state.specs.Steps.{Surveyed, behindAt, Gap}
+use Rattle.pool_state.specs.Steps.{Surveyed, behindAt, Shiftable}
 use Rattle.pool_state.specs.declared.Survey.{Survey}
 use Rattle.setfile_format.specs.Files.{file, readFile}
 use Rattle.setfile.specs.Loading.{Loaded}
@@ -30,7 +30,7 @@ pub record Ready (w : List ℕ) (k : ℕ) (d : List ℕ) (v : Survey) (f n : ℕ
   pub list : List Bits
   pub reads : readFile d ≡ file f list
   pub family : f ≡ getD w 1 0
-  pub nodes : n ≡ nodesL list
+  pub nodes : n ≡ heldL list
 
 abbrev pub Asks : List ℕ → ℕ → List ℕ → Loadable → Type 0
 Asks w k d (loadable.File v f n) = Ready w k d v f n
@@ -40,15 +40,15 @@ abbrev pub Admits : List ℕ → ℕ → List ℕ → ℕ → Bool → Type 0
 Admits w k d f c = (S : State) (l : List Bits) → decode w ≡ sound S → f ≡ S .family → readFile d ≡ file f l → c ≡ admits (S .family) (setAt S k) l
 
 -- the bytes are the file of the list l, whose trie has n nodes, and there is a gap to open for it
-pub record Writable (w : List ℕ) (v : Survey) (d : List ℕ) (f n : ℕ) (l : List Bits) : Type 0 where
+pub record FileFits (w : List ℕ) (v : Survey) (d : List ℕ) (f n : ℕ) (l : List Bits) : Type 0 where
   pub reads : readFile d ≡ file f l
-  pub nodes : nodesL l ≡ n
-  pub gap : Gap w (base (getD w 2 0)) v n
+  pub nodes : heldL l ≡ n
+  pub gap : Shiftable w (base (getD w 2 0)) v n
   pub empty : v .held ≡ 0
   pub few : v .used + 1 + n ≤ 1073741824
   pub sets : getD w 2 0 ≤ 64
   pub long : 64 ≤ length w
 
 -- the sets behind the gap moved, and the trie in it
-abbrev pub written : List ℕ → Survey → ℕ → List Bits → List ℕ
-written w v n l = put (put w (place (base (getD w 2 0)) (v .at + n)) (behindAt w (base (getD w 2 0)) v)) (place (base (getD w 2 0)) (v .at)) (enc (trieOf l))
+abbrev pub withFile : List ℕ → Survey → ℕ → List Bits → List ℕ
+withFile w v n l = put (put w (place (base (getD w 2 0)) (v .at + n)) (behindAt w (base (getD w 2 0)) v)) (place (base (getD w 2 0)) (v .at)) (enc (trieOf l))

@@ -16,7 +16,7 @@ ghost use mathlib.Core.List.{List};
 ghost use Rattle.nets.specs.Bits.{Bits};
 ghost use Rattle.pool_state.specs.Steps.{Surveyed};
 ghost use Rattle.setfile_format.specs.Files.{readFile, file};
-ghost use Rattle.setfile.specs.LoadSteps.{Asks, Admits, Writable, written};
+ghost use Rattle.setfile.specs.LoadSteps.{Asks, Admits, FileFits, withFile};
 
 // A file that can be loaded: what a pass over the pool found for its set, the family of the file and the nodes of its list. Or the refusal.
 pub enum Loadable {
@@ -63,8 +63,8 @@ pub fn is_admitted(pool: &[u32], set: u32, v: Survey, bytes: &[u8], family: u8) 
 
 // Writes the trie of the file's list, of n nodes, in the place of the empty set; the sets behind it move.
 pub fn write(pool: &mut [u32], v: Survey, bytes: &[u8], family: u8, n: u32)
-    requires { ⌜ ((l : List Bits) × Writable (now pool) v (now bytes) family n l) ⌝ }
-    ensures { λ _. ⌜ ((l : List Bits) → Writable (now (pool .entry)) v (now (bytes .entry)) family n l → now (pool .exit) ≡ written (now (pool .entry)) v n l) ⌝ }
+    requires { ⌜ ((l : List Bits) × FileFits (now pool) v (now bytes) family n l) ⌝ }
+    ensures { λ _. ⌜ ((l : List Bits) → FileFits (now (pool .entry)) v (now (bytes .entry)) family n l → now (pool .exit) ≡ withFile (now (pool .entry)) v n l) ⌝ }
 {
     let b = HEAD + RECORD * (pool[2] as usize);
     shift_behind(pool, b, v, n);

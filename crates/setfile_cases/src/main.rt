@@ -14,21 +14,13 @@ fn row(t: Tally, pool: &mut [u32; rows::WORDS], whole: &[u8], row: &[u8], must: 
     rows::run(t, pool, row, must, &bytes, n)
 }
 
-// The row, where it is whole. The places are in order: the tests say so to the proof.
+// The row, where it is whole.
 fn at_end(t: Tally, pool: &mut [u32; rows::WORDS], text: &[u8], p: Place) -> Tally {
-    let start = p.start;
-    let sign = p.sign;
-    let end = p.end;
-    if !p.whole {
-        return t;
-    }
-    if sign < start {
-        return t;
-    }
-    if end < sign {
-        return t;
-    }
-    if text.len() < end {
+    let r = table::row_in(p, text.len());
+    let start = r.start;
+    let sign = r.sign;
+    let end = r.end;
+    if !r.whole {
         return t;
     }
     row(

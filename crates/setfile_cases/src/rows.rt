@@ -143,14 +143,14 @@ fn matches(t: Tally, row: &[u8], must: &[u8], bytes: &[u8], n: usize) -> Tally {
     if bytes.len() < n {
         return tell(t, row, must, false);
     }
-    calls::judge(t, row, must, matched(compare(&bytes[0..n], &bytes[n..])))
+    calls::score(t, row, must, matched(compare(&bytes[0..n], &bytes[n..])))
 }
 
 // A row of one call, which may change the pool.
 fn call(t: Tally, pool: &mut [u32; WORDS], row: &[u8], must: &[u8], bytes: &[u8]) -> Tally {
     let was = *pool;
     let got = load_or(pool, row, bytes);
-    let t = calls::judge(t, row, must, got);
+    let t = calls::score(t, row, must, got);
     calls::keeps(t, row, must, &was, pool)
 }
 

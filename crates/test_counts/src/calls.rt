@@ -177,7 +177,7 @@ fn is(v: Word, w: Word) -> bool {
 }
 
 // Where the row is a case, what it must answer is held to this answer.
-pub fn judge(t: Tally, row: &[u8], must: &[u8], got: Got) -> Tally {
+pub fn score(t: Tally, row: &[u8], must: &[u8], got: Got) -> Tally {
     if must.len() == 0 {
         return t;
     }

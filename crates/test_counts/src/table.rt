@@ -7,6 +7,8 @@
 // A row is a call, what it takes, and behind the sign = what it must answer; without that sign it is no case. Its words are names, of which the first
 // letter counts, decimal numbers, and addresses, as four numbers or as eight groups in hexadecimal; a text in quotes is left to the program. All other
 // bytes only stand between words.
+ghost use mathlib.Core.Path.{_≡_};
+ghost use Prim.Native.Nat.{_≤_};
 use std::num::wrapping_add_u64;
 
 // What a word is: a number, a name, of which the first letter counts, or with the number of its family an address.
@@ -249,4 +251,44 @@ pub fn next(p: Place, c: u8, at: usize) -> Place {
     let mut p = p;
     p.end = at;
     longer_by(p, c)
+}
+
+// A row in a text: its first byte, its sign and its end, in order; or none.
+pub struct Row {
+    pub whole: bool,
+    pub start: usize,
+    pub sign: usize,
+    pub end: usize,
+}
+
+fn no_row() -> Row
+    ensures { λ r. ⌜ (r .start ≤ r .sign) × (r .sign ≤ r .end) × (r .end ≡ 0) ⌝ }
+{
+    Row {
+        whole: false,
+        start: 0,
+        sign: 0,
+        end: 0,
+    }
+}
+
+// The row that is whole at the place, in a text of so many bytes. The places are in order: the tests say so to the proof.
+pub fn row_in(p: Place, bytes: usize) -> Row
+    ensures { λ r. ⌜ (r .start ≤ r .sign) × (r .sign ≤ r .end) × (r .end ≤ bytes) ⌝ }
+{
+    if p.sign < p.start {
+        return no_row();
+    }
+    if p.end < p.sign {
+        return no_row();
+    }
+    if bytes < p.end {
+        return no_row();
+    }
+    Row {
+        whole: p.whole,
+        start: p.start,
+        sign: p.sign,
+        end: p.end,
+    }
 }

@@ -19,12 +19,12 @@ use Rattle.listing.specs.Calls.{foundAs, followerAs}
 use Rattle.listing.specs.declared.Follower.{Follower}
 use Rattle.listing.specs.declared.Follower.the-variants.{Network, End, Refused}
 use Rattle.listing.proofs.Outcomes.{followerAs-one}
-use Rattle.walk.specs.Walks.{walkNo, walkFrom, walkOn}
+use Rattle.walk.specs.Walks.{walkNo, walkStart, walkOn}
 use Rattle.walk.specs.Places.{nthL, lastL, placeRule, nthRule, lastRule}
 use Rattle.walk.specs.declared.walking.Walk.{Walk}
 
 -- A walk is determined: the one that is made, and what a step says and leaves.
-pub start-determined : (p : RefT (List ℕ)) (k : ℕ) (w v : Walk) → w ≡ walkFrom p k → v ≡ walkFrom p k → w ≡ v
+pub start-determined : (p : RefT (List ℕ)) (k : ℕ) (w v : Walk) → w ≡ walkStart p k → v ≡ walkStart p k → w ≡ v
 start-determined p k w v e f = e ∙ sym f
 
 abbrev Steps : Walk → Bool → Walk → Type 0

@@ -23,7 +23,7 @@ use Rattle.nodes.specs.declared.seats.Seat.{Seat}
 use Rattle.trie_next.specs.Spots.{beforeAll, placeIn, landed, goneOn}
 use Rattle.trie_next.specs.declared.spots.Spot.{Spot}
 use Rattle.trie_next.proofs.Onward.{ahead, ahead-all}
-use Rattle.walk.specs.Walks.{walkNo, listIn, seatIn, walkFrom, walkOn, Walking}
+use Rattle.walk.specs.Walks.{walkNo, listIn, seatIn, walkStart, walkOn, Walking}
 use Rattle.walk.specs.Places.{nthL, lastL, placeRule, spotAfter, stageIn, firstTurn, idle, turnAfter, IsNo, toldOf}
 use Rattle.walk.specs.declared.beginning.Stage.{Stage}
 use Rattle.walk.specs.declared.turns.Turn.{Turn}
@@ -135,7 +135,7 @@ module _ (z : Spot) where
       go true b = by (t .left) refl b
       go false b = (0, (omega (arith, h .more m .0), stops (walkOn w) t r on (e ∙ sym (after-end (walkOn w .spot) t b)) (sym (after-stays (t .left) (listOn w) (w .spot) b) ∙ q)))
 
-pub starts : (p : RefT (List ℕ)) (k i : ℕ) (t : Turn) → t ≡ firstTurn i → Going (stageIn (decode (now p)) k i .spot) (suc i) (walkFrom p k) t
+pub starts : (p : RefT (List ℕ)) (k i : ℕ) (t : Turn) → t ≡ firstTurn i → Going (stageIn (decode (now p)) k i .spot) (suc i) (walkStart p k) t
 starts p k i t e =
     record {
       walking = walking-from p k;
@@ -235,11 +235,11 @@ module _ (p : RefT (List ℕ)) (k : ℕ) (g : Stage) (r : Follower) where
 
   pub tells-nth : (i : ℕ) → g ≡ stageIn d k i → (IsNo (g .no) → followerAs r ≡ toldOf (g .spot .more) (g .spot .net) (g .no)) → followerAs r ≡ placeRule (λ l. nthL l i) d k
   tells-nth i e h = tells (λ l. nthL l i) (g .spot .more) (ap (λ (x : Stage). x .no) e) h
-      (ap (λ (x : Stage). here (x .spot)) e ∙ here-after i (walkFrom p k) (walking-from p k) ∙ ap (λ l. foundAs (seatIn d k .family) (nthL l i)) (ahead-all (listIn d k) (seatIn d k)))
+      (ap (λ (x : Stage). here (x .spot)) e ∙ here-after i (walkStart p k) (walking-from p k) ∙ ap (λ l. foundAs (seatIn d k .family) (nthL l i)) (ahead-all (listIn d k) (seatIn d k)))
 
   pub tells-last : (n : ℕ) → g ≡ stageIn d k n → 1073741824 ≤ n → (IsNo (g .no) → followerAs r ≡ toldOf (g .spot .begun) (g .spot .net) (g .no)) → followerAs r ≡ placeRule lastL d k
   tells-last n e le h =
       let a = ahead-all (listIn d k) (seatIn d k) in
       tells lastL (g .spot .begun) (ap (λ (x : Stage). x .no) e) h
-      (ap (λ (x : Stage). kept (x .spot)) e ∙ kept-after (suc n) (walkFrom p k) (walking-from p k) (omega (arith, ap length a, list-small (now p) k))
+      (ap (λ (x : Stage). kept (x .spot)) e ∙ kept-after (suc n) (walkStart p k) (walking-from p k) (omega (arith, ap length a, list-small (now p) k))
       ∙ ap (lastFrom (seatIn d k .family) nothing) a ∙ lastFrom-nothing (seatIn d k .family) (listIn d k))

@@ -16,7 +16,7 @@ use Rattle.pool_state.specs.States.{State}
 use Rattle.pool_state.specs.Decode.{Decoded, damaged, sound, decode}
 use Rattle.pool_state.proofs.Claims.{isState-family}
 use Rattle.pool_state.proofs.Decoded.{decode-state}
-use Rattle.pool_state.proofs.Seen.{trieAt}
+use Rattle.pool_state.proofs.OnTries.{trieAt}
 use Rattle.pool_state.specs.Steps.{Refuses}
 use Rattle.nodes.specs.declared.seats.Seat.{Seat}
 use Rattle.trie_paths.proofs.Reading.{spans-small}
@@ -25,7 +25,7 @@ use Rattle.listing.proofs.Seats.{Sits, sits-at}
 use Rattle.trie_next.specs.Spots.{nowhere, beforeAll, goneOn, Right, StandsIn, Goes}
 use Rattle.trie_next.specs.declared.spots.Spot.{Spot}
 use Rattle.trie_next.proofs.Onward.{stands-nowhere, seat-gone, Lists, lists-trie, ahead, ahead-all, gone-more, gone-last, right-gone}
-use Rattle.walk.specs.Walks.{walkNo, listIn, seatIn, beginIn, walkFrom, walkOn, Walking, pass, through}
+use Rattle.walk.specs.Walks.{walkNo, listIn, seatIn, beginIn, walkStart, walkOn, Walking, pass, through}
 use Rattle.walk.specs.declared.walking.Walk.{Walk}
 
 -- The returns of `begin`.
@@ -94,7 +94,7 @@ module _ (w : Walk) (h : Walking w) where
   on-lists : Lists (w .spot .seat .family) (listOn w)
   on-lists = rw (h .seat) (lists (words w) (w .set))
 
-pub walking-from : (p : RefT (List ℕ)) (k : ℕ) → Walking (walkFrom p k)
+pub walking-from : (p : RefT (List ℕ)) (k : ℕ) → Walking (walkStart p k)
 walking-from p k = record { seat = refl; right = λ e. absurd (false≢true e) }
 
 -- one step: at the first network of what was ahead, or with nothing ahead
@@ -135,8 +135,8 @@ through-ahead (suc n) w h lt = go (walkOn w .spot .more) refl (through-ahead n (
         ∙ ap (map (netFrom f)) (sym (p .taken))
     go false e ih = ap (map (netFrom f)) (sym (on-end w h e))
 
-pub through-list : (p : RefT (List ℕ)) (k n : ℕ) → length (listIn (decode (now p)) k) < n → through n (walkFrom p k) ≡ map (netFrom (seatIn (decode (now p)) k .family)) (listIn (decode (now p)) k)
+pub through-list : (p : RefT (List ℕ)) (k n : ℕ) → length (listIn (decode (now p)) k) < n → through n (walkStart p k) ≡ map (netFrom (seatIn (decode (now p)) k .family)) (listIn (decode (now p)) k)
 through-list p k n lt =
     let l = listIn (decode (now p)) k in
     let s = seatIn (decode (now p)) k in
-    through-ahead n (walkFrom p k) (walking-from p k) (rw (ahead-all l s) lt) ∙ ap (map (netFrom (s .family))) (ahead-all l s)
+    through-ahead n (walkStart p k) (walking-from p k) (rw (ahead-all l s) lt) ∙ ap (map (netFrom (s .family))) (ahead-all l s)

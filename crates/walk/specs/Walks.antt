@@ -3,7 +3,7 @@
 --   walkNo d k       the number of a walk through set k: 2 damaged, 3 no such set, else 0
 --   listIn d k       the list that it goes through: where it is refused, the empty list
 --   beginIn d k      where it begins: before the first network of the set's seat, or nowhere
---   walkFrom p k     the walk that is made
+--   walkStart p k     the walk that is made
 --   walkOn w         the walk one step further: at the next network, or behind the last
 --   Walking w        w was made, and has come to a network of its list or is still before the first
 --   through n w      the networks that n steps come past, until there is no more
@@ -39,8 +39,8 @@ seatIn (sound S) k = cond (ltb k (length (S .sets))) (seatAt S k) nowhere
 abbrev pub beginIn : Decoded → ℕ → Stage
 beginIn d k = record { spot = beforeAll (seatIn d k); no = walkNo d k }
 
-abbrev pub walkFrom : RefT (List ℕ) → ℕ → Walk
-walkFrom p k = record { pool = p; spot = beforeAll (seatIn (decode (now p)) k); set = k; no = walkNo (decode (now p)) k }
+abbrev pub walkStart : RefT (List ℕ) → ℕ → Walk
+walkStart p k = record { pool = p; spot = beforeAll (seatIn (decode (now p)) k); set = k; no = walkNo (decode (now p)) k }
 
 abbrev pub walkOn : Walk → Walk
 walkOn w = record { pool = w .pool; spot = goneOn (listIn (decode (now (w .pool))) (w .set)) (w .spot); set = w .set; no = w .no }

@@ -3,7 +3,7 @@
 ghost use mathlib.Core.Path.{_≡_};
 ghost use Rattle.pool_state.specs.Decode.{decode};
 ghost use Rattle.listing.specs.Calls.{followerAs};
-ghost use Rattle.walk.specs.Walks.{walkFrom};
+ghost use Rattle.walk.specs.Walks.{walkStart};
 ghost use Rattle.walk.specs.Places.{nthRule, lastRule};
 use beginning::begin;
 use listing::Follower;
@@ -21,7 +21,7 @@ const ALL: u32 = 0xffff_ffff;
 
 // Before the first network of a set.
 pub fn start<'a>(pool: &'a [u32], set: u32) -> Walk<'a>
-    ensures { λ r. ⌜ r ≡ walkFrom (pool .entry) set ⌝ }
+    ensures { λ r. ⌜ r ≡ walkStart (pool .entry) set ⌝ }
 {
     let b = begin(pool, set);
     Walk {

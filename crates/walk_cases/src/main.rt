@@ -138,24 +138,16 @@ fn call(pool: &mut [u32], row: &[u8]) -> Got {
 
 fn case(t: Tally, pool: &mut [u32; WORDS], row: &[u8], must: &[u8]) -> Tally {
     let got = call(pool, row);
-    calls::judge(t, row, must, got)
+    calls::score(t, row, must, got)
 }
 
-// The row, where it is whole. The places are in order: the tests say so to the proof.
+// The row, where it is whole.
 fn at_end(t: Tally, pool: &mut [u32; WORDS], text: &[u8], p: Place) -> Tally {
-    let start = p.start;
-    let sign = p.sign;
-    let end = p.end;
-    if !p.whole {
-        return t;
-    }
-    if sign < start {
-        return t;
-    }
-    if end < sign {
-        return t;
-    }
-    if text.len() < end {
+    let r = table::row_in(p, text.len());
+    let start = r.start;
+    let sign = r.sign;
+    let end = r.end;
+    if !r.whole {
         return t;
     }
     case(t, pool, &text[start..sign], &text[sign..end])

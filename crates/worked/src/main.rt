@@ -45,25 +45,17 @@ fn call(pool: &mut [u32], row: &[u8]) -> Got {
 fn case(t: Tally, pool: &mut [u32; WORDS], row: &[u8], must: &[u8]) -> Tally {
     let was = *pool;
     let got = call(pool, row);
-    let t = calls::judge(t, row, must, got);
+    let t = calls::score(t, row, must, got);
     calls::keeps(t, row, must, &was, pool)
 }
 
-// The row, where it is whole. The places are in order: the tests say so to the proof.
+// The row, where it is whole.
 fn at_end(t: Tally, pool: &mut [u32; WORDS], text: &[u8], p: Place) -> Tally {
-    let sign = p.sign;
-    let end = p.end;
-    let start = p.start;
-    if !p.whole {
-        return t;
-    }
-    if sign < start {
-        return t;
-    }
-    if end < sign {
-        return t;
-    }
-    if text.len() < end {
+    let r = table::row_in(p, text.len());
+    let start = r.start;
+    let sign = r.sign;
+    let end = r.end;
+    if !r.whole {
         return t;
     }
     case(t, pool, &text[start..sign], &text[sign..end])

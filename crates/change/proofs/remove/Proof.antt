@@ -5,7 +5,7 @@ use native.Mathlib.Omega.{arith}
 use borrow.Author.Needs.{needs}
 use Rattle.nets.specs.Lists.{removeL}
 use Rattle.nets.specs.TrieOps.{removeT}
-use Rattle.pool_state.proofs.Returns.{result-refused, result-fits, result-relinks, result-granted}
+use Rattle.pool_state.proofs.OnTries.{result-refused, result-fits, result-relinks, result-granted}
 use Rattle.change.specs.Steps.{Ready}
 use Rattle.trie_remove.proofs.Splices.{left-root}
 use Rattle.change.proofs.Calls.{Counted, works-remove, clear-remove, seat-stands, result, result-stands, result-few, result-room, result-wrote}

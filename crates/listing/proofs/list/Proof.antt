@@ -6,7 +6,7 @@ use borrow.Author.Needs.{needs}
 use lib.ListN.{length}
 use Rattle.nets.specs.Tries.{listOf}
 use Rattle.pool_state.specs.States.{State}
-use Rattle.pool_state.proofs.Seen.{trieAt}
+use Rattle.pool_state.proofs.OnTries.{trieAt}
 use Rattle.pool_state.proofs.Seats.{seated-refused}
 use Rattle.trie_paths.proofs.Placing.{total-is, counts-fit}
 use Rattle.listing.proofs.Seats.{Sits, seated-sits}

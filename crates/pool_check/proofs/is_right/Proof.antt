@@ -11,6 +11,6 @@ is-right-spec =
     (tie.spec
     (λ c. search needs)
     (λ c κs. search needs)
-    (λ c. λ f t e z. right-over _ _ _ f _ _ t e (omega arith) (c .before .in-limit .ensures) (c .if1 .taken))
+    (λ c. λ f l e z. right-over _ _ _ f _ _ l e (omega arith) (c .before .in-limit .ensures) (c .if1 .taken))
     (λ c κs. search needs)
-    (λ c. λ f t e z. right-marked _ _ _ f _ _ t e (omega arith) (c .before .before .in-limit .ensures) (c .before .if1 .left) (c .keeps-mark .ensures f t e)))
+    (λ c. λ f l e z. right-marked _ _ _ f _ _ l e (omega arith) (c .before .before .in-limit .ensures) (c .before .if1 .left) (c .keeps-mark .ensures f l e)))

@@ -6,7 +6,7 @@ use native.Mathlib.Omega.{arith}
 use borrow.Author.Needs.{needs}
 use lib.ListN.{length}
 use Rattle.pool_state.specs.States.{State}
-use Rattle.pool_state.proofs.Seen.{trieAt}
+use Rattle.pool_state.proofs.OnTries.{trieAt}
 use Rattle.pool_state.proofs.Seats.{seated-refused}
 use Rattle.listing.proofs.Seats.{Sits, seated-sits}
 use Rattle.trie_ranges.specs.Opening.{rangesT}

@@ -1,7 +1,7 @@
 -- `load` meets its contract, each return by the tests on the way to it. Assumes nothing.
 use denote.Ref.{now}
 use borrow.Author.Needs.{needs}
-use Rattle.pool_state.proofs.Returns.{result-refused, result-fits, result-relinks, result-granted}
+use Rattle.pool_state.proofs.OnTries.{result-refused, result-fits, result-relinks, result-granted}
 use Rattle.setfile.specs.LoadSteps.{Ready}
 use Rattle.setfile.proofs.Loads.{load-result, load-writes, load-wrote}
 use Rattle.setfile.proofs.load.Statement.{statement}

@@ -4,7 +4,7 @@ use native.Mathlib.Omega.{arith}
 use borrow.Author.Needs.{needs}
 use Rattle.nets.specs.Lists.{addL}
 use Rattle.nets.specs.Tries.{insertT}
-use Rattle.pool_state.proofs.Returns.{result-fits, result-relinks}
+use Rattle.pool_state.proofs.OnTries.{result-fits, result-relinks}
 use Rattle.change.specs.Steps.{Ready}
 use Rattle.change.proofs.Calls.{Counted, works-insert, clear-add, seat-stands, result, result-stands, result-few, result-room, result-wrote}
 use Rattle.change.proofs.Growing.{grow-refused, grow-few, grow-granted}

@@ -1,7 +1,7 @@
 -- `combining::combine` meets its contract, each return by the tests on the way to it. Assumes nothing.
 use denote.Ref.{now}
 use borrow.Author.Needs.{needs}
-use Rattle.pool_state.proofs.Returns.{result-refused, result-fits, result-relinks, result-granted}
+use Rattle.pool_state.proofs.OnTries.{result-refused, result-fits, result-relinks, result-granted}
 use Rattle.combine.specs.Steps.{Ready}
 use Rattle.combine.proofs.Calls.{ready-records, ready-reads, ready-levels, Counted, result, result-few, result-writes, result-wrote}
 use Rattle.combine.proofs.combining.combine.Statement.{statement}

@@ -5,7 +5,7 @@ use borrow.Author.Needs.{needs}
 use Rattle.nets.specs.Tries.{Trie}
 use Rattle.trie_emit.specs.Answers.{Emits}
 use Rattle.trie_emit.specs.Combine.{opOn}
-use Rattle.combine.specs.Steps.{isCopy, Writable}
+use Rattle.combine.specs.Steps.{isCopy, ResultFits}
 use Rattle.combine.proofs.Gaps.{write-inputs, write-free, write-settles, write-wrote}
 use Rattle.combine.proofs.Copied.{copy-asks, copy-wrote}
 use Rattle.combine.proofs.combining.write.Statement.{statement}
@@ -23,7 +23,7 @@ copying c = sym (c .before .is-copy .ensures) ∙ c .if1 .taken
 abbrev sourced : tie.After-moved2 → tie.After-moved
 sourced c = c .before .before .before
 
-emitted : (c : tie.After-emit) (t u : Trie) → let m = sourced (c .before .before) in let a = start m .args in Writable (a .pool .now) (a .op) (a .s) (a .v) (a .n) t u
+emitted : (c : tie.After-emit) (t u : Trie) → let m = sourced (c .before .before) in let a = start m .args in ResultFits (a .pool .now) (a .op) (a .s) (a .v) (a .n) t u
     → Emits (opened m .shift-behind .last .0) (c .emit .last .0) (a .s .base) (a .v .at) (c .emit .result) (opOn (a .op) (a .s .levels) t u)
 emitted c t u h =
     let d = c .before .before in

@@ -51,7 +51,7 @@ use Rattle.pool_state.specs.Decode.{decode}
 use Rattle.trie_next.specs.declared.spots.Spot.{Spot}
 use Rattle.trie_next.proofs.spots.Spot as O
 use Rattle.trie_next.proofs.spots.Spot.Laws as O′
-use Rattle.walk.specs.Walks.{walkNo, walkFrom, walkOn, Walking}
+use Rattle.walk.specs.Walks.{walkNo, walkStart, walkOn, Walking}
 use Rattle.walk.specs.Places.{stageIn, firstTurn, turnAfter}
 use Rattle.walk.specs.declared.beginning.Stage.{Stage}
 use Rattle.walk.specs.declared.walking.Walk.{Walk}
@@ -149,8 +149,8 @@ module _ {M : Type 1} (𝓤 : URA M) (H : Heap 𝓤) (A : Atoms 𝓤) (W : Given
       nothing ! $ owned ! u32 (Is u32) (uint-makes 𝓤 H A W w32) n _ (refl, gn) $ fjoin ! $ move ! (1 ∷ 0 ∷ []) $ fjoin ! $
       move ! (2 ∷ 0 ∷ []) $ use2 W (raw (Start 𝓤 H A at-mem run .pre to-start)) (qed W (tok ∷ ‵ (owns (ShrSlice (named 0) κ u32 ∷ u32 ∷ []) (s, (n, tt)) (v ∷ [], (vint w32 n ∷ [], tt))) ∷ []) ∵ join ! $ frame ! $ done !) $ frame ! $ done !
 
-  start-said : (w : Walk) → ent 𝓤 (ensured 𝓤 H A start.ended (start.clauses 𝓤 H A at-mem run) (κ, tt) (s, (n, tt)) tt w) (fact 𝓤 (w ≡ walkFrom s n))
-  start-said w = exE 𝓤 _ (λ ws. snd∗ 𝓤 (sem 𝓤 H A (lasts start.ended (κ, tt) (s, (n, tt)) ws)) (fact 𝓤 (w ≡ walkFrom s n)))
+  start-said : (w : Walk) → ent 𝓤 (ensured 𝓤 H A start.ended (start.clauses 𝓤 H A at-mem run) (κ, tt) (s, (n, tt)) tt w) (fact 𝓤 (w ≡ walkStart s n))
+  start-said w = exE 𝓤 _ (λ ws. snd∗ 𝓤 (sem 𝓤 H A (lasts start.ended (κ, tt) (s, (n, tt)) ws)) (fact 𝓤 (w ≡ walkStart s n)))
 
   -- ---- the call of `next`, for the lifetime a ∷ κ: the walk lies at l, and is lent under the name δ
   abbrev B₂ : RattleType
@@ -344,7 +344,7 @@ module _ {M : Type 1} (𝓤 : URA M) (H : Heap 𝓤) (A : Atoms 𝓤) (W : Given
       loops w t g = via 𝓤 (Inv (suc m)) (holds (suc m) w t g) (loop-rule 𝓤 H (W .laws) 𝓣 _<_ (Nat·lt-wfRel .wf) En body.turn-1 Left Inv turns (suc m))
 
       -- after `start`: what the walk's and the turn's locals are to hold
-      started : (w : Walk) → w ≡ walkFrom s n → Is B w (wv w ∷ []) → Sq W (Front w (‵ (fat fullShare walkTy l₆ 0 (wv w)) ∷ ‵ (fdies walkTy l₆) ∷ ‵ (froom Y′.mir l₅ 0) ∷ ‵ (fdies Y′.mir l₅) ∷ ‵ (froom walkTy l₄ 0) ∷ Rest)) (runs C Λ En body.t-2 (atRet En Post))
+      started : (w : Walk) → w ≡ walkStart s n → Is B w (wv w ∷ []) → Sq W (Front w (‵ (fat fullShare walkTy l₆ 0 (wv w)) ∷ ‵ (fdies walkTy l₆) ∷ ‵ (froom Y′.mir l₅ 0) ∷ ‵ (fdies Y′.mir l₅) ∷ ‵ (froom walkTy l₄ 0) ∷ Rest)) (runs C Λ En body.t-2 (atRet En Post))
       started w e is-w =
           assigns ! (of-opd ! (load ! (from ! (stop !)) (look ! 13 refl))) (from ! (stop !)) (init ! 17 refl (LL.lawful (T.the-type αᵉ) (T′.the-laws αᵉ) 𝓤 H A W .typed w _ is-w .0)) $ forget ! 13 refl $
           use0 W (raw (First 𝓤 H A at-mem run .pre (to-first 𝓤 H A W at-mem run m))) (goes-first 𝓤 H A W at-mem run m gm) $
@@ -366,7 +366,7 @@ module _ {M : Type 1} (𝓤 : URA M) (H : Heap 𝓤) (A : Atoms 𝓤) (W : Given
         move ! (24 ∷ 25 ∷ []) $ use2 W (raw (Start 𝓤 H A at-mem run .pre to-start) ⊛ ‵ Own) goes-start $ split ! $
         calls-at ! (fmOf 𝓤 H (W .laws) 𝓣) (Start 𝓤 H A at-mem run) (known .start) to-start (and-then ! (load ! (from ! (stop !)) (look ! 22 refl)) (and-then ! (load ! (from ! (stop !)) (look ! 20 refl)) (no-more !))) (λ u.
         use1 W (later (some (λ (w : Walk). (tok ⊛ ‵ (B .own w (u ∷ []))) ⊛ raw (ensured 𝓤 H A start.ended (start.clauses 𝓤 H A at-mem run) (κ, tt) (s, (n, tt)) tt w)))) (id⊢ 𝓤 _) $ await ! tt $ pick ! (λ w.
-        split ! $ move ! (1 ∷ []) $ use1 W (raw (fact 𝓤 (w ≡ walkFrom s n))) (start-said w) $ heard ! (w ≡ walkFrom s n) (λ e. split ! $ move ! (1 ∷ []) $
+        split ! $ move ! (1 ∷ []) $ use1 W (raw (fact 𝓤 (w ≡ walkStart s n))) (start-said w) $ heard ! (w ≡ walkStart s n) (λ e. split ! $ move ! (1 ∷ []) $
         peeks ! B (Is B) (shows 𝓤 H A B) w (u ∷ []) (λ is-w.
         rewrite ! 0 (λ (ws : List Val). ‵ (B .own w ws)) (LL.tells D L w (u ∷ []) is-w) refl $
         land ! (from ! (stop !)) (init ! 13 refl (LL.lawful (T.the-type αᵉ) (T′.the-laws αᵉ) 𝓤 H A W .typed w _ is-w .0)) $
