@@ -1,11 +1,12 @@
 // Simplifying the trie of a set where it stands.
 use pool_state::Survey;
+use trie_blocks::joining::next_join;
+use trie_blocks::simplifying;
 use trie_emit::emitting::end_of;
 use trie_emit::emitting::settle;
-use trie_emit::simplifying;
 ghost use Prim.Native.Nat.{_+_};
 ghost use Rattle.nets.specs.Tries.{Trie};
-ghost use Rattle.trie_emit.specs.Simplify.{Source};
+ghost use Rattle.trie_blocks.specs.Simplify.{Source};
 ghost use Rattle.change.specs.Simplified.{Shrunk};
 
 // Simplifies the trie of the surveyed set where it stands, and moves nothing behind it. Answers the nodes that the trie has then.
@@ -15,7 +16,8 @@ pub fn shrink(w: &mut [u32], b: usize, v: Survey, levels: u32) -> u32
 {
     let i = v.at as usize;
     let e = i + v.held as usize;
-    let x = simplifying::simplify(w, b, i, e, i, levels as usize);
+    let next = next_join(w, b, i, e);
+    let x = simplifying::simplify(w, b, i, e, i, next, levels as usize);
     settle(w, b, i, x);
     (end_of(x, i) - i) as u32
 }

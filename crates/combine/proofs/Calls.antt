@@ -24,17 +24,20 @@ use Rattle.trie_emit.proofs.Combine.{opOn-union, opOn-common, opOn-difference, 
 use Rattle.pool_state.specs.States.{State, roomOf, admits}
 use Rattle.pool_state.specs.Decode.{recordAt, decode}
 use Rattle.pool_state.specs.Changes.{setAt, listAt}
-use Rattle.pool_state.specs.Steps.{Refuses, Surveyed}
+use Rattle.pool_state.specs.Steps.{Refuses, Surveyed, Judges, relinked, Relink}
 use Rattle.pool_state.specs.declared.Survey.{Survey}
 use Rattle.pool_state.proofs.Decoded.{decode-header}
-use Rattle.pool_state.proofs.Seen.{Seen, seen, seen-figures, seen-empty, seen-some}
-use Rattle.pool_state.proofs.OnTries.{trieAt, withTrie, behind-first, Result}
+use Rattle.pool_state.proofs.Seen.{Seen, seen, seen-as, seen-figures, seen-empty, seen-some}
+use Rattle.pool_state.proofs.OnTries.{trieAt, withTrie, behind-first, Result, result-fits, result-relinks, result-granted}
+use Rattle.pool_state.specs.declared.Verdict.the-variants.{Fits}
+use Rattle.pool_state.proofs.Judged.{judge-none}
 use Rattle.pool_state.proofs.Changed.{shift-asks}
 use Rattle.pool_state.proofs.Returns.{isEmpty-some, change-seat, change-args, changed}
-use Rattle.combine.specs.Rules.{combineRules}
-use Rattle.combine.specs.Steps.{Operation, merging, intersecting, excluding, excludingApart, combineL, Ready, Asks, sourcesOf, Reads, Admits, ResultFits, withResult}
+use Rattle.combine.specs.Rules.{combineRules, Combined}
+use Rattle.combine.specs.Steps.{Operation, merging, intersecting, excluding, excludingApart, combineL, Ready, Asks, sourcesOf, Reads, Begun, mostNodes, Sure, Last, ResultFits, withResult}
 use Rattle.combine.specs.declared.asking.Destination.the-variants.{Empty, Refused}
 use Rattle.combine.specs.declared.asking.Sources.{Sources}
+use Rattle.combine.proofs.Sizes.{size-most}
 use Rattle.combine.proofs.Sources.{Source, source}
 
 -- The number that the three sets get.
@@ -101,7 +104,7 @@ few-levels f = go (eqb f 4)
 
 -- The sources of a combination that goes on.
 module _ {w : List ℕ} {to first second : ℕ} {v : Survey} (h : Ready w to first second v) where
-  abbrev state : State
+  abbrev pub state : State
   state = seen (h .surveyed) .0
 
   here : Seen w state to v
@@ -118,9 +121,6 @@ module _ {w : List ℕ} {to first second : ℕ} {v : Survey} (h : Ready w to fir
       let n = decode-header w state (here .decoded) .sets in
       all-right to first second state (omega arith) (omega arith) (seen-empty here (h .empty))
 
-  pub ready-records : (recordAt first < length w) × (recordAt second < length w)
-  ready-records = let f = seen-figures here in (omega arith, omega arith)
-
   pub ready-reads : {s : Sources} → s ≡ sourcesOf w first second → Reads w s v (trieAt state first) (trieAt state second)
   ready-reads q =
       let f = seen-figures here in
@@ -130,6 +130,8 @@ module _ {w : List ℕ} {to first second : ℕ} {v : Survey} (h : Ready w to fir
         inputs = record { first = one .means; second = two .means; deep-t = one .deep; deep-u = two .deep; turn = omega arith; few = omega arith };
         whole-t = one .whole;
         whole-u = two .whole;
+        nodes-t = one .nodes;
+        nodes-u = two .nodes;
         room = record { low = omega arith; few = omega arith; long = omega arith };
         levels = l;
       })
@@ -137,26 +139,19 @@ module _ {w : List ℕ} {to first second : ℕ} {v : Survey} (h : Ready w to fir
   pub ready-levels : {s : Sources} → s ≡ sourcesOf w first second → width (getD w 1 0) < s .levels
   ready-levels q = rw q (omega arith)
 
--- A combination whose result is counted: it has m nodes, and c says whether the destination may have it as far as its mark goes.
-pub record Counted (op : ℕ) (w : List ℕ) (to first second : ℕ) (v : Survey) (s : Sources) (c : Bool) (m : ℕ) : Type 0 where
-  pub operation : Operation op
-  pub ready : Ready w to first second v
-  pub sources : s ≡ sourcesOf w first second
-  pub clear : Admits w op to s v c
-  pub count : (t u : Trie) → Reads w s v t u → m ≡ size (opOn op (s .levels) t u)
+-- A combination that has begun, whose result has m nodes.
+pub begun-clear : {op : ℕ} {w : List ℕ} {to first second : ℕ} {v : Survey} {s : Sources} {b : Bool} → b ≡ true → Begun op w to first second v s b → Begun op w to first second v s true
+begun-clear e h = rw e at h
 
-module _ {op : ℕ} {w : List ℕ} {to first second : ℕ} {v : Survey} {s : Sources} {b : Bool} {m : ℕ} (c : Counted op w to first second v s b m) where
-  abbrev S : State
+module _ {op : ℕ} {w : List ℕ} {to first second : ℕ} {v : Survey} {s : Sources} {b : Bool} (c : Begun op w to first second v s b) where
+  abbrev pub S : State
   S = state (c .ready)
 
   abbrev after : State → List Bits
   after T = combineL op (listAt T first) (listAt T second)
 
-  abbrev made : Trie
+  abbrev pub made : Trie
   made = opOn op (suc (width (getD w 1 0))) (trieAt S first) (trieAt S second)
-
-  made-size : size made ≡ m
-  made-size = sym (rw (c .sources) at (c .count (trieAt S first) (trieAt S second) (ready-reads (c .ready) (c .sources))))
 
   made-list : listOf made ≡ after S
   made-list =
@@ -167,32 +162,71 @@ module _ {op : ℕ} {w : List ℕ} {to first second : ℕ} {v : Survey} {s : Sou
   made-clear : b ≡ admits (S .family) (setAt S to) (listOf made)
   made-clear = rw (c .sources) at (c .clear S (trieAt S first) (trieAt S second) (here (c .ready) .decoded) (ready-reads (c .ready) (c .sources)))
 
-  pub result : Result w S to v (combineRules to first second) after made b m
-  result = record {
-    seen = here (c .ready);
-    right = right (c .ready);
-    list = made-list;
-    public = ap (admits (S .family) (setAt S to)) (sym made-list) ∙ sym made-clear;
-    size = made-size;
-  }
+  pub begun-reads : Reads w s v (trieAt S first) (trieAt S second)
+  begun-reads = ready-reads (c .ready) (c .sources)
 
-  pub result-few : m < 4294967296
-  result-few = omega (arith, made-size, size-opOn op (suc (width (getD w 1 0))) (trieAt S first) (trieAt S second), one (c .ready) .few, two (c .ready) .few)
+  pub begun-few : (s .nodes ≤ 4194304) × (s .others ≤ 4194304)
+  begun-few = let r = begun-reads in (omega (arith, r .nodes-t, one (c .ready) .few), omega (arith, r .nodes-u, two (c .ready) .few))
 
-  -- it is granted, and written
-  module _ (fits : m ≤ roomOf S to) where
-    pub result-writes : ResultFits w op s v m (trieAt S first) (trieAt S second)
-    result-writes =
-        let h = here (c .ready) in
-        let f = seen-figures h in
-        rw (c .sources)
-        (record {
-          reads = ready-reads (c .ready) refl;
-          size = made-size;
-          empty = c .ready .empty;
-          gap = shift-asks h fits refl;
-          few = omega (arith, fits, decode-header w S (h .decoded) .nodes);
-        })
+  pub made-size : size made ≡ size (opOn op (s .levels) (trieAt S first) (trieAt S second))
+  made-size = rw (c .sources) refl
 
-    pub result-wrote : {y : List ℕ} → ((t u : Trie) → ResultFits w op s v m t u → y ≡ withResult w op s v m t u) → y ≡ withTrie w S to v made
-    result-wrote d = behind-first (here (c .ready)) made refl (rw made-size (rw (c .sources) at (d (trieAt S first) (trieAt S second) result-writes)))
+  module _ {m : ℕ} (count : m ≡ size made) where
+    pub result : Result w S to v (combineRules to first second) after made b m
+    result = record {
+      seen = here (c .ready);
+      right = right (c .ready);
+      list = made-list;
+      public = ap (admits (S .family) (setAt S to)) (sym made-list) ∙ sym made-clear;
+      size = sym count;
+    }
+
+    pub result-few : m < 4294967296
+    result-few = omega (arith, count, size-opOn op (suc (width (getD w 1 0))) (trieAt S first) (trieAt S second), one (c .ready) .few, two (c .ready) .few)
+
+    -- it is granted, and written
+    module _ (fits : m ≤ roomOf S to) where
+      pub result-writes : ResultFits w op s v m (trieAt S first) (trieAt S second)
+      result-writes =
+          let h = here (c .ready) in
+          let f = seen-figures h in
+          record {
+            reads = begun-reads;
+            size = sym made-size ∙ sym count;
+            empty = c .ready .empty;
+            gap = rw (c .sources) (shift-asks h fits refl);
+            few = omega (arith, fits, decode-header w S (h .decoded) .nodes);
+          }
+
+      pub result-wrote : {y : List ℕ} → y ≡ withResult w op s v m (trieAt S first) (trieAt S second) → y ≡ withTrie w S to v made
+      result-wrote d = behind-first (here (c .ready)) made refl (rw (← count) (rw (c .sources) at d))
+
+  -- it surely fits
+  module _ (sure : Sure w op to s v) (clear : b ≡ true) where
+    made-most : size made ≤ mostNodes op (s .nodes) (s .others)
+    made-most = let r = begun-reads in rw (r .nodes-t, r .nodes-u) (size-most op (suc (width (getD w 1 0))) (trieAt S first) (trieAt S second))
+
+    sure-judged : {m : ℕ} → m ≡ size made → Judges w to b m Fits
+    sure-judged n = record {
+      verdict = λ T l d p e.
+          judge-none (seen-as (c .ready .surveyed) T d) l p e clear (omega (arith, made-most, sure .limit)) refl (omega (arith, made-most, sure .room T d));
+    }
+
+    sure-room : {m : ℕ} (n : m ≡ size made) → m ≤ roomOf S to
+    sure-room n = result-fits (result n) (sure-judged n) refl
+
+    pub sure-last : Last w op s v (trieAt S first) (trieAt S second)
+    sure-last = record { last = sure .last; writable = result-writes (sym made-size) (sure-room (sym made-size)) }
+
+    module _ {r : ℕ} {y : List ℕ} (d : (t u : Trie) → Last w op s v t u → (r ≡ size (opOn op (s .levels) t u)) × (y ≡ withResult w op s v r t u)) where
+      appended : r ≡ size made
+      appended = d (trieAt S first) (trieAt S second) sure-last .0 ∙ sym made-size
+
+      appended-wrote : y ≡ withTrie w S to v made
+      appended-wrote = result-wrote appended (sure-room appended) (d (trieAt S first) (trieAt S second) sure-last .1)
+
+      pub appended-relinks : Relink y to (v .held) r
+      appended-relinks = result-relinks (result appended) (sure-judged appended) refl appended-wrote
+
+      pub appended-granted : {x : ℕ × ℕ} {z : List ℕ} → x ≡ (0, r) → z ≡ relinked y to (v .at) (v .held) r → Combined (combineL op) w to first second x z
+      appended-granted p q = result-granted (result appended) (sure-judged appended) refl appended-wrote p q

@@ -1,8 +1,8 @@
--- A copy: excluding nothing leaves a trie as it is. It stands where its number says, so the check finds its end, and its words are those from there on. Assumes nothing.
+-- A copy: excluding nothing leaves a trie as it is. It stands where its number says, and its words are those from there on. Assumes nothing.
 use mathlib.Core.Bool.{true}
 use mathlib.Core.List.{List}
 use mathlib.Core.Path.{_≡_, refl, sym, ap, _∙_}
-use Prim.Native.Nat.{ℕ, suc, _+_, _≤_, _<_}
+use Prim.Native.Nat.{ℕ, _+_, _≤_, _<_}
 use native.Mathlib.Omega.{arith}
 use lib.Dec.{eqb, ltb}
 use lib.ListN.{length, take, drop}
@@ -14,10 +14,8 @@ use Rattle.nets.proofs.Excluding.{listOf-except}
 use Rattle.nets.proofs.Strings.{cond-both, and-left, and-right}
 use Rattle.nets.proofs.TrieOf.{trieOf-listOf}
 use Rattle.nodes.specs.Words.{put, place, enc}
-use Rattle.nodes.specs.Parse.{parse, after}
 use Rattle.nodes.proofs.Has.{has-seg}
-use Rattle.nodes.proofs.Parsed.{parse-of}
-use Rattle.nodes.proofs.Tries.{length-enc, some}
+use Rattle.nodes.proofs.Tries.{length-enc}
 use Rattle.trie_emit.specs.Combine.{opOn, Means, nothing, everything, standing}
 use Rattle.trie_emit.proofs.Combine.{opOn-except}
 use Rattle.pool_state.specs.Steps.{behindAt}
@@ -40,13 +38,6 @@ module _ {w : List ℕ} {b o g : ℕ} where
   means-none i t everything e = absurd (omega arith)
   means-none i t (standing h) e = absurd (omega (arith, h .one))
 
-  means-end : (n f i : ℕ) (t : Trie) → Means w b o g i t → (i ≡ 0 → ⊥) → i + size t ≤ suc n → suc n < 4294967295 → levels t ≤ f → after i (parse w b n f i) ≡ i + size t
-  unfolding after
-  means-end n f i t nothing ne le few deep = absurd (ne refl)
-  means-end n f i t everything ne le few deep = absurd (omega arith)
-  means-end n f i t (standing {l = l} {r = r} h) ne le few deep =
-      rw (parse-of w b n f (node l r) i (h .one) (some l r) (record { deep = deep; within = le; has = h .has }))
-
   means-words : (i : ℕ) (t : Trie) → Means w b o g i t → i < 4294967295 → b ≤ length w → (place b i + size t ≤ length w) × (take (size t) (drop (place b i) w) ≡ enc t)
   unfolding size enc
   means-words i t nothing lt le = (omega arith, refl)
@@ -55,15 +46,8 @@ module _ {w : List ℕ} {b o g : ℕ} where
       let n = length-enc (node l r) in
       (omega (arith, h .has .fits), rw (← n) (has-seg (h .has)))
 
+-- the operation leaves its first source as it is
 module _ {w : List ℕ} {s : Sources} {v : Survey} {t u : Trie} (h : Reads w s v t u) where
-  pub size-none : s .first ≡ 0 → 0 ≡ size t
-  unfolding size
-  size-none e = rw (means-none (s .first) t (h .inputs .first) e)
-
-  pub size-end : (s .first ≡ 0 → ⊥) → after (s .first) (parse w (s .base) (v .used) (s .levels) (s .first)) ≡ s .first + size t
-  size-end ne = means-end (v .used) (s .levels) (s .first) t (h .inputs .first) ne (omega arith) (omega arith) (h .inputs .deep-t)
-
-  -- the operation leaves its first source as it is
   pub copied : (op : ℕ) → isCopy op s ≡ true → opOn op (s .levels) t u ≡ t
   copied op c =
       let e = eqb-true op 3 (and-left (eqb op 3) (eqb (s .second) 0) c) in

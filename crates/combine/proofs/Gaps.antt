@@ -1,7 +1,7 @@
 -- A gap opened before a node, and a result written into it: what stands behind moves as a whole, so a source means the same trie by its moved number, and stands apart
 -- from the gap. Assumes nothing.
 use mathlib.Core.List.{List}
-use mathlib.Core.Path.{_≡_, _∙_}
+use mathlib.Core.Path.{_≡_, sym, _∙_}
 use Prim.Native.Nat.{ℕ, _+_, _-_, _≤_, _<_}
 use native.Mathlib.Decide.{decLt}
 use native.Mathlib.Omega.{arith}
@@ -10,17 +10,17 @@ use lib.Seq.{getD-take, getD-drop, length-take-le}
 use borrow.Author.Tests.{lt-ltb, le-ltb}
 use Rattle.nets.specs.Tries.{Trie, node, size}
 use Rattle.nodes.specs.Words.{put, Has, place, enc}
-use Rattle.nodes.proofs.Put.{length-put, getD-put-in}
+use Rattle.nodes.proofs.Put.{put-nil, length-put, getD-put-in}
 use Rattle.nodes.proofs.Has.{has-put, has-at}
 use Rattle.nodes.proofs.Tries.{length-enc}
-use Rattle.trie_emit.specs.Answers.{Emits, restOf}
+use Rattle.trie_emit.specs.Answers.{Emits, endOf, restOf}
 use Rattle.trie_emit.specs.Combine.{opOn, Here, Means, nothing, everything, standing, Inputs, Gap as Free}
 use Rattle.trie_emit.specs.declared.emitting.Emitted.{Emitted}
 use Rattle.trie_emit.specs.declared.emitting.Emitted.the-variants.{Full}
-use Rattle.trie_emit.proofs.Answers.{full-size, settled}
+use Rattle.trie_emit.proofs.Answers.{end-is, full-size, settled}
 use Rattle.pool_state.specs.Steps.{behindAt}
 use Rattle.pool_state.specs.declared.Survey.{Survey}
-use Rattle.combine.specs.Steps.{movedTo, Whole, ResultFits, withResult}
+use Rattle.combine.specs.Steps.{movedTo, Whole, ResultFits, Last, withResult}
 use Rattle.combine.specs.declared.asking.Sources.{Sources}
 
 -- a part of m words that move from p to q
@@ -98,3 +98,38 @@ module _ {w : List ℕ} {op : ℕ} {s : Sources} {v : Survey} {n : ℕ} {t u : T
 
     pub write-wrote : {r : List ℕ} → r ≡ put y (place (s .base) (v .at)) (restOf x) → r ≡ withResult w op s v n t u
     write-wrote q = rw (← e) (settled d q)
+
+-- Where nothing stands behind the gap, nothing moves.
+module _ {w : List ℕ} {op : ℕ} {s : Sources} {v : Survey} {t u : Trie} (h : Last w op s v t u) where
+  abbrev made : ℕ
+  made = size (opOn op (s .levels) t u)
+
+  last-opened : w ≡ put w (place (s .base) (v .at + made)) (behindAt w (s .base) v)
+  unfolding behindAt
+  last-opened =
+      let e : v .used + 1 - (v .at + v .held) ≡ 0 = omega (arith, h .last) in
+      rw e (sym (put-nil w (place (s .base) (v .at + made))))
+
+  last-moved : (i : ℕ) (x : Trie) → Means w (s .base) 0 0 i x → Whole (v .at) (v .used + 1) i x → i ≡ movedTo (v .at) made i
+  unfolding size
+  last-moved i x nothing k = rw (lt-ltb 0 (v .at) (omega (arith, h .writable .gap .first)))
+  last-moved i x everything k = absurd (omega (arith, k .within, h .writable .reads .room .few))
+  last-moved i x (standing {i = j} g) k = rw (lt-ltb j (v .at) (omega (arith, k .within, h .last)))
+
+  pub last-inputs : Inputs w (s .base) (s .first) (s .second) (v .at) (v .at + made) (s .levels) t u
+  last-inputs =
+      let r = h .writable .reads in
+      write-inputs (h .writable) last-opened (last-moved (s .first) t (r .inputs .first) (r .whole-t)) (last-moved (s .second) u (r .inputs .second) (r .whole-u))
+
+  pub last-free : Free w (s .base) (v .at) (v .at + made) (opOn op (s .levels) t u)
+  last-free = write-free (h .writable) last-opened
+
+  module _ {y : List ℕ} {x : Emitted} (d : Emits w y (s .base) (v .at) x (opOn op (s .levels) t u)) where
+    pub last-settles : (1 ≤ v .at) × (x ≡ Full → place (s .base) (v .at) < length y)
+    last-settles = write-settles (h .writable) last-opened d
+
+    pub last-end : {e : ℕ} → e ≡ endOf x (v .at) → e ≡ v .at + made
+    last-end q = q ∙ end-is x (opOn op (s .levels) t u) (v .at) (d .answers)
+
+    pub last-wrote : {z : List ℕ} {r : ℕ} → r ≡ made → z ≡ put y (place (s .base) (v .at)) (restOf x) → z ≡ withResult w op s v r t u
+    last-wrote e q = rw e (write-wrote (h .writable) last-opened d q)

@@ -37,6 +37,7 @@ pub record Source (w : List ℕ) (S : State) (v : Survey) (j : ℕ) : Type 0 whe
   pub deep : levels (trieAt S j) ≤ suc (width (getD w 1 0))
   pub list : listOf (trieAt S j) ≡ listAt S j
   pub few : size (trieAt S j) ≤ 4194304
+  pub nodes : surveyOf (decode w) j .held ≡ size (trieAt S j)
 
 module _ {w : List ℕ} {S : State} {k : ℕ} {v : Survey} (h : Seen w S k v) (j : ℕ) (lt : j < getD w 2 0) where
   source-before : (its h j lt) .at < v .at → (its h j lt) .at + size (trieAt S j) ≤ v .at
@@ -59,4 +60,5 @@ module _ {w : List ℕ} {S : State} {k : ℕ} {v : Survey} (h : Seen w S k v) (j
         deep = rw (decode-header w S (h .decoded) .family) (decode-at w S (h .decoded) j (g .known) .deep);
         list = seen-list g;
         few = omega (arith, seen-size g);
+        nodes = sym (seen-size g);
       }

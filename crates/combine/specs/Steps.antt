@@ -4,13 +4,15 @@
 --   Ready w to first second v    a combination can go on: v is what a pass over the pool found for its empty destination;  Asks: that, or its refusal
 --   sourcesOf w first second     what a combination reads;  Reads w s v t u: its sources are the tries t and u
 --   Admits w op to s v c         c says whether the set `to` may have what the operation makes of the sources, as far as its mark goes
+--   mostNodes op x y             the most nodes that the operation makes of sources of x and y nodes
 --   isCopy op s                  the operation leaves its first source as it is
 --   movedTo o n i                the number of node i after n nodes were put in before node o
 --   ResultFits, withResult            what writing the result asks, and the words that it leaves
+--   Begun, Sure, Last            a combination that goes on; its result surely fits, and goes behind all nodes
 use mathlib.Core.Bool.{Bool, cond, _&&_}
 use mathlib.Core.List.{List}
 use mathlib.Core.Path.{_≡_}
-use Prim.Native.Nat.{ℕ, zero, suc, _+_, _≤_, _<_}
+use Prim.Native.Nat.{ℕ, zero, suc, _+_, _*_, _≤_, _<_}
 use lib.Dec.{eqb, ltb}
 use lib.ListN.{getD}
 use Rattle.nets.specs.Bits.{Bits}
@@ -21,8 +23,9 @@ use Rattle.nets.specs.Refusals.{number}
 use Rattle.nodes.specs.Words.{put, place, enc}
 use Rattle.nodes.specs.Parse.{Room}
 use Rattle.trie_emit.specs.Combine.{opOn, Inputs}
-use Rattle.pool_state.specs.States.{State, admits}
+use Rattle.pool_state.specs.States.{State, roomOf, admits}
 use Rattle.pool_state.specs.Decode.{recordAt, base, sound, decode}
+use Rattle.pool_state.specs.Rules.{limitIn, surveyOf}
 use Rattle.pool_state.specs.Changes.{setAt, Relisted}
 use Rattle.pool_state.specs.Steps.{Surveyed, behindAt, Shiftable}
 use Rattle.pool_state.specs.declared.Survey.{Survey}
@@ -55,7 +58,14 @@ Asks w to first second (Refused x) = (f : State → List Bits) → Relisted w to
 
 abbrev pub sourcesOf : List ℕ → ℕ → ℕ → Sources
 sourcesOf w first second =
-    record { base = base (getD w 2 0); first = getD w (recordAt first) 0; second = getD w (recordAt second) 0; levels = suc (width (getD w 1 0)) }
+    record {
+      base = base (getD w 2 0);
+      first = getD w (recordAt first) 0;
+      nodes = surveyOf (decode w) first .held;
+      second = getD w (recordAt second) 0;
+      others = surveyOf (decode w) second .held;
+      levels = suc (width (getD w 1 0));
+    }
 
 abbrev pub movedTo : ℕ → ℕ → ℕ → ℕ
 movedTo o n i = cond (ltb i o) i (i + n)
@@ -70,11 +80,17 @@ pub record Reads (w : List ℕ) (s : Sources) (v : Survey) (t u : Trie) : Type 0
   pub inputs : Inputs w (s .base) (s .first) (s .second) 0 0 (s .levels) t u
   pub whole-t : Whole (v .at) (v .used + 1) (s .first) t
   pub whole-u : Whole (v .at) (v .used + 1) (s .second) u
+  pub nodes-t : s .nodes ≡ size t
+  pub nodes-u : s .others ≡ size u
   pub room : Room w (s .base) (v .used)
   pub levels : s .levels ≤ 129
 
 abbrev pub Admits : List ℕ → ℕ → ℕ → Sources → Survey → Bool → Type 0
 Admits w op to s v c = (S : State) (t u : Trie) → decode w ≡ sound S → Reads w s v t u → c ≡ admits (S .family) (setAt S to) (listOf (opOn op (s .levels) t u))
+
+-- the most nodes that an operation makes of sources of x and y nodes
+abbrev pub mostNodes : ℕ → ℕ → ℕ → ℕ
+mostNodes op x y = cond (ltb op 2) (x + y) (x + 2 * y)
 
 -- nothing is excluded
 abbrev pub isCopy : ℕ → Sources → Bool
@@ -87,6 +103,23 @@ pub record ResultFits (w : List ℕ) (op : ℕ) (s : Sources) (v : Survey) (n : 
   pub empty : v .held ≡ 0
   pub gap : Shiftable w (s .base) v n
   pub few : v .used + 1 + n ≤ 1073741824
+
+-- a combination that goes on: its sources, and c says whether the destination may have the result as far as its mark goes
+pub record Begun (op : ℕ) (w : List ℕ) (to first second : ℕ) (v : Survey) (s : Sources) (c : Bool) : Type 0 where
+  pub operation : Operation op
+  pub ready : Ready w to first second v
+  pub sources : s ≡ sourcesOf w first second
+  pub clear : Admits w op to s v c
+
+-- its result goes behind all nodes and fits, however many of them it has
+pub record Sure (w : List ℕ) (op to : ℕ) (s : Sources) (v : Survey) : Type 0 where
+  pub last : v .at ≡ v .used + 1
+  pub limit : mostNodes op (s .nodes) (s .others) ≤ limitIn w to
+  pub room : (S : State) → decode w ≡ sound S → mostNodes op (s .nodes) (s .others) ≤ roomOf S to
+
+pub record Last (w : List ℕ) (op : ℕ) (s : Sources) (v : Survey) (t u : Trie) : Type 0 where
+  pub last : v .at ≡ v .used + 1
+  pub writable : ResultFits w op s v (size (opOn op (s .levels) t u)) t u
 
 -- the sets behind the gap moved, and the result in it
 abbrev pub withResult : List ℕ → ℕ → Sources → Survey → ℕ → Trie → Trie → List ℕ

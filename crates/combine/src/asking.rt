@@ -7,10 +7,12 @@ use pool_check::seats::seat_of;
 use pool_state::Seated;
 use pool_state::Survey;
 ghost use mathlib.Core.Path.{_≡_};
-ghost use Prim.Native.Nat.{_<_};
-ghost use lib.ListN.{length};
-ghost use Rattle.pool_state.specs.Decode.{recordAt};
-ghost use Rattle.combine.specs.Steps.{Asks, sourcesOf};
+ghost use Prim.Native.Nat.{ℕ, _<_};
+ghost use lib.ListN.{getD};
+ghost use Rattle.pool_state.specs.Decode.{decode};
+ghost use Rattle.pool_state.specs.Rules.{surveyOf};
+ghost use Rattle.pool_state.specs.Steps.{Surveyed};
+ghost use Rattle.combine.specs.Steps.{Ready, Asks, sourcesOf};
 
 // The destination of a combination, which is empty: what a pass over the pool found for it. Or the refusal.
 pub enum Destination {
@@ -18,11 +20,13 @@ pub enum Destination {
     Refused(Refusal),
 }
 
-// What a combination reads: the nodes from the word `base` on, the roots of its sources, 0 where one is empty, and the levels that a trie may have.
+// What a combination reads: the nodes from the word `base` on, the roots of its sources, 0 where one is empty, the nodes of the first and those of the other, and the levels that a trie may have.
 pub struct Sources {
     pub base: usize,
     pub first: usize,
+    pub nodes: usize,
     pub second: usize,
+    pub others: usize,
     pub levels: usize,
 }
 
@@ -49,15 +53,38 @@ pub fn ask(pool: &[u32], to: u32, first: u32, second: u32) -> Destination
     }
 }
 
+// The nodes of a set: the next set that is not empty begins behind them, or the nodes in use end there.
+fn nodes_of(pool: &[u32], set: u32, v: Survey) -> usize
+    requires { ⌜ ((k : ℕ) × Surveyed (now pool) k v) × (set < getD (now pool) 2 0) ⌝ }
+    ensures { λ r. ⌜ r ≡ surveyOf (decode (now (pool .entry))) set .held ⌝ }
+{
+    let root = pool[HEAD + RECORD * (set as usize)] as usize;
+    if root == 0 {
+        return 0;
+    }
+    let sets = pool[2] as usize;
+    let mut s = set as usize + 1;
+    while s < sets {
+        let next = pool[HEAD + RECORD * s] as usize;
+        if next != 0 {
+            return next - root;
+        }
+        s += 1;
+    }
+    v.used as usize + 1 - root
+}
+
 // What a combination of two sets reads.
-pub fn sources_of(pool: &[u32], first: u32, second: u32) -> Sources
-    requires { ⌜ (recordAt first < length (now pool)) × (recordAt second < length (now pool)) ⌝ }
+pub fn sources_of(pool: &[u32], first: u32, second: u32, v: Survey) -> Sources
+    requires { ⌜ ((to : ℕ) × Ready (now pool) to first second v) ⌝ }
     ensures { λ r. ⌜ r ≡ sourcesOf (now (pool .entry)) first second ⌝ }
 {
     Sources {
         base: HEAD + RECORD * (pool[2] as usize),
         first: pool[HEAD + RECORD * (first as usize)] as usize,
+        nodes: nodes_of(pool, first, v),
         second: pool[HEAD + RECORD * (second as usize)] as usize,
+        others: nodes_of(pool, second, v),
         levels: most_levels(pool[1]) as usize,
     }
 }

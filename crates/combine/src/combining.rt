@@ -1,31 +1,37 @@
-// One combination for every operation: the result is counted and judged before anything is written, and then written once, into a gap of just its nodes.
+// One combination for every operation. Nothing is written before the result is known to fit: it is counted and judged, and then written into a gap of just its nodes; or, where it would go
+// behind all nodes and fits however many it has, written at once.
+use crate::EXCLUDE;
 use crate::asking::Destination;
 use crate::asking::Sources;
 use crate::asking::ask;
 use crate::asking::sources_of;
 use crate::copying::copy;
-use crate::copying::copy_size;
 use crate::copying::is_copy;
 use pool_change::judging::is_public;
 use pool_change::judging::judge;
+use pool_change::judging::room;
 use pool_change::relinking::granted;
 use pool_change::relinking::shift_behind;
+use pool_check::HEAD;
+use pool_check::RECORD;
 use pool_state::Answer;
 use pool_state::Survey;
 use pool_state::Verdict;
 use trie_emit::combining::emit;
 use trie_emit::combining::op_size;
+use trie_emit::emitting::end_of;
 use trie_emit::emitting::settle;
 use trie_meets::combined::op_is_clear;
 ghost use mathlib.Core.Path.{_≡_};
-ghost use Prim.Native.Nat.{_+_, _<_};
+ghost use mathlib.Core.Bool.{true};
+ghost use Prim.Native.Nat.{ℕ, _+_, _≤_, _<_};
 ghost use lib.ListN.{getD};
 ghost use Rattle.nets.specs.Networks.{width};
 ghost use Rattle.nets.specs.Tries.{Trie, size};
 ghost use Rattle.trie_emit.specs.Combine.{opOn};
 ghost use Rattle.pool_state.specs.Rules.{answerAs};
 ghost use Rattle.combine.specs.Rules.{Combined};
-ghost use Rattle.combine.specs.Steps.{Operation, combineL, Reads, Admits, movedTo, ResultFits, withResult};
+ghost use Rattle.combine.specs.Steps.{Operation, combineL, Reads, Admits, Begun, movedTo, mostNodes, Sure, Last, ResultFits, withResult};
 ghost use Rattle.pool_state.specs.Steps.{Surveyed};
 
 // The number of a node after n nodes were put in before node `at`.
@@ -52,12 +58,12 @@ fn is_admitted(pool: &[u32], op: usize, to: u32, s: Sources, v: Survey) -> bool
 }
 
 // The nodes of the result.
-fn count(pool: &[u32], op: usize, s: Sources, v: Survey) -> usize
-    requires { ⌜ ((t : Trie) × (u : Trie) × Reads (now pool) s v t u) ⌝ }
-    ensures { λ r. ⌜ ((t u : Trie) → Reads (now (pool .entry)) s v t u → r ≡ size (opOn op (s .levels) t u)) ⌝ }
+fn count(pool: &[u32], op: usize, s: Sources) -> usize
+    requires { ⌜ ((v : Survey) × (t : Trie) × (u : Trie) × Reads (now pool) s v t u) ⌝ }
+    ensures { λ r. ⌜ ((v : Survey) (t u : Trie) → Reads (now (pool .entry)) s v t u → r ≡ size (opOn op (s .levels) t u)) ⌝ }
 {
     if is_copy(op, s) {
-        return copy_size(pool, s, v);
+        return s.nodes;
     }
     op_size(pool, s.base, op, s.first, s.second, s.levels)
 }
@@ -79,6 +85,75 @@ fn write(pool: &mut [u32], op: usize, s: Sources, v: Survey, n: u32)
     settle(pool, s.base, at, x);
 }
 
+// The most nodes that the result can have.
+fn most_nodes(op: usize, s: Sources) -> usize
+    requires { ⌜ (s .nodes ≤ 4194304) × (s .others ≤ 4194304) ⌝ }
+    ensures { λ r. ⌜ r ≡ mostNodes op (s .nodes) (s .others) ⌝ }
+{
+    if op < EXCLUDE {
+        return s.nodes + s.others;
+    }
+    s.nodes + 2 * s.others
+}
+
+// Whether the destination may have the result, which goes behind all nodes and fits, however many of them it has. A copy is counted already.
+fn surely_fits(pool: &[u32], op: usize, to: u32, s: Sources, v: Survey, clear: bool) -> bool
+    requires { ⌜ Surveyed (now pool) to v ⌝ }
+    requires { ⌜ (s .nodes ≤ 4194304) × (s .others ≤ 4194304) ⌝ }
+    ensures { λ r. ⌜ (r ≡ true → (clear ≡ true) × Sure (now (pool .entry)) op to s v) ⌝ }
+{
+    if !clear {
+        return false;
+    }
+    if v.at != v.used + 1 {
+        return false;
+    }
+    if is_copy(op, s) {
+        return false;
+    }
+    let n = most_nodes(op, s);
+    if (pool[HEAD + RECORD * (to as usize) + 2] as usize) < n {
+        return false;
+    }
+    n <= room(pool, to, v) as usize
+}
+
+// Writes the result behind all nodes. Answers its nodes.
+fn append(pool: &mut [u32], op: usize, s: Sources, v: Survey) -> u32
+    requires { ⌜ ((t : Trie) × (u : Trie) × Last (now pool) op s v t u) ⌝ }
+    ensures { λ r. ⌜ ((t u : Trie) → Last (now (pool .entry)) op s v t u → (r ≡ size (opOn op (s .levels) t u)) × (now (pool .exit) ≡ withResult (now (pool .entry)) op s v r t u)) ⌝ }
+{
+    let at = v.at as usize;
+    let x = emit(pool, s.base, op, s.first, s.second, at, s.levels);
+    settle(pool, s.base, at, x);
+    (end_of(x, at) - at) as u32
+}
+
+// A combination whose result surely fits.
+fn uncounted(pool: &mut [u32], op: usize, to: u32, s: Sources, v: Survey) -> Answer
+    requires { ⌜ ((first : ℕ) × (second : ℕ) × Begun op (now pool) to first second v s true) × Sure (now pool) op to s v ⌝ }
+    ensures { λ r. ⌜ ((first second : ℕ) → Begun op (now (pool .entry)) to first second v s true → Combined (combineL op) (now (pool .entry)) to first second (answerAs r) (now (pool .exit))) ⌝ }
+{
+    let n = append(pool, op, s, v);
+    granted(pool, to, v, n)
+}
+
+// A combination whose result is counted and judged before it is written; `clear` says whether the destination may have it as far as its mark goes.
+fn counted(pool: &mut [u32], op: usize, to: u32, s: Sources, v: Survey, clear: bool) -> Answer
+    requires { ⌜ ((first : ℕ) × (second : ℕ) × Begun op (now pool) to first second v s clear) ⌝ }
+    ensures { λ r. ⌜ ((first second : ℕ) → Begun op (now (pool .entry)) to first second v s clear → Combined (combineL op) (now (pool .entry)) to first second (answerAs r) (now (pool .exit))) ⌝ }
+{
+    let n = count(pool, op, s) as u32;
+    let verdict = judge(pool, to, v, clear, n);
+    match verdict {
+        Verdict::No(no) => Answer::Refused(no),
+        Verdict::Fits => {
+            write(pool, op, s, v, n);
+            granted(pool, to, v, n)
+        }
+    }
+}
+
 // Writes what an operation makes of two sets into an empty one. Answers its nodes.
 pub fn combine(pool: &mut [u32], op: usize, to: u32, first: u32, second: u32) -> Answer
     requires { ⌜ Operation op ⌝ }
@@ -88,17 +163,12 @@ pub fn combine(pool: &mut [u32], op: usize, to: u32, first: u32, second: u32) ->
     match asked {
         Destination::Refused(no) => Answer::Refused(no),
         Destination::Empty(v) => {
-            let s = sources_of(pool, first, second);
+            let s = sources_of(pool, first, second, v);
             let clear = is_admitted(pool, op, to, s, v);
-            let n = count(pool, op, s, v) as u32;
-            let verdict = judge(pool, to, v, clear, n);
-            match verdict {
-                Verdict::No(no) => Answer::Refused(no),
-                Verdict::Fits => {
-                    write(pool, op, s, v, n);
-                    granted(pool, to, v, n)
-                }
+            if surely_fits(pool, op, to, s, v, clear) {
+                return uncounted(pool, op, to, s, v);
             }
+            counted(pool, op, to, s, v, clear)
         }
     }
 }

@@ -1,5 +1,4 @@
 -- The laws of lazy emission, from the bottom up.
 pub mod Answers
-pub mod Simplify
 pub mod Sources
 pub mod Combine

@@ -1,12 +1,13 @@
 -- `shrink` meets its contract: what is written, with the leaf that may be left, is the simplified trie. Assumes nothing.
 use native.Mathlib.Omega.{arith}
 use borrow.Author.Needs.{needs}
+use Rattle.trie_blocks.proofs.Blocks.{segment-asks}
 use Rattle.change.proofs.Simplified.{settle-fits, end-fits, shrunk}
 use Rattle.change.proofs.shrinking.shrink.Statement.{statement}
 use Rattle.change.proofs.shrinking.shrink.Tie as tie
 
 abbrev start : tie.After-simplify → tie.Start
-start s = s .before .before .before .before .before
+start s = s .before .before .before .before .before .before .before
 
 abbrev done : tie.After-end-of → tie.After-simplify
 done c = c .before .before .before .before .before .before .before
@@ -18,7 +19,8 @@ shrink-spec =
     (λ c. search needs)
     (λ c. search needs)
     (λ c. search needs)
-    (λ c κs. search needs)
+    (λ c κs. segment-asks (c .before .before .before .before .pre .1 .here))
+    (λ c κs. (c .before .before .before .before .before .before .pre, c .before .next-join .ensures))
     (λ c κs. let s = c .before .before .before in let (t, g) = start s .pre in (g .one, settle-fits g (s .simplify .ensures t g)))
     (λ c κs. search needs)
     (λ c. let s = done c in let (t, g) = start s .pre in omega (arith, end-fits g (s .simplify .ensures t g) (c .end-of .ensures)))

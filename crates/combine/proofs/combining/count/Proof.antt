@@ -11,7 +11,6 @@ count-spec =
     tie.close
     (tie.spec
     (λ c κs. search needs)
-    (λ c κs. search needs)
-    (λ c t u h. let i = c .before in c .copy-size .ensures t u h ∙ ap size (sym (copied h (i .before .before .before .args .op) (sym (i .before .is-copy .ensures) ∙ i .if1 .taken))))
-    (λ c κs. let (t, u, h) = c .before .before .before .pre in (t, u, h .inputs))
-    (λ c t u h. c .op-size .ensures t u (h .inputs)))
+    (λ c v t u h. h .nodes-t ∙ ap size (sym (copied h (c .before .before .before .args .op) (sym (c .before .is-copy .ensures) ∙ c .if1 .taken))))
+    (λ c κs. let (v, t, u, h) = c .before .before .before .pre in (t, u, h .inputs))
+    (λ c v t u h. c .op-size .ensures t u (h .inputs)))

@@ -13,11 +13,11 @@ use Rattle.nodes.proofs.Put.{length-put}
 use Rattle.nodes.proofs.Has.{has-put}
 use Rattle.nodes.proofs.Segments.{segment-fit, segment-left, segment-right}
 use Rattle.nodes.proofs.Views.{view-none, view-leaf, view-inner}
 use Rattle.trie_emit.specs.Answers.{answer, body, Emits, endOf, Both, Pending}
-use Rattle.trie_emit.specs.Simplify.{Source}
+use Rattle.trie_blocks.specs.Simplify.{Source}
 use Rattle.trie_emit.specs.declared.emitting.Emitted.{Emitted}
 use Rattle.trie_emit.specs.declared.emitting.Emitted.the-variants.{Empty, Full}
 use Rattle.trie_emit.proofs.Answers.{end-is, emits-flat, length-body, size-glue}
 
 pub size-simplify : (t : Trie) → size (simplifyT t) ≤ size t
 unfolding size simplifyT
