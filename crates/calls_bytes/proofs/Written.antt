@@ -11,10 +11,6 @@ use Rattle.calls_bytes.specs.Bytes.{u16Bytes, u32Bytes, u64Bytes}
 use Rattle.calls_bytes.specs.Records.{netBytes, headBytes, replyBytes}
 use Rattle.calls_bytes.specs.declared.Reply.{Reply}
 
-pub length-u16 : (x : ℕ) → length (u16Bytes x) ≡ 2
-unfolding u16Bytes
-length-u16 x = refl
-
 pub length-u32 : (x : ℕ) → length (u32Bytes x) ≡ 4
 unfolding u16Bytes u32Bytes
 length-u32 x = refl

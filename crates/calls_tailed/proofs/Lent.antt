@@ -30,7 +30,7 @@ use Rattle.salvage.specs.Calls.{savedOf, salvageRules, salvagedAs, salvageLeft,
 use Rattle.salvage.specs.declared.Salvaged.{Salvaged}
 use Rattle.nets.specs.Refusals.{firstNo}
 use Rattle.nets.proofs.Strings.{cond-both}
-use Rattle.text.specs.Answers.{noneWritten, writtenAs, over}
+use Rattle.text.specs.Answers.{noneWritten, writtenAs, overBytes}
 use Rattle.text_either.specs.Either.{lineEither, eitherRefusal, WroteEither}
 use Rattle.text_either.proofs.RoundTrip.{eitherRefusal-zero}
 use Rattle.text.specs.declared.Written.{Written}
@@ -136,7 +136,7 @@ pub length-rowsOf : (w : List ℕ) (c : Call) → length (rowsOf w c) ≡ c .b
 unfolding rowsOf
 length-rowsOf w c = length-rowsBy (lentRows c) (decode w) (c .a) (asksRanges c) ∙ length-replicate (c .b) (c .c)
 
-length-line : (t : Bool) (s old : List ℕ) → (t ≡ true → length s ≤ length old) → length (cond t (over s old) old) ≡ length old
+length-line : (t : Bool) (s old : List ℕ) → (t ≡ true → length s ≤ length old) → length (cond t (overBytes s old) old) ≡ length old
 length-line false s old h = refl
 length-line true s old h = let i = h refl in simp (length-append, length-drop) (omega arith)
 

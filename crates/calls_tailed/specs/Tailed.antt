@@ -18,7 +18,7 @@ use Rattle.listing.specs.Calls.{listRule, rowsAfter}
 use Rattle.rangelist.specs.Calls as ranges
 use Rattle.setfile.specs.Calls.{saveRule, bytesAfter}
 use Rattle.salvage.specs.Calls.{salvageRule, salvageLeft}
-use Rattle.text.specs.Answers.{noneWritten, over}
+use Rattle.text.specs.Answers.{noneWritten, overBytes}
 use Rattle.text_either.specs.Either.{lineEither, eitherRefusal}
 use Rattle.calls_bytes.specs.Bytes.{u64Bytes}
 use Rattle.calls_bytes.specs.Tails.{rowBytes}
@@ -44,7 +44,7 @@ abbrev pub lentBytes : Call → List ℕ
 lentBytes c = replicate (c .b) (c .c % 256)
 
 unfoldable pub lineBytes : Call → List ℕ
-lineBytes c = cond (eqb (eitherRefusal (c .net) (c .b)) 0) (over (lineEither (c .net)) (lentBytes c)) (lentBytes c)
+lineBytes c = cond (eqb (eitherRefusal (c .net) (c .b)) 0) (overBytes (lineEither (c .net)) (lentBytes c)) (lentBytes c)
 
 unfoldable pub lineReply : Call → Reply
 lineReply c = writeReply (answered (eitherRefusal (c .net) (c .b)) noneWritten (length (lineEither (c .net)), hasBitPast (c .net)))

@@ -1,19 +1,18 @@
 -- Overlap by addresses, bit strings of the width w: two networks overlap exactly if one is led by both, two lists exactly if one is covered by both. So
 -- overlap depends on the covered addresses alone, and a list is public exactly if it covers no address of an inner network. Assumes nothing.
-use mathlib.Core.Bool.{Bool, true, false, not, false≢true}
-use mathlib.Core.List.{List, [], _∷_, _++_}
-use mathlib.Core.Logic.{_⊎_, inl, inr}
+use mathlib.Core.Bool.{Bool, true, false, not}
+use mathlib.Core.List.{List, _++_}
+use mathlib.Core.Logic.{inl, inr}
 use mathlib.Core.Path.{_≡_, refl, ap, sym, _∙_}
 use Prim.Native.Nat.{ℕ, _-_, _≤_}
 use native.Mathlib.Omega.{arith}
-use borrow.Author.Tests.{leb-true}
-use lib.Dec.{leb}
 use lib.ListN.{length, replicate, length-append, length-replicate}
-use Rattle.nets.specs.Bits.{Bits, leads, equal}
-use Rattle.nets.specs.Lists.{member, covers, within}
+use Rattle.nets.specs.Bits.{Bits, leads}
+use Rattle.nets.specs.Lists.{covers, within}
 use Rattle.nets.specs.Networks.{width}
-use Rattle.nets.proofs.Strings.{and-left, and-right, or-cases, bool-iff, equal-is, leads-trans, leads-append}
+use Rattle.nets.proofs.Strings.{or-cases, bool-iff, leads-trans, leads-append}
 use Rattle.nets.proofs.Members.{anyOf-in, anyOf-out}
+use Rattle.nets.proofs.ShortestOne.{within-member}
 use Rattle.nets.proofs.TrieOf.{isList-within}
 use Rattle.inner_nets.specs.Inner.{overlap, overlapsOne, overlaps, inner, isPublic}
 use Rattle.inner_nets.proofs.Overlaps.{overlap-shared}
@@ -33,14 +32,6 @@ module _ (w : ℕ) where
         | inl x ↦ let (a, n, y) = extend q k in (a, n, leads-trans p q a x y, y)
         | inr x ↦ let (a, n, y) = extend p h in (a, n, y, leads-trans q p a x y)
       ]
-
-  within-member : (l : List Bits) (q : Bits) → within w l ≡ true → member q l ≡ true → length q ≤ w
-  within-member [] q h e = absurd (false≢true e)
-  within-member (p ∷ l) q h e = go (or-cases (equal q p) (member q l) e) (within-member l q (and-right (leb (length p) w) (within w l) h))
-    where
-      go : (equal q p ≡ true) ⊎ (member q l ≡ true) → (member q l ≡ true → length q ≤ w) → length q ≤ w
-      go (inl k) f = rw (equal-is q p k) (leb-true (length p) w (and-left (leb (length p) w) (within w l) h))
-      go (inr k) f = f k
 
 -- Two lists of the width.
 abbrev pub Shares : ℕ → List Bits → List Bits → Type 0

@@ -10,7 +10,7 @@ use lib.ListN.{length}
 use Rattle.nets.specs.Bits.{Bits, leads, equal}
 use Rattle.nets.specs.Lists.{anyOf, member, covers, leadsAny, addL, removeL}
 use Rattle.nets.proofs.Strings.{and-left, or-cases, bool-iff, equal-refl, equal-is, leads-refl, leads-trans, leads-shorter}
-use Rattle.nets.proofs.Members.{anyOf-append, anyOf-cong, anyOf-in, anyOf-out}
+use Rattle.nets.proofs.Members.{anyOf-append, anyOf-in, anyOf-out}
 use Rattle.nets.proofs.Adding.{member-addL}
 use Rattle.nets.proofs.Removing.{parts, member-removeL}
 use Rattle.inner_nets.specs.Inner.{overlap, overlapsOne, overlaps}
@@ -107,6 +107,10 @@ under-remove l n p h = go (parts p n) (sym (member-removeL n p l) ∙ h)
 pub overlaps-under : (l m k : List Bits) → Under l m → overlaps l k ≡ true → overlaps m k ≡ true
 unfolding overlaps
 overlaps-under l m k u e = let (q, i, c) = anyOf-out (overlapsOne l) k e in anyOf-in (overlapsOne m) q k i (overlapsOne-under l m q u c)
+
+anyOf-cong : (f g : Bits → Bool) (l : List Bits) → ((p : Bits) → f p ≡ g p) → anyOf f l ≡ anyOf g l
+anyOf-cong f g [] h = refl
+anyOf-cong f g (p ∷ l) h = simp (h p, anyOf-cong f g l h)
 
 pub overlaps-same : (l m k : List Bits) → ((q : Bits) → overlapsOne l q ≡ overlapsOne m q) → overlaps l k ≡ overlaps m k
 unfolding overlaps

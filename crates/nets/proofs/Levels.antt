@@ -24,10 +24,6 @@ pub side-each : {A : Type 0} (g : Bool → A) (b : Bool) → side b (g false) (g
 side-each g false = refl
 side-each g true = refl
 
-pub side-fork : {A : Type 0} (b : Bool) (x y : A) → side b (side b x y) (side b y x) ≡ x
-side-fork false x y = refl
-side-fork true x y = refl
-
 pub levels-side : (b : Bool) (l r : Trie) → levels (side b l r) ≤ max (levels l) (levels r)
 levels-side false l r = omega arith
 levels-side true l r = omega arith

@@ -18,10 +18,6 @@ pub anyOf-cond : (f : Bits → Bool) (b : Bool) (l m : List Bits) → anyOf f (c
 anyOf-cond f true l m = refl
 anyOf-cond f false l m = refl
 
-pub anyOf-cong : (f g : Bits → Bool) (l : List Bits) → ((p : Bits) → f p ≡ g p) → anyOf f l ≡ anyOf g l
-anyOf-cong f g [] h = refl
-anyOf-cong f g (p ∷ l) h = simp (h p, anyOf-cong f g l h)
-
 -- the members kept are those of which both hold
 pub anyOf-keep : (f g : Bits → Bool) (l : List Bits) → anyOf g (keep f l) ≡ anyOf (λ m. f m && g m) l
 anyOf-keep f g [] = refl

@@ -31,7 +31,8 @@ halves-apart : (p : Bits) → equal (p ++ (false ∷ [])) (p ++ (true ∷ [])) �
 halves-apart [] = refl
 halves-apart (b ∷ p) = simp (same-refl, halves-apart p)
 
-within-member : (w : ℕ) (l : List Bits) (q : Bits) → within w l ≡ true → member q l ≡ true → length q ≤ w
+-- a member of a list within the width is within it
+pub within-member : (w : ℕ) (l : List Bits) (q : Bits) → within w l ≡ true → member q l ≡ true → length q ≤ w
 within-member w [] q h e = absurd (false≢true e)
 within-member w (p ∷ l) q h e = go (or-cases (equal q p) (member q l) e) (within-member w l q (and-right (leb (length p) w) (within w l) h))
   where

@@ -38,10 +38,6 @@ pub same-refl : (b : Bool) → same b b ≡ true
 same-refl false = refl
 same-refl true = refl
 
-pub same-not : (b : Bool) → same b (not b) ≡ false
-same-not false = refl
-same-not true = refl
-
 pub same-is : (b c : Bool) → same b c ≡ true → b ≡ c
 same-is false false e = refl
 same-is false true e = absurd (false≢true e)

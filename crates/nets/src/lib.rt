@@ -5,6 +5,7 @@ ghost use Rattle.nets.specs.Networks.{netWords, refusalOf, noNet, takenA
 ghost use Rattle.nets.specs.Networks.{startOf, noBits, prefixAs, nextAs, nextOf};
 
 pub mod families;
+pub mod lengths;
 mod rules;
 mod words;
 
@@ -102,7 +103,7 @@ impl Net {
     pub fn new(family: u8, hi: u64, lo: u64, len: u8) -> Taken
         ensures { λ r. ⌜ takenAs r ≡ judged (netWords family hi lo len) ⌝ }
     {
-        rules::judge(Net {
+        rules::accept(Net {
             family,
             hi,
             lo,
@@ -124,7 +125,7 @@ impl Net {
     pub fn with_new_prefix(self, len: u8) -> Taken
         ensures { λ r. ⌜ takenAs r ≡ answered (withLenNo self len) noNet (cleared (withLen self len)) ⌝ }
     {
-        let t = rules::judge(self);
+        let t = rules::accept(self);
         match t {
             Taken::Network(mut n) => {
                 n.len = len;
@@ -138,7 +139,7 @@ impl Net {
     pub fn prefix_bits(self) -> Prefix
         ensures { λ r. ⌜ prefixAs r ≡ answered (refusalOf self) noBits (startOf self) ⌝ }
     {
-        match rules::judge(self) {
+        match rules::accept(self) {
             Taken::Network(n) => Prefix::Bits(words::start(n)),
             Taken::Refused(no) => Prefix::Refused(no),
         }

@@ -20,7 +20,7 @@ fn in_range(n: Net) -> bool
 }
 
 // The network, or the refusal of its numbers.
-pub fn judge(n: Net) -> Taken
+pub fn accept(n: Net) -> Taken
     ensures { λ r. ⌜ takenAs r ≡ judged n ⌝ }
 {
     if !is_family(n.family as u32) {
@@ -36,7 +36,7 @@ pub fn judge(n: Net) -> Taken
 pub fn cut(n: Net) -> Taken
     ensures { λ r. ⌜ takenAs r ≡ answered (refusalOf n) noNet (cleared n) ⌝ }
 {
-    match judge(n) {
+    match accept(n) {
         Taken::Network(n) => Taken::Network(clear(n)),
         Taken::Refused(no) => Taken::Refused(no),
     }

@@ -6,19 +6,13 @@ use crate::IPV4;
 use crate::Net;
 use crate::PrefixBits;
 use crate::families::width;
-
-// a less b, and 0 where b is more.
-fn less(a: u8, b: u8) -> u8
-    ensures { λ r. ⌜ r ≡ a - b ⌝ }
-{
-    if b < a { a - b } else { 0 }
-}
+use crate::lengths::less_by;
 
 // How many bits of the address stand past the length.
 fn past(n: Net) -> u8
     ensures { λ r. ⌜ r ≡ width (n .family) - n .len ⌝ }
 {
-    less(width(n.family), n.len)
+    less_by(width(n.family), n.len)
 }
 
 // The word without its k low bits: 0 takes none, 63 all but the highest, 64 and more all.
@@ -42,7 +36,7 @@ pub fn clear(mut n: Net) -> Net
     ensures { λ r. ⌜ r ≡ cleared n ⌝ }
 {
     let k = past(n);
-    n.hi = keep(n.hi, less(k, 64));
+    n.hi = keep(n.hi, less_by(k, 64));
     n.lo = keep(n.lo, k);
     n
 }
@@ -52,7 +46,7 @@ pub fn has_bit_past(n: Net) -> bool
     ensures { λ r. ⌜ r ≡ hasBitPast n ⌝ }
 {
     let k = past(n);
-    keep(n.hi, less(k, 64)) != n.hi || keep(n.lo, k) != n.lo
+    keep(n.hi, less_by(k, 64)) != n.hi || keep(n.lo, k) != n.lo
 }
 
 // The bits of the network, the first of them the highest of the two words.

@@ -8,9 +8,9 @@ use lib.ListN.{drop, length-append, List·getD-append}
 use lib.Seq.{drop-at}
 use Rattle.nets.specs.Tries.{Trie, none, node, size, levels}
 use Rattle.nodes.specs.Words.{enc}
-use Rattle.nodes.specs.Parse.{Room, Read, bad, ok, parse, after, Stands}
+use Rattle.nodes.specs.Parse.{Stands}
 use Rattle.nodes.proofs.Tries.{length-enc}
-use Rattle.nodes.proofs.Parsed.{parse-of, stands}
+use Rattle.nodes.proofs.Parsed.{parse-of}
 
 deeper : {w : List ℕ} {b n f i : ℕ} {t : Trie} (g : ℕ) → f ≤ g → Stands w b n f i t → Stands w b n g i t
 deeper g le s = record { deep = omega (arith, s .deep); within = s .within; has = s .has }
@@ -34,20 +34,3 @@ prefix-free t u x y nt nu e =
     let n = size t + size u in
     let same : t ≡ u = unique (omega arith) nt nu (start-of t x n (omega arith)) (rw (← e) at (start-of u y n (omega arith))) in
     (same, sym (drop-at (enc t) x (size t) (length-enc t)) ∙ ap (drop (size t)) e ∙ rw same (drop-at (enc u) y (size u) (length-enc u)))
-
--- the check's answer r, as a fact of the words alone: no 0 says which trie stands there, and 0 that none does
-pub got : (i r : ℕ) (x : Read) → r ≡ after i x → (r ≡ 0 → ⊥) → (t : Trie) × (x ≡ ok t) × (r ≡ i + size t)
-unfolding after
-got i r bad h ne = absurd (ne h)
-got i r (ok t) h ne = (t, refl, h)
-
-pub answer-some : (w : List ℕ) (b n f i r : ℕ) → Room w b n → 1 ≤ i → r ≡ after i (parse w b n f i) → (r ≡ 0 → ⊥) → (t : Trie) × Stands w b n f i t × (r ≡ i + size t)
-answer-some w b n f i r room pos e ne =
-    let g = got i r (parse w b n f i) e ne in
-    (g .0, stands w b n room f i (g .0) pos (g .1) .0, g .2)
-
-pub answer-none : (w : List ℕ) (b n f i : ℕ) (t : Trie) → 1 ≤ i → 0 ≡ after i (parse w b n f i) → (t ≡ none → ⊥) → Stands w b n f i t → ⊥
-unfolding after
-answer-none w b n f i t pos e ne s =
-    let h : 0 ≡ i + size t = rw (parse-of w b n f t i pos ne s) at e in
-    omega arith

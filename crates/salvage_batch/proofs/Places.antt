@@ -69,8 +69,8 @@ entry-ends f i k h = omega (arith, fileBytes-mono f {i = suc i} {n = k} h, mul-s
 
 -- Entry k written.
 module _ (f k : ℕ) (v : List ℕ) (p : Bits) (short : length p ≤ width f) (fits : entryAt f (suc k) ≤ length v) where
-  abbrev written : List ℕ
-  written = put v (entryAt f k) (entryOf f p)
+  abbrev withEntry : List ℕ
+  withEntry = put v (entryAt f k) (entryOf f p)
 
   room : entryAt f k + entryBytes f ≤ length v
   room = omega (arith, fits, mul-suc (entryBytes f) k)
@@ -79,13 +79,13 @@ module _ (f k : ℕ) (v : List ℕ) (p : Bits) (short : length p ≤ width f) (f
   put-here =
       let xs = take (entryAt f k) v in
       let n : length xs ≡ entryAt f k = length-take-le (entryAt f k) v (omega (arith, room)) in
-      entryNet-cong f written (xs ++ (entryOf f p ++ [])) k k
+      entryNet-cong f withEntry (xs ++ (entryOf f p ++ [])) k k
       (λ r l. getD-put-in v (entryAt f k) (entryOf f p) r (rw (length-entryOf f p) l) (omega (arith, room))
       ∙ sym (ap (λ m. getD (xs ++ (entryOf f p ++ [])) (m + r) 0) (sym n) ∙ getD-append-add xs (entryOf f p ++ []) r 0 ∙ ap (λ ys. getD ys r 0) (append-nil (entryOf f p))))
       ∙ entryNet-entryOf f p short k xs [] n
 
   pub put-there : (i : ℕ) → (i ≡ k → ⊥) → entryNet f (put v (entryAt f k) (entryOf f p)) i ≡ entryNet f v i
-  put-there i h = entryNet-cong f written v i i (λ r l. getD-put-out v (entryAt f k) (entryOf f p) (entryAt f i + r) (λ a b. go (decLt i k) r l a (rw (length-entryOf f p) at b)))
+  put-there i h = entryNet-cong f withEntry v i i (λ r l. getD-put-out v (entryAt f k) (entryOf f p) (entryAt f i + r) (λ a b. go (decLt i k) r l a (rw (length-entryOf f p) at b)))
     where
       go : Dec (i < k) → (r : ℕ) → r < entryBytes f → entryAt f k ≤ entryAt f i + r → entryAt f i + r < entryAt f k + entryBytes f → ⊥
       go (yes x) r l a b = omega (arith, entry-ends f i k x)
@@ -95,11 +95,11 @@ module _ (f k : ℕ) (v : List ℕ) (p : Bits) (short : length p ≤ width f) (f
   pub networksIn-put : networksIn f (put v (entryAt f k) (entryOf f p)) 0 (k + 1) ≡ networksIn f v 0 k ++ (p ∷ [])
   unfolding networksIn
   networksIn-put =
-      networksIn-append f written 0 k 1
-      ∙ rw (zero-add k, put-here, netBits-netFrom f p short, networksIn-cong f written v 0 0 k (λ r l. put-there (0 + r) (omega arith)))
+      networksIn-append f withEntry 0 k 1
+      ∙ rw (zero-add k, put-here, netBits-netFrom f p short, networksIn-cong f withEntry v 0 0 k (λ r l. put-there (0 + r) (omega arith)))
 
   pub areClean-put : areClean f v 0 k ≡ true → areClean f (put v (entryAt f k) (entryOf f p)) 0 (k + 1) ≡ true
   unfolding areClean
   areClean-put c =
-      areClean-append f written 0 k 1
-      ∙ rw (zero-add k, areClean-cong f written v 0 0 k (λ r l. put-there (0 + r) (omega arith)), c, put-here, isClean-netFrom f p short)
+      areClean-append f withEntry 0 k 1
+      ∙ rw (zero-add k, areClean-cong f withEntry v 0 0 k (λ r l. put-there (0 + r) (omega arith)), c, put-here, isClean-netFrom f p short)

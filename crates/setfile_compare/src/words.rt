@@ -6,6 +6,7 @@ ghost use Rattle.nets.specs.Networks.{width, value, address};
 ghost use Rattle.setfile_compare.specs.Abreast.{kept, ones};
 use nets::Net;
 use nets::families::width;
+use nets::lengths::less_by;
 
 // An address. Those of 32 bits stand in the low word.
 pub struct Address {
@@ -22,13 +23,6 @@ fn fill(x: u64, k: u8) -> u64
     } else {
         0xffff_ffff_ffff_ffff
     }
-}
-
-// a less b, and 0 where b is more.
-fn less_by(a: u8, b: u8) -> u8
-    ensures { λ r. ⌜ r ≡ a - b ⌝ }
-{
-    if b < a { a - b } else { 0 }
 }
 
 // The last address of a network.

@@ -18,9 +18,9 @@ two = netBits (netWords 4 0 3232235520 23)
 abbrev bytes : List ℕ
 bytes = 0 ∷ 0 ∷ 0 ∷ 4 ∷ 0 ∷ 0 ∷ 0 ∷ 2 ∷ 0 ∷ 0 ∷ 0 ∷ 16 ∷ 0 ∷ 0 ∷ 0 ∷ 26 ∷ 10 ∷ 0 ∷ 0 ∷ 0 ∷ 8 ∷ 192 ∷ 168 ∷ 0 ∷ 0 ∷ 23 ∷ []
 
-pub written : fileOf 4 (ten ∷ two ∷ []) ≡ bytes
+pub file-example : fileOf 4 (ten ∷ two ∷ []) ≡ bytes
 unfolding fileOf headerOf bytesOf fileBytes entriesOf entryBytes entryOf width netBits bits
-written = refl
+file-example = refl
 
 pub reads : readFile bytes ≡ file 4 (ten ∷ two ∷ [])
 unfolding readFile isFileHeader headNumber bigEndian fileBytes entryBytes width areEntries areClean isClean hasBitPast entryNet lists.isList networksIn before netBits bits

@@ -12,7 +12,7 @@ use lib.ListN.{length, drop, length-take}
 use lib.Pow.{split}
 use borrow.Author.Tests.{le-leb}
 use Rattle.nets.specs.Bits.{Bits, before, bits}
-use Rattle.nets.specs.Lists.{member, ascending, within}
+use Rattle.nets.specs.Lists.{ascending, within}
 use Rattle.nets.specs.Networks.{width, address, netBits, netFrom, bigEndian}
 use Rattle.nets.proofs.Strings.{and-left, and-right}
 use Rattle.nets.proofs.Order.{key-shorter, before-lt}
@@ -21,7 +21,6 @@ use Rattle.setfile_format.specs.Files.{addressBytes, entryAt, entryNet, 
 use Rattle.setfile_format.proofs.Bytes.{Bytes}
 use Rattle.setfile_format.proofs.RoundTrip.{clean-length, clean-number, entry-low}
 use Rattle.address_order.proofs.AddressOrder.{number}
-use Rattle.address_order.proofs.Rising.{member-first, member-later}
 
 -- at the front, or behind it
 front : (i j : ℕ) → i ≤ j → (j ≡ i) ⊎ (suc i ≤ j)
@@ -61,15 +60,6 @@ module _ (f : ℕ) (d : List ℕ) where
       go : Dec (i < e) → (i < e) × (networkAt i ≡ q) × (networksIn f d (suc i) (e - suc i) ≡ ms)
       go (yes h) = let y = networksIn-first i e h in (h, cc, cc)
       go (no h) = let k : e - i ≡ 0 = omega arith in let y : [] ≡ q ∷ ms = rw k at x in let z : _≡_ {A = ℕ} 0 1 = cc in absurd (omega arith)
-
-  pub member-networksIn : (i k j : ℕ) → i ≤ j → j < i + k → member (networkAt j) (networksIn f d i k) ≡ true
-  unfolding networksIn
-  member-networksIn i zero j h g = absurd (omega arith)
-  member-networksIn i (suc k) j h g = go (front i j h) (λ l. member-networksIn (suc i) k j l (omega arith))
-    where
-      go : (j ≡ i) ⊎ (suc i ≤ j) → (suc i ≤ j → member (networkAt j) (networksIn f d (suc i) k) ≡ true) → member (networkAt j) (networkAt i ∷ networksIn f d (suc i) k) ≡ true
-      go (inl e) ih = rw e (member-first (networkAt i) (networksIn f d (suc i) k))
-      go (inr l) ih = member-later (networkAt j) (networkAt i) (networksIn f d (suc i) k) (ih l)
 
   -- Of entry j, from what was found of the run.
   pub areClean-at : (i k j : ℕ) → areClean f d i k ≡ true → i ≤ j → j < i + k → isClean (entryNet f d j) ≡ true

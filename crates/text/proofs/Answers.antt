@@ -20,7 +20,7 @@ use Rattle.nets.specs.declared.Entered.{Entered}
 use Rattle.nets.specs.declared.Entered.the-variants as entering
 use Rattle.text.specs.Ipv4.{lineOf}
 use Rattle.text.specs.Places.{Stored}
-use Rattle.text.specs.Answers.{enteredLine, noneWritten, writtenAs, lineRefusal, over, WroteOver, Wrote}
+use Rattle.text.specs.Answers.{enteredLine, noneWritten, writtenAs, lineRefusal, overBytes, WroteOver, Wrote}
 use Rattle.text.specs.declared.Written.{Written}
 use Rattle.text.specs.declared.Written.the-variants.{Bytes, Refused}
 
@@ -88,7 +88,7 @@ over-line k s old new q b c e h t d =
 pub over-granted : (k : ℕ) (s : List ℕ) (b : Bool) (old new : List ℕ) (q : ℕ) (c : Bool) → WroteOver k s b old new (Bytes q c) → (k ≡ 0) × (q ≡ length s) × (take q new ≡ s) × (c ≡ b)
 over-granted k s b old new q c w =
     let a = answered-granted k noneWritten (length s, b) (q, c) (w .answer) in
-    let e : new ≡ over s old = rw (a .0) at (w .bytes) in
+    let e : new ≡ overBytes s old = rw (a .0) at (w .bytes) in
     let l : q ≡ length s = ap (λ p. p .0) (a .1) in
     (a .0, l, rw (e, l) (take-append-seam s (drop (length s) old)), ap (λ p. p .1) (a .1))
 

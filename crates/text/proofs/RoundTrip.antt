@@ -24,7 +24,7 @@ use Rattle.nets.specs.declared.Entered.{Entered}
 use Rattle.text.specs.Decimal.{decimal, digitsOf}
 use Rattle.text.specs.DecOctet.{isDecOctet}
 use Rattle.text.specs.Ipv4.{address, ipv4, IsLine, readLine, octetOf, lineAs, lineOf}
-use Rattle.text.specs.Answers.{enteredLine, noneWritten, lineRefusal, over, Wrote}
+use Rattle.text.specs.Answers.{enteredLine, noneWritten, lineRefusal, overBytes, Wrote}
 use Rattle.text.specs.declared.Written.the-variants.{Bytes}
 use Rattle.text.proofs.Numbers.{isNumber-is}
 use Rattle.text.proofs.Writing.{length-digitsOf-two, isNumber-digitsOf, decimal-digitsOf, length-lineAs}
@@ -127,10 +127,6 @@ pub enteredLine-refused : {t : Taken} {x : Refusal} (s : List ℕ) → t ≡ tak
 unfolding enteredLine
 enteredLine-refused s e h = takenIn-refused (readLine s) e h
 
-pub enteredLine-no : (s : List ℕ) → enteredLine s .0 ≡ readLine s .0
-unfolding enteredLine
-enteredLine-no s = refl
-
 lineRefusal-zero : (n : Net) (room : ℕ) → lineRefusal n room ≡ 0 → (n .family ≡ 4) × (refusalOf n ≡ 0)
 unfolding lineRefusal refusalOf
 lineRefusal-zero n room e = go (eqb (n .family) 4) (inRange n) refl refl e
@@ -209,7 +205,7 @@ lineOf-again s m n b f e g =
 -- And of all lines of a network the written one alone reports no.
 pub lineOf-clear : (s : List ℕ) (n : Net) → n .family ≡ 4 → refusalOf n ≡ 0 → (enteredLine s ≡ (0, (cleared n, false))) ↔ (s ≡ lineOf n)
 unfolding lineOf
-lineOf-clear s n f e = (only, written)
+lineOf-clear s n f e = (only, back)
   where
     only : enteredLine s ≡ (0, (cleared n, false)) → s ≡ lineAs (cleared n)
     only h =
@@ -218,5 +214,5 @@ lineOf-clear s n f e = (only, written)
         let c : cleared (t .read) ≡ t .read = cleared-same (t .read) (t .granted) (omega arith) (sym (t .report)) in
         lineAs-only s (t .read) (t .reads) ∙ ap lineAs (sym c ∙ sym (t .network))
 
-    written : s ≡ lineAs (cleared n) → enteredLine s ≡ (0, (cleared n, false))
-    written h = ap enteredLine h ∙ enteredLine-lineOf n f e
+    back : s ≡ lineAs (cleared n) → enteredLine s ≡ (0, (cleared n, false))
+    back h = ap enteredLine h ∙ enteredLine-lineOf n f e

@@ -35,12 +35,12 @@ lineRefusal n room =
     cond (eqb (n .family) 4) (cond (inRange n) (cond (leb (length (lineOf n)) room) 0 (number ShortBuffer)) (number BadNetwork)) (number WrongFamily)
 
 -- bytes written over others from the first on
-abbrev pub over : List ℕ → List ℕ → List ℕ
-over s old = s ++ drop (length s) old
+abbrev pub overBytes : List ℕ → List ℕ → List ℕ
+overBytes s old = s ++ drop (length s) old
 
 pub record WroteOver (no : ℕ) (line : List ℕ) (cut : Bool) (old new : List ℕ) (r : Written) : Type 0 where
   pub answer : writtenAs r ≡ answered no noneWritten (length line, cut)
-  pub bytes : new ≡ cond (eqb no 0) (over line old) old
+  pub bytes : new ≡ cond (eqb no 0) (overBytes line old) old
 
 abbrev pub Wrote : Net → List ℕ → List ℕ → Written → Type 0
 Wrote n old new r = WroteOver (lineRefusal n (length old)) (lineOf n) (hasBitPast n) old new r

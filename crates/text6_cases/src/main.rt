@@ -1,4 +1,5 @@
-// Runs the examples of RFC 4291, sections 2.2 and 2.3, and of RFC 5952, sections 2, 4 and 5, by hand, through reading and writing, and counts those that come out otherwise.
+// Runs the examples of RFC 4291, sections 2.2 and 2.3, and of RFC 5952, sections 2, 4 and 5, by hand, through reading and writing, and counts those that come
+// out otherwise.
 mod expect;
 mod rfc4291;
 mod rfc5952;

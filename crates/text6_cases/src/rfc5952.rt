@@ -78,7 +78,8 @@ pub fn flexible(t: Tally) -> Tally {
     )
 }
 
-// Sections 4.1 to 4.3: no leading zero, as short as can be, not for one group, the longest run, the first of equal ones, lower case. Section 5 would allow a quad: none is written.
+// Sections 4.1 to 4.3: no leading zero, as short as can be, not for one group, the longest run, the first of equal ones, lower case. Section 5 would allow a
+// quad: none is written.
 pub fn recommended(t: Tally) -> Tally {
     let t = reads(
         t,

@@ -48,7 +48,8 @@ readEither-refused s e = readEither-6 s 4 noNet (bad-some 4 refl) e
 pub either-network : {t : Taken} {n : Net} (s : List ℕ) → t ≡ taken.Network n → takenAs t ≡ readLine s → (0, n) ≡ readEither s
 either-network {t} {n} s e h = sym (readEither-4 s n (sym h ∙ ap takenAs e))
 
-pub either-other : {t : Taken} {x : Refusal} (s : List ℕ) (r : Taken) → t ≡ taken.Refused x → takenAs t ≡ readLine s → takenAs r ≡ readLine6 s → takenAs r ≡ readEither s
+pub either-other : {t : Taken} {x : Refusal} (s : List ℕ) (r : Taken) → t ≡ taken.Refused x → takenAs t ≡ readLine s → takenAs r ≡ readLine6 s
+    → takenAs r ≡ readEither s
 either-other {t} {x} s r e h k = k ∙ sym (readEither-6 s (number x) noNet (number-some x) (sym h ∙ ap takenAs e))
 
 -- Which one it was.
@@ -95,7 +96,8 @@ readEither-granted s n e =
     ⊎-elim (λ a. readLine-granted s n (readLine-accepts s n .1 a) .1) (λ b. readLine6-granted s n (readLine6-accepts s n .1 b) .1) (readEither-is s n e)
 
 -- It is taken in, and what is refused is refused.
-pub enteredEither-network : {t : Taken} {n : Net} (s : List ℕ) (r : Entered) → t ≡ taken.Network n → takenAs t ≡ readEither s → enteredAs r ≡ entered n → enteredAs r ≡ enteredEither s
+pub enteredEither-network : {t : Taken} {n : Net} (s : List ℕ) (r : Entered) → t ≡ taken.Network n → takenAs t ≡ readEither s → enteredAs r ≡ entered n
+    → enteredAs r ≡ enteredEither s
 unfolding enteredEither
 enteredEither-network {t} {n} s r e h k = takenIn-network (readEither s) r e h (readEither-granted s n (sym h ∙ ap takenAs e)) k
 

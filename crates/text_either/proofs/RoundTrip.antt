@@ -1,5 +1,5 @@
--- What is written, in either family, reads back to the cleared network and reports no; and networks of one family with the same bits are written alike, so every
--- line of a network, read and written again, is one line. Assumes nothing.
+-- What is written, in either family, reads back to the cleared network and reports no; and networks of one family with the same bits are written alike, so
+-- every line of a network, read and written again, is one line. Assumes nothing.
 use mathlib.Core.Bool.{Bool, true, false, cond, true≢false}
 use mathlib.Core.List.{List}
 use mathlib.Core.Logic.{_⊎_, inl, inr, ⊎-elim}
@@ -83,13 +83,15 @@ pub eitherRefusal-zero : (n : Net) (room : ℕ) → eitherRefusal n room ≡ 0 �
 unfolding eitherRefusal
 eitherRefusal-zero n room e = go (eqb (refusalOf n) 0) (leb (length (lineEither n)) room) refl refl e
   where
-    go : (a b : Bool) → eqb (refusalOf n) 0 ≡ a → leb (length (lineEither n)) room ≡ b → cond a (cond b 0 11) (refusalOf n) ≡ 0 → (refusalOf n ≡ 0) × (length (lineEither n) ≤ room)
+    go : (a b : Bool) → eqb (refusalOf n) 0 ≡ a → leb (length (lineEither n)) room ≡ b → cond a (cond b 0 11) (refusalOf n) ≡ 0
+        → (refusalOf n ≡ 0) × (length (lineEither n) ≤ room)
     go true true h g e = (eqb-true (refusalOf n) 0 h, leb-true (length (lineEither n)) room g)
     go true false h g e = absurd (omega arith)
     go false b h g e = absurd (true≢false (sym (eq-eqb (refusalOf n) 0 e) ∙ h))
 
 -- the bytes that a call has written read back, and its report says whether a bit was cut
-pub written-reads : (n : Net) (old new : List ℕ) (k : ℕ) (b : Bool) → WroteEither n old new (Bytes k b) → (enteredEither (take k new) ≡ (0, (cleared n, false))) × (b ≡ hasBitPast n)
+pub written-reads : (n : Net) (old new : List ℕ) (k : ℕ) (b : Bool) → WroteEither n old new (Bytes k b)
+    → (enteredEither (take k new) ≡ (0, (cleared n, false))) × (b ≡ hasBitPast n)
 written-reads n old new k b w =
     let a = over-granted (eitherRefusal n (length old)) (lineEither n) (hasBitPast n) old new k b w in
     (ap enteredEither (a .2) ∙ enteredEither-line n (eitherRefusal-zero n (length old) (a .0) .0), a .3)
@@ -106,7 +108,8 @@ lineEither-one m n f e = go (eqb (n .family) 4) refl
     go false h = let g = eqb-false (n .family) 4 h in lineEither-6 m (λ k. g (sym f ∙ k)) ∙ lineOf6-one m n f e ∙ sym (lineEither-6 n g)
 
 -- so every reading of one network is written alike
-pub readings-alike : (s t : List ℕ) (m n : Net) (a b : Bool) → enteredEither s ≡ (0, (m, a)) → enteredEither t ≡ (0, (n, b)) → m .family ≡ n .family → netBits m ≡ netBits n
+pub readings-alike : (s t : List ℕ) (m n : Net) (a b : Bool) → enteredEither s ≡ (0, (m, a)) → enteredEither t ≡ (0, (n, b)) → m .family ≡ n .family
+    → netBits m ≡ netBits n
     → lineEither m ≡ lineEither n
 readings-alike s t m n a b e f g h = lineEither-one m n g h
 

@@ -1,5 +1,5 @@
-// Networks as text, of either family: a line is read to a network, its family told by the line, and a network is written as a line of its family. Both take the network in:
-// its bits past the length are cleared, and the answer says whether one was set.
+// Networks as text, of either family: a line is read to a network, its family told by the line, and a network is written as a line of its family. Both take
+// the network in: its bits past the length are cleared, and the answer says whether one was set.
 ghost use mathlib.Core.Path.{_≡_};
 ghost use Rattle.nets.specs.Networks.{takenAs, enteredAs};
 ghost use Prim.Native.Nat.{_≤_};

@@ -6,6 +6,7 @@
 --   hexNumber s        the number that the digits s write;  hexNumberFrom v s: behind digits that write v
 --   hexByteOf d        the byte of the digit d, in lower case
 --   hexDigitsOf x      the digits of x, a number below 65536, in lower case and without leading zeros
+--   colon              the byte between two such numbers
 use mathlib.Core.Bool.{Bool, cond, _&&_, _||_}
 use mathlib.Core.List.{List, [], _∷_}
 use Prim.Native.Nat.{ℕ, _+_, _-_, _*_, _/_, _%_}
@@ -40,3 +41,6 @@ hexDigitsOf x =
     (cond (ltb x 256) (hexByteOf (x / 16) ∷ hexByteOf (x % 16) ∷ [])
     (cond (ltb x 4096) (hexByteOf (x / 256) ∷ hexByteOf (x / 16 % 16) ∷ hexByteOf (x % 16) ∷ [])
     (hexByteOf (x / 4096) ∷ hexByteOf (x / 256 % 16) ∷ hexByteOf (x / 16 % 16) ∷ hexByteOf (x % 16) ∷ [])))
+
+abbrev pub colon : ℕ
+colon = 58

@@ -24,9 +24,9 @@ use Rattle.text.proofs.Numbers.{isNumber-is}
 use Rattle.text.proofs.Digits.{length-number}
 use Rattle.text.proofs.DecOctet.{octet-number}
 use Rattle.text.proofs.Answers.{takenIn-network, takenIn-refused}
-use Rattle.text_hex.specs.Hex.{hexNumber}
+use Rattle.text_hex.specs.Hex.{hexNumber, colon}
 use Rattle.text_hex.proofs.Digits.{hexNumber-most}
-use Rattle.text_ipv6_read.specs.Ipv6.{colon, isGroup, dotted, Pieces, group, quad, more, Side, empty, pieces, around, IsAddress, full, shortened, ipv6, IsLine6}
+use Rattle.text_ipv6_read.specs.Ipv6.{isGroup, dotted, Pieces, group, quad, more, Side, empty, pieces, around, IsAddress, full, shortened, ipv6, IsLine6}
 use Rattle.text_ipv6_read.specs.Reader.{readLine6, enteredLine6}
 use Rattle.text_ipv6_read.proofs.Groups.{isGroup-is}
 use Rattle.text_ipv6_read.proofs.Dotted.{octet-most}
@@ -108,7 +108,8 @@ pub readLine6-granted : (s : List ℕ) (n : Net) → readLine6 s ≡ (0, n) → 
 readLine6-granted s n e = isLine6-granted s n (readLine6-accepts s n .0 e)
 
 -- It is taken in, and what is refused is refused.
-pub enteredLine6-network : {t : Taken} {n : Net} (s : List ℕ) (r : Entered) → t ≡ taken.Network n → takenAs t ≡ readLine6 s → enteredAs r ≡ entered n → enteredAs r ≡ enteredLine6 s
+pub enteredLine6-network : {t : Taken} {n : Net} (s : List ℕ) (r : Entered) → t ≡ taken.Network n → takenAs t ≡ readLine6 s → enteredAs r ≡ entered n
+    → enteredAs r ≡ enteredLine6 s
 unfolding enteredLine6
 enteredLine6-network {t} {n} s r e h k = takenIn-network (readLine6 s) r e h (readLine6-granted s n (sym h ∙ ap takenAs e) .1) k
 

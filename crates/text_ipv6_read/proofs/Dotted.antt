@@ -1,5 +1,5 @@
--- Reading a quad: four dec-octets joined by dots are read with whatever does not go on with a digit behind them, and what is read is such four. Hexadecimal digits that
--- no dot follows are no quad. Assumes nothing.
+-- Reading a quad: four dec-octets joined by dots are read with whatever does not go on with a digit behind them, and what is read is such four. Hexadecimal
+-- digits that no dot follows are no quad. Assumes nothing.
 use mathlib.Core.Bool.{Bool, true, false, cond, true≢false}
 use mathlib.Core.List.{List, [], _∷_, _++_, append-assoc}
 use mathlib.Core.Logic.{⊎-elim}
@@ -67,7 +67,8 @@ pub record Quad (s : List ℕ) (v : ℕ) (t : List ℕ) : Type 0 where
   pub value : v ≡ address (decimal a) (decimal b) (decimal c) (decimal d)
   pub bytes : s ≡ dotted a b c d ++ t
 
-readDotted-quad : (s : List ℕ) (v : ℕ) (t : List ℕ) (w : ℕ) (u : List ℕ) → three s ≡ parsed w u → (x : ℕ) → readNumber 255 u ≡ parsed x t → w * 256 + x ≡ v → Quad s v t
+readDotted-quad : (s : List ℕ) (v : ℕ) (t : List ℕ) (w : ℕ) (u : List ℕ) → three s ≡ parsed w u → (x : ℕ) → readNumber 255 u ≡ parsed x t → w * 256 + x ≡ v
+    → Quad s v t
 unfolding dotted
 readDotted-quad s v t w u h x g e =
     let r = readNext-is dot (readNext dot (readNext dot (parsed 0 s))) w u h in
@@ -92,7 +93,8 @@ pub readDotted-is : (s : List ℕ) (v : ℕ) (t : List ℕ) → readDotted s ≡
 unfolding readDotted
 readDotted-is s v t e = go (three s) refl e
   where
-    last : (w : ℕ) (u : List ℕ) → three s ≡ parsed w u → (q : Parsed) → readNumber 255 u ≡ q → andThen q (λ x y. parsed (w * 256 + x) y) ≡ parsed v t → Quad s v t
+    last : (w : ℕ) (u : List ℕ) → three s ≡ parsed w u → (q : Parsed) → readNumber 255 u ≡ q → andThen q (λ x y. parsed (w * 256 + x) y) ≡ parsed v t
+        → Quad s v t
     last w u h nothing g e = absurd (parsed-some v t e)
     last w u h (parsed x y) g e =
         let p = parsed-one (w * 256 + x) v y t e in

@@ -14,8 +14,7 @@ use Rattle.text.specs.Decimal.{Parsed, parsed, nothing, readNumber}
 use Rattle.text.specs.Ipv4.{dot, readNext}
 use Rattle.text.specs.Places.{startsByte}
 use Rattle.text.proofs.Places.{starts-within}
-use Rattle.text_hex.specs.Hex.{isHexDigit}
-use Rattle.text_ipv6_read.specs.Ipv6.{colon}
+use Rattle.text_hex.specs.Hex.{isHexDigit, colon}
 use Rattle.text_ipv6_read.specs.Reader.{readGroup, readDotted, Piece, group, quad, none, pieceOf, readPiece, goesOn}
 
 -- Four numbers: the first three, each ended by a dot, then the last.
@@ -30,7 +29,8 @@ pub readDotted-unread : (s : List ℕ) (v : ℕ) (t : List ℕ) → parsed v t �
 unfolding readDotted
 readDotted-unread s v t h k = rw (← h, ← k)
 
-pub readDotted-read : (s : List ℕ) (v : ℕ) (t : List ℕ) (x : ℕ) (u : List ℕ) → parsed v t ≡ three s → parsed x u ≡ readNumber 255 t → parsed (v * 256 + x) u ≡ readDotted s
+pub readDotted-read : (s : List ℕ) (v : ℕ) (t : List ℕ) (x : ℕ) (u : List ℕ) → parsed v t ≡ three s → parsed x u ≡ readNumber 255 t
+    → parsed (v * 256 + x) u ≡ readDotted s
 unfolding readDotted
 readDotted-read s v t x u h k = rw (← h, ← k)
 

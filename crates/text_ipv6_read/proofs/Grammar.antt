@@ -1,4 +1,5 @@
--- What is read is what the grammar says: a line is accepted exactly if it is one, with the network of its groups. No line is one of both families. Assumes nothing.
+-- What is read is what the grammar says: a line is accepted exactly if it is one, with the network of its groups. No line is one of both families. Assumes
+-- nothing.
 use mathlib.Core.Bool.{Bool, true, false, not, cond, _&&_, true≢false}
 use mathlib.Core.List.{List, [], _∷_, _++_, append-assoc, append-nil}
 use mathlib.Core.Logic.{_↔_, _⊎_, inl, inr, ⊎-elim}
@@ -17,8 +18,8 @@ use Rattle.text.specs.Ipv4.{slash, joined, IsLine, badText, readLine}
 use Rattle.text.specs.Places.{startsByte}
 use Rattle.text.proofs.Numbers.{readNumber-is}
 use Rattle.text.proofs.Grammar.{readNumber-all, badText-some, readLine-accepts}
-use Rattle.text_hex.specs.Hex.{isHexDigit}
-use Rattle.text_ipv6_read.specs.Ipv6.{colon, dotted, Pieces, quad, Side, empty, pieces, around, IsAddress, full, shortened, ipv6, IsLine6}
+use Rattle.text_hex.specs.Hex.{isHexDigit, colon}
+use Rattle.text_ipv6_read.specs.Ipv6.{dotted, Pieces, quad, Side, empty, pieces, around, IsAddress, full, shortened, ipv6, IsLine6}
 use Rattle.text_ipv6_read.specs.Reader.{Ran, ran, runFrom, Outline, outline, startsDouble, behindRun, wholeRun, addressFrom, readAddress, isOutline, laid, withLength6, lineFrom, readLine6}
 use Rattle.text_ipv6_read.proofs.Joined.{stops-slash, stops-double, run-pieces, run-side, Went, run-went}
 
@@ -48,7 +49,8 @@ address-short s t u xs ys f b l =
     )
 
 -- then its length
-line-read : (o : Outline) (xs t : List ℕ) → isOutline o ≡ true → o .rest ≡ slash ∷ t → laid (o .groups) (o .gap) ≡ xs → isNumber 128 t ≡ true → lineFrom o ≡ (0, ipv6 xs (decimal t))
+line-read : (o : Outline) (xs t : List ℕ) → isOutline o ≡ true → o .rest ≡ slash ∷ t → laid (o .groups) (o .gap) ≡ xs → isNumber 128 t ≡ true
+    → lineFrom o ≡ (0, ipv6 xs (decimal t))
 unfolding startsByte
 line-read o xs t h e g k = rw (h, e, g, readNumber-all 128 t k)
 
@@ -102,11 +104,13 @@ full-is s h e =
     let l : length (f .groups) ≡ 8 = eqb-true (length (f .groups)) 8 h in
     go (w .side) (ap length (sym (w .joined)) ∙ l) (rw (laid-full (f .groups) l) (w .joined)) (w .bytes)
   where
-    go : {q : Bool} {a ys : List ℕ} → Side q a ys → length ys ≡ 8 → laid (runFrom 8 [] s .groups) (length (runFrom 8 [] s .groups)) ≡ ys → s ≡ a ++ runFrom 8 [] s .rest → AddressIs s (wholeRun (runFrom 8 [] s))
+    go : {q : Bool} {a ys : List ℕ} → Side q a ys → length ys ≡ 8 → laid (runFrom 8 [] s .groups) (length (runFrom 8 [] s .groups)) ≡ ys
+        → s ≡ a ++ runFrom 8 [] s .rest → AddressIs s (wholeRun (runFrom 8 [] s))
     go empty l j b = absurd (omega arith)
     go (pieces {s = a} p) l j b = record { text = a; address = rw j (full p l); bytes = b }
 
-short-is : (s : List ℕ) → let f = runFrom 8 [] s in let b = runFrom (8 - length (f .groups)) (f .groups) (drop 2 (f .rest)) in f .quad ≡ false → startsDouble (f .rest) ≡ true
+short-is : (s : List ℕ) → let f = runFrom 8 [] s in let b = runFrom (8 - length (f .groups)) (f .groups) (drop 2 (f .rest)) in f .quad ≡ false
+    → startsDouble (f .rest) ≡ true
     → isOutline (behindRun f b) ≡ true → startsByte slash (b .rest) ≡ true → AddressIs s (behindRun f b)
 unfolding isOutline startsDouble
 short-is s q d h e =
@@ -127,7 +131,8 @@ short-is s q d h e =
 line-is : (s : List ℕ) (n : Net) (o : Outline) → (isOutline o ≡ true → startsByte slash (o .rest) ≡ true → AddressIs s o) → lineFrom o ≡ (0, n) → IsLine6 s n
 line-is s n o a e = go (isOutline o) (startsByte slash (o .rest)) refl refl e
   where
-    length-read : AddressIs s o → startsByte slash (o .rest) ≡ true → (r : Parsed) → readNumber 128 (drop 1 (o .rest)) ≡ r → withLength6 (laid (o .groups) (o .gap)) r ≡ (0, n) → IsLine6 s n
+    length-read : AddressIs s o → startsByte slash (o .rest) ≡ true → (r : Parsed) → readNumber 128 (drop 1 (o .rest)) ≡ r
+        → withLength6 (laid (o .groups) (o .gap)) r ≡ (0, n) → IsLine6 s n
     length-read d g nothing k e = absurd (badText-some n e)
     length-read d g (parsed v (c ∷ t)) k e = absurd (badText-some n e)
     length-read d g (parsed v []) k e =
@@ -143,7 +148,8 @@ line-is s n o a e = go (isOutline o) (startsByte slash (o .rest)) refl refl e
           network = sym (ap (λ p. p .1) e) ∙ ap (ipv6 (laid (o .groups) (o .gap))) (m .value);
         }
 
-    go : (b c : Bool) → isOutline o ≡ b → startsByte slash (o .rest) ≡ c → cond (b && c) (withLength6 (laid (o .groups) (o .gap)) (readNumber 128 (drop 1 (o .rest)))) badText ≡ (0, n) → IsLine6 s n
+    go : (b c : Bool) → isOutline o ≡ b → startsByte slash (o .rest) ≡ c
+        → cond (b && c) (withLength6 (laid (o .groups) (o .gap)) (readNumber 128 (drop 1 (o .rest)))) badText ≡ (0, n) → IsLine6 s n
     go true true h g e = length-read (a h g) g (readNumber 128 (drop 1 (o .rest))) refl e
     go true false h g e = absurd (badText-some n e)
     go false c h g e = absurd (badText-some n e)

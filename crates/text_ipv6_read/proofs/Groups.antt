@@ -51,7 +51,8 @@ pub readGroup-is : (s : List ℕ) (x : ℕ) (t : List ℕ) → readGroup s ≡ p
 unfolding readGroup
 readGroup-is s x t e = go (isGroup (leadingOf isHexDigit s)) refl e
   where
-    go : (b : Bool) → isGroup (leadingOf isHexDigit s) ≡ b → cond b (parsed (hexNumber (leadingOf isHexDigit s)) (behindOf isHexDigit s)) nothing ≡ parsed x t → ReadGroup s x t
+    go : (b : Bool) → isGroup (leadingOf isHexDigit s) ≡ b → cond b (parsed (hexNumber (leadingOf isHexDigit s)) (behindOf isHexDigit s)) nothing ≡ parsed x t
+        → ReadGroup s x t
     go true h e =
         let d = leadingOf isHexDigit s in
         record { digits = d; rule = h; value = cc; bytes = sym (leading-behind isHexDigit s) ∙ ap (λ u. d ++ u) (cc) }

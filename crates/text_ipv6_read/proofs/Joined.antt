@@ -17,8 +17,8 @@ use Rattle.text.specs.Places.{startsByte}
 use Rattle.text.proofs.Spans.{leading-none, all-weaken}
 use Rattle.text.proofs.Numbers.{isNumber-is}
 use Rattle.text.proofs.DecOctet.{octet-number}
-use Rattle.text_hex.specs.Hex.{isHexDigit, hexNumber}
-use Rattle.text_ipv6_read.specs.Ipv6.{colon, isGroup, dotted, pair, Pieces, group, quad, more, Side, empty, pieces}
+use Rattle.text_hex.specs.Hex.{isHexDigit, hexNumber, colon}
+use Rattle.text_ipv6_read.specs.Ipv6.{isGroup, dotted, pair, Pieces, group, quad, more, Side, empty, pieces}
 use Rattle.text_ipv6_read.specs.Reader.{readGroup, readDotted, Piece, pieceOf, readPiece, goesOn, Ran, ran, runOn, runFrom}
 use Rattle.text_ipv6_read.specs.Reader as reader
 use Rattle.text_ipv6_read.proofs.Groups.{isGroup-is, readGroup-append, readGroup-is}
@@ -57,7 +57,8 @@ pieces-start t (quad a b c d h i j k) = rw append-assoc (octet-start a _ h)
 pieces-start t (more {s = s} g h p) = rw (append-assoc g (colon ∷ s) t) (group-start g (colon ∷ (s ++ t)) h)
 
 -- A piece is read.
-readPiece-group : (k : ℕ) (g t : List ℕ) → isGroup g ≡ true → startsOf isHexDigit t ≡ false → startsByte dot t ≡ false → readPiece k (g ++ t) ≡ reader.group (hexNumber g) t
+readPiece-group : (k : ℕ) (g t : List ℕ) → isGroup g ≡ true → startsOf isHexDigit t ≡ false → startsByte dot t ≡ false
+    → readPiece k (g ++ t) ≡ reader.group (hexNumber g) t
 unfolding readPiece
 readPiece-group k g t h d e = rw (readGroup-append g t h d, hex-no-quad g t (isGroup-is g h .digits) d e) (go (leb 2 k))
   where
@@ -185,12 +186,14 @@ run-went (suc k) xs s z = go (λ ys t. run-went k ys t) (readPiece (suc k) s) re
     Behind : Type 0
     Behind = (ys t : List ℕ) → startsOf isHexDigit (runFrom k ys t .rest) ≡ false → Went ys t (runFrom k ys t)
 
-    next : Behind → (x : ℕ) (t : List ℕ) → readGroup s ≡ parsed x t → (b : Bool) → goesOn t ≡ b → let r = cond b (runFrom k (xs ++ (x ∷ [])) (drop 1 t)) (ran (xs ++ (x ∷ [])) false t) in
+    next : Behind → (x : ℕ) (t : List ℕ) → readGroup s ≡ parsed x t → (b : Bool) → goesOn t ≡ b
+        → let r = cond b (runFrom k (xs ++ (x ∷ [])) (drop 1 t)) (ran (xs ++ (x ∷ [])) false t) in
         startsOf isHexDigit (r .rest) ≡ false → Went xs s r
     next h x t e true o z = went-more xs s x t (runFrom k (xs ++ (x ∷ [])) (drop 1 t)) e o z (h (xs ++ (x ∷ [])) (drop 1 t) z)
     next h x t e false o z = went-one xs s x t e
 
-    go : Behind → (p : Piece) → readPiece (suc k) s ≡ p → startsOf isHexDigit (runOn xs s p (λ ys t. runFrom k ys t) .rest) ≡ false → Went xs s (runOn xs s p (λ ys t. runFrom k ys t))
+    go : Behind → (p : Piece) → readPiece (suc k) s ≡ p → startsOf isHexDigit (runOn xs s p (λ ys t. runFrom k ys t) .rest) ≡ false
+        → Went xs s (runOn xs s p (λ ys t. runFrom k ys t))
     go h reader.none e z = record { text = []; groups = []; side = empty; joined = sym (append-nil xs); bytes = refl }
     go h (reader.quad v t) e z = went-quad xs s v t (piece-quad (suc k) s v t e)
     go h (reader.group x t) e z = next h x t (piece-group (suc k) s x t e) (goesOn t) refl z

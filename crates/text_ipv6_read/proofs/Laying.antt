@@ -12,7 +12,8 @@ use Rattle.nets.specs.declared.Net.{Net}
 use Rattle.nets.proofs.Strings.{and-right}
 use Rattle.text.specs.Places.{startsByte}
 use Rattle.text.proofs.Places.{starts-within}
-use Rattle.text_ipv6_read.specs.Ipv6.{colon, ipv6}
+use Rattle.text_ipv6_read.specs.Ipv6.{ipv6}
+use Rattle.text_hex.specs.Hex.{colon}
 use Rattle.text_ipv6_read.specs.Reader.{Piece, group, quad, none, readPiece, goesOn, Ran, ran, runOn, runFrom, Outline, outline, startsDouble, behindRun, wholeRun, addressFrom, readAddress, isOutline, laid}
 use Rattle.text_ipv6_read.specs.Places.{runWords, groupsOf, ranAs, Fits, outlineWords, placed, outlineAs, Sized}
 use Rattle.text_ipv6_read.specs.declared.runs.Run.{Run}
@@ -63,7 +64,8 @@ module _ (s : List ℕ) (f : Ran) (e : f ≡ runFrom 8 [] s) where
   unfolding readAddress
   address-other h = rw (← e, h)
 
-  pub address-double : f .quad ≡ false → startsDouble (f .rest) ≡ true → behindRun f (runFrom (8 - length (f .groups)) (f .groups) (drop 2 (f .rest))) ≡ readAddress s
+  pub address-double : f .quad ≡ false → startsDouble (f .rest) ≡ true
+      → behindRun f (runFrom (8 - length (f .groups)) (f .groups) (drop 2 (f .rest))) ≡ readAddress s
   unfolding readAddress
   address-double h g = rw (← e, g, h)
 

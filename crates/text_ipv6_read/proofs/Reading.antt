@@ -34,5 +34,6 @@ module _ (s : List ℕ) (o : declared.Outline) (e : outlineAs s o ≡ readAddres
     pub line-more : (n at : ℕ) → parsed n (drop at s) ≡ readNumber 128 (drop (o .at + 1) s) → at < length s → badText ≡ readLine6 s
     line-more n at k l = rw (← k, drop-cons s at 0 l) at length-read
 
-    pub line-whole : (n at : ℕ) → parsed n (drop at s) ≡ readNumber 128 (drop (o .at + 1) s) → length s ≤ at → (0, ipv6 (laid (placed o) (o .gap)) n) ≡ readLine6 s
+    pub line-whole : (n at : ℕ) → parsed n (drop at s) ≡ readNumber 128 (drop (o .at + 1) s) → length s ≤ at
+        → (0, ipv6 (laid (placed o) (o .gap)) n) ≡ readLine6 s
     line-whole n at k l = rw (← k, drop-of-length-le s l) at length-read

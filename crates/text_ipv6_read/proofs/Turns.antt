@@ -44,10 +44,6 @@ module _ (s : List ℕ) (r : Run) (f : Fits r) (m : r .more ≡ true) where
   unfolding leftOf
   left-is = rw m
 
-  turns-is : turnsOf r ≡ 9 - r .count
-  unfolding turnsOf
-  turns-is = rw m
-
   left-piece : r .count < 8 → (p : Piece) → p ≡ readPiece (8 - r .count) (drop (r .at) s)
       → leftOf s r ≡ runOn (groupsOf r) (drop (r .at) s) p (λ ys t. runFrom (7 - r .count) ys t)
   left-piece h p e = left-is ∙ rw e (runFrom-piece (7 - r .count) (8 - r .count) (groupsOf r) (drop (r .at) s) (omega arith))

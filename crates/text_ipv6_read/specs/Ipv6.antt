@@ -1,4 +1,5 @@
--- The line of an IPv6 network: an address in one of the three forms of RFC 4291 section 2.2, then a slash and a length, a number up to 128 without a leading zero.
+-- The line of an IPv6 network: an address in one of the three forms of RFC 4291 section 2.2, then a slash and a length, a number up to 128 without a leading
+-- zero.
 --
 --   isGroup s          s is a group: one to four hexadecimal digits, of either case
 --   dotted a b c d     four numbers joined by dots
@@ -17,10 +18,7 @@ use Rattle.nets.specs.declared.Net.{Net}
 use Rattle.text.specs.Decimal.{decimal, isNumber}
 use Rattle.text.specs.DecOctet.{isDecOctet}
 use Rattle.text.specs.Ipv4.{dot, slash}
-use Rattle.text_hex.specs.Hex.{allHexDigits, hexNumber}
-
-abbrev pub colon : ℕ
-colon = 58
+use Rattle.text_hex.specs.Hex.{colon, allHexDigits, hexNumber}
 
 unfoldable pub isGroup : List ℕ → Bool
 isGroup s = allHexDigits s && (leb 1 (length s) && leb (length s) 4)

@@ -1,4 +1,5 @@
--- Reading a line from its first byte on: the groups up to a double colon, those behind it, the length. proofs/Grammar shows that exactly the lines of the grammar are read.
+-- Reading a line from its first byte on: the groups up to a double colon, those behind it, the length. proofs/Grammar shows that exactly the lines of the
+-- grammar are read.
 --
 --   readGroup s        the group that s begins with, taken as far as its digits go
 --   readDotted s       the number of the four dec-octets that s begins with
@@ -21,8 +22,8 @@ use Rattle.text.specs.Spans.{startsOf, leadingOf, behindOf}
 use Rattle.text.specs.Decimal.{Parsed, parsed, nothing, andThen, readNumber}
 use Rattle.text.specs.Ipv4.{dot, slash, readNext, badText}
 use Rattle.text.specs.Places.{startsByte}
-use Rattle.text_hex.specs.Hex.{isHexDigit, hexNumber}
-use Rattle.text_ipv6_read.specs.Ipv6.{colon, isGroup, ipv6}
+use Rattle.text_hex.specs.Hex.{isHexDigit, hexNumber, colon}
+use Rattle.text_ipv6_read.specs.Ipv6.{isGroup, ipv6}
 
 unfoldable pub readGroup : List ℕ → Parsed
 readGroup s = let d = leadingOf isHexDigit s in cond (isGroup d) (parsed (hexNumber d) (behindOf isHexDigit s)) nothing

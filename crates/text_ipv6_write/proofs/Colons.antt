@@ -8,9 +8,9 @@ use lib.ListN.{length, take, getD, length-append, drop-of-length-le}
 use lib.Seq.{slice, slice-cons, length-take-le, length-sets}
 use Rattle.text.specs.Places.{Stored}
 use Rattle.text.proofs.Writing.{stored-append}
-use Rattle.text_hex.specs.Hex.{hexDigitsOf}
+use Rattle.text_hex.specs.Hex.{hexDigitsOf, colon}
 use Rattle.text_hex.proofs.Written.{length-hexDigitsOf}
-use Rattle.text_ipv6_write.specs.Ipv6.{colon, led, joined, digits}
+use Rattle.text_ipv6_write.specs.Ipv6.{led, joined, digits}
 
 -- the digits of the groups from one place up to another
 abbrev pub part : ℕ → ℕ → List ℕ → List (List ℕ)

@@ -15,7 +15,8 @@ use Rattle.nets.specs.declared.Net.{Net}
 use Rattle.nets.proofs.Numbers.{cleared-one}
 use Rattle.text.specs.Spans.{allOf}
 use Rattle.text.proofs.Writing.{length-digitsOf}
-use Rattle.text_ipv6_write.specs.Ipv6.{groupsOf, zeros, longest, colon, led, joined, digits, bothSides, textOf, lineAs6, lineOf6}
+use Rattle.text_ipv6_write.specs.Ipv6.{groupsOf, zeros, longest, led, joined, digits, bothSides, textOf, lineAs6, lineOf6}
+use Rattle.text_hex.specs.Hex.{colon}
 use Rattle.text_ipv6_write.specs.Rfc5952.{Recommended}
 use Rattle.text_ipv6_write.proofs.Words.{bigEndian-groupsOf}
 use Rattle.text_ipv6_write.proofs.Longest.{is-zeros, longest-within, longest-shortens}

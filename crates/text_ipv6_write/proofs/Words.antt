@@ -44,12 +44,3 @@ word-back w h =
 
 pub bigEndian-groupsOf : (hi lo : ℕ) → hi < 2 ^ 64 → lo < 2 ^ 64 → bigEndian 65536 (groupsOf (value hi lo)) 8 ≡ value hi lo
 bigEndian-groupsOf hi lo h l = rw (groupsOf-words hi lo l) (bigEndian-groups (wordGroups hi ++ wordGroups lo) ∙ rw (word-back hi h, word-back lo l))
-
--- And the groups of that number are the groups.
-word-groups : (a b c d : ℕ) → a < 65536 → b < 65536 → c < 65536 → d < 65536 → wordGroups (a * 2 ^ 48 + b * 2 ^ 32 + c * 2 ^ 16 + d) ≡ a ∷ b ∷ c ∷ d ∷ []
-word-groups a b c d h i j k =
-    let e : groupOf (a * 2 ^ 48 + b * 2 ^ 32 + c * 2 ^ 16 + d) 3 ≡ a = omega arith in
-    let f : groupOf (a * 2 ^ 48 + b * 2 ^ 32 + c * 2 ^ 16 + d) 2 ≡ b = omega arith in
-    let g : groupOf (a * 2 ^ 48 + b * 2 ^ 32 + c * 2 ^ 16 + d) 1 ≡ c = omega arith in
-    let l : groupOf (a * 2 ^ 48 + b * 2 ^ 32 + c * 2 ^ 16 + d) 0 ≡ d = omega arith in
-    cc

@@ -19,7 +19,7 @@ use Rattle.nets.specs.Networks.{address, cleared}
 use Rattle.nets.specs.declared.Net.{Net}
 use Rattle.text.specs.Decimal.{digitsOf}
 use Rattle.text.specs.Ipv4.{slash}
-use Rattle.text_hex.specs.Hex.{hexDigitsOf}
+use Rattle.text_hex.specs.Hex.{colon, hexDigitsOf}
 
 abbrev pub groupOf : ℕ → ℕ → ℕ
 groupOf a k = a / 2 ^ (16 * k) % 65536
@@ -41,9 +41,6 @@ longestFrom k (g ∷ gs) = better (k, zeros (g ∷ gs)) (longestFrom (suc k) gs)
 
 abbrev pub longest : List ℕ → ℕ × ℕ
 longest gs = longestFrom 0 gs
-
-abbrev pub colon : ℕ
-colon = 58
 
 unfoldable pub led : List (List ℕ) → List ℕ
 led [] = []

@@ -19,15 +19,15 @@ said (flat false) e = Empty
 said (flat true) e = Full
 said mixed e = Node e
 
-abbrev pub written : Kind → List ℕ → List ℕ
-written (flat x) xs = []
-written mixed xs = xs
+abbrev pub bodyOf : Kind → List ℕ → List ℕ
+bodyOf (flat x) xs = []
+bodyOf mixed xs = xs
 
 unfoldable pub answer : ℕ → Trie → Emitted
 answer o t = said (kindOf t) (o + size t)
 
 unfoldable pub body : Trie → List ℕ
-body t = written (kindOf t) (enc t)
+body t = bodyOf (kindOf t) (enc t)
 
 pub record Emits (w v : List ℕ) (b o : ℕ) (x : Emitted) (t : Trie) : Type 0 where
   pub answers : x ≡ answer o t

@@ -63,7 +63,7 @@ fn settled(op: usize, x: usize, y: usize) -> usize
 }
 
 // The same of what two numbers mean.
-pub fn judge(w: &[u32], b: usize, op: usize, a: usize, c: usize) -> usize
+pub fn outcome(w: &[u32], b: usize, op: usize, a: usize, c: usize) -> usize
     requires { ⌜ ((o : ℕ) × (g : ℕ) × (t : Trie) × (u : Trie) × Means (now w) b o g a t × Means (now w) b o g c u) ⌝ }
     ensures { λ r. ⌜ ((o g : ℕ) (t u : Trie) → Means (now (w .entry)) b o g a t → Means (now (w .entry)) b o g c u → r ≡ rank (verdict (opOf op) (kindOf t) (kindOf u))) ⌝ }
 {
@@ -120,7 +120,7 @@ fn foresee(w: &[u32], b: usize, op: usize, a: usize, c: usize, o: usize, fuel: u
     requires { ⌜ ((g : ℕ) × (t : Trie) × (u : Trie) × Inputs (now w) b a c o g fuel t u) ⌝ }
     ensures { λ x. ⌜ ((g : ℕ) (t u : Trie) → Inputs (now (w .entry)) b a c o g fuel t u → x ≡ answer o (opOn op fuel t u)) ⌝ }
 {
-    let v = judge(w, b, op, a, c);
+    let v = outcome(w, b, op, a, c);
     if v == EMPTY {
         return Emitted::Empty;
     }
@@ -132,7 +132,7 @@ fn foresee(w: &[u32], b: usize, op: usize, a: usize, c: usize, o: usize, fuel: u
     let l = foresee(w, b, op, p.a, p.c, o + 1, fuel - 1);
     let m = emitting::end_of(l, o + 1);
     let r = foresee(w, b, op, q.a, q.c, m, fuel - 1);
-    emitting::over(op != 3, o, l, r)
+    emitting::parent(op != 3, o, l, r)
 }
 
 // The nodes of the result.
@@ -158,7 +158,7 @@ pub fn emit(
     ensures { λ x. ⌜ ((g : ℕ) (t u : Trie) → Inputs (now (w .entry)) b a c o g fuel t u → Gap (now (w .entry)) b o g (opOn op fuel t u)
         → Emits (now (w .entry)) (now (w .exit)) b o x (opOn op fuel t u)) ⌝ }
 {
-    let v = judge(w, b, op, a, c);
+    let v = outcome(w, b, op, a, c);
     if v == EMPTY {
         return Emitted::Empty;
     }

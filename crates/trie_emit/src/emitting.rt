@@ -64,7 +64,7 @@ fn joins(joined: bool, l: Emitted, r: Emitted) -> bool
 }
 
 // The answer of node o by the answers of its children.
-pub fn over(joined: bool, o: usize, l: Emitted, r: Emitted) -> Emitted
+pub fn parent(joined: bool, o: usize, l: Emitted, r: Emitted) -> Emitted
     requires { ⌜ ((t : Trie) × (u : Trie) × Both o l r t u) ⌝ }
     ensures { λ x. ⌜ ((t u : Trie) → Both o l r t u → x ≡ answer o (glue joined t u)) ⌝ }
 {
@@ -83,7 +83,7 @@ pub fn finish(w: &mut [u32], b: usize, joined: bool, o: usize, l: Emitted, r: Em
     requires { ⌜ ((v : List ℕ) × (t : Trie) × (u : Trie) × Pending v (now w) b joined o l r t u) ⌝ }
     ensures { λ x. ⌜ ((v : List ℕ) (t u : Trie) → Pending v (now (w .entry)) b joined o l r t u → Emits v (now (w .exit)) b o x (glue joined t u)) ⌝ }
 {
-    let x = over(joined, o, l, r);
+    let x = parent(joined, o, l, r);
     match x {
         Emitted::Empty => x,
         Emitted::Full => x,

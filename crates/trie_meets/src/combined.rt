@@ -18,7 +18,7 @@ fn leaves(w: &[u32], b: usize, op: usize, a: usize, c: usize, fuel: usize) -> bo
     requires { ⌜ ((t : Trie) × (u : Trie) × Inputs (now w) b a c 0 0 fuel t u) ⌝ }
     ensures { λ r. ⌜ ((t u : Trie) → Inputs (now (w .entry)) b a c 0 0 fuel t u → r ≡ not (isNone (opOn op fuel t u))) ⌝ }
 {
-    let v = combining::judge(w, b, op, a, c);
+    let v = combining::outcome(w, b, op, a, c);
     if v == combining::EMPTY {
         return false;
     }

@@ -18,8 +18,8 @@ use Rattle.nodes.specs.Segments.{Segment, Spliced, Branch}
 use Rattle.nodes.proofs.Segments.{segment-fit}
 use Rattle.nodes.proofs.Views.{inward, beside, behind, branch-fit, branch-size, branch-child, branch-spliced}
 use Rattle.trie_remove.specs.declared.Child.{Child}
-use Rattle.trie_remove.specs.Removal.{Removable, begin, childOf, aboveOf, over, Inside}
-use Rattle.trie_remove.proofs.Remains.{rejoin-fork, rejoin-none, over-some, size-rejoin, removeT-inner, size-removeT}
+use Rattle.trie_remove.specs.Removal.{Removable, begin, childOf, aboveOf, rooted, Inside}
+use Rattle.trie_remove.proofs.Remains.{rejoin-fork, rejoin-none, rooted-some, size-rejoin, removeT-inner, size-removeT}
 use Rattle.nets.proofs.Handing.{length-bitsLeft}
 use Rattle.trie_remove.proofs.Splices.{begin-none, begin-node}
 
@@ -63,9 +63,9 @@ first-link false y i m e = refl
 first-link true y i m e = refl
 
 -- Room for what is left of the node is room for what is left of the child.
-room-over : (k o p q m n : ℕ) → p + over (k + o) ≤ q + n → n ≡ 1 + m + o → p ≤ q → p + k ≤ q + m
+room-over : (k o p q m n : ℕ) → p + rooted (k + o) ≤ q + n → n ≡ 1 + m + o → p ≤ q → p + k ≤ q + m
 room-over zero o p q m n h d f = omega arith
-room-over (suc k) o p q m n h d f = omega (arith, over-some (suc k + o) (λ z. omega arith))
+room-over (suc k) o p q m n h d f = omega (arith, rooted-some (suc k + o) (λ z. omega arith))
 
 -- The same where a step down the path has found an inner node: the child inward, the child beside, what is left of the one, and the words behind it.
 module _ {w : List ℕ} {b i e u : ℕ} {t : Trie} {rest : List ℕ} (g : Segment w b i e u t rest) {s later : PrefixBits} {bit : Bool} {c : Child} (n : Inside s i e t bit c later) where
@@ -81,7 +81,7 @@ module _ {w : List ℕ} {b i e u : ℕ} {t : Trie} {rest : List ℕ} (g : Segmen
   remove-here : removeT (bitsLeft s) t ≡ rejoin bit left (beside g (n .branch) bit)
   remove-here = rw (n .bits, n .branch .is) (removeT-inner bit (bitsLeft later) (n .branch .l) (n .branch .r) (n .branch .inner))
 
-  pub size-here : (k : ℕ) → k ≡ size left → over (k + c .others) ≡ size (removeT (bitsLeft s) t)
+  pub size-here : (k : ℕ) → k ≡ size left → rooted (k + c .others) ≡ size (removeT (bitsLeft s) t)
   size-here k q = rw (remove-here, q, others-here) (sym (size-rejoin bit left (beside g (n .branch) bit)))
 
   first-here : i < c .first

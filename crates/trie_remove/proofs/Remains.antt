@@ -13,7 +13,7 @@ use Rattle.nets.specs.TrieOps.{rejoin, removeT}
 use Rattle.nets.proofs.Strings.{cond-both}
 use Rattle.nets.proofs.Listing.{leaf-is}
 use Rattle.nodes.proofs.Tries.{size-fork, size-side}
-use Rattle.trie_remove.specs.Removal.{over}
+use Rattle.trie_remove.specs.Removal.{rooted}
 
 -- The trie with two halves: none where both are, else a node.
 glue-node : (x y : Trie) → bare x y ≡ false → glue false x y ≡ node x y
@@ -32,14 +32,14 @@ pub rejoin-none : (b : Bool) → rejoin b none none ≡ none
 rejoin-none false = refl
 rejoin-none true = refl
 
-pub over-some : (n : ℕ) → (n ≡ 0 → ⊥) → over n ≡ n + 1
-over-some n f = rw (ne-eqb n 0 f)
+pub rooted-some : (n : ℕ) → (n ≡ 0 → ⊥) → rooted n ≡ n + 1
+rooted-some n f = rw (ne-eqb n 0 f)
 
-pub size-rejoin : (b : Bool) (x y : Trie) → size (rejoin b x y) ≡ over (size x + size y)
+pub size-rejoin : (b : Bool) (x y : Trie) → size (rejoin b x y) ≡ rooted (size x + size y)
 unfolding size
 size-rejoin b none none = rw (rejoin-none b)
-size-rejoin b none (node c d) = rw (rejoin-fork b none (node c d) refl, size-fork b none (node c d), over-some (0 + (1 + size c + size d)) (λ e. omega arith)) (omega arith)
-size-rejoin b (node l r) y = rw (rejoin-fork b (node l r) y refl, size-fork b (node l r) y, over-some (1 + size l + size r + size y) (λ e. omega arith)) (omega arith)
+size-rejoin b none (node c d) = rw (rejoin-fork b none (node c d) refl, size-fork b none (node c d), rooted-some (0 + (1 + size c + size d)) (λ e. omega arith)) (omega arith)
+size-rejoin b (node l r) y = rw (rejoin-fork b (node l r) y refl, size-fork b (node l r) y, rooted-some (1 + size l + size r + size y) (λ e. omega arith)) (omega arith)
 
 pub removeT-end : (t : Trie) → removeT [] t ≡ none
 unfolding removeT
@@ -66,8 +66,8 @@ unfolding removeT size
 size-removeT-leaf [] = refl
 size-removeT-leaf (b ∷ p) = rw (removeT-leaf b p, size-fork b (removeT p leaf) leaf) (omega (arith, size-removeT-leaf p))
 
-over-le : (n : ℕ) → over n ≤ n + 1
-over-le n = cond-both (λ k. k ≤ n + 1) (eqb n 0) 0 (n + 1) (omega arith) (omega arith)
+rooted-le : (n : ℕ) → rooted n ≤ n + 1
+rooted-le n = cond-both (λ k. k ≤ n + 1) (eqb n 0) 0 (n + 1) (omega arith) (omega arith)
 
 size-removeT-full : (p : Bits) (t : Trie) → isLeaf t ≡ true → size (removeT p t) ≤ size t + 2 * length p
 size-removeT-full p t e = rw (leaf-is t e) (omega (arith, size-removeT-leaf p))
@@ -81,4 +81,4 @@ size-removeT (b ∷ p) (node l r) = go (bare l r) refl (size-removeT p (side b l
   where
     go : (x : Bool) → bare l r ≡ x → size (removeT p (side b l r)) ≤ size (side b l r) + 2 * length p → size (removeT (b ∷ p) (node l r)) ≤ size (node l r) + 2 * length (b ∷ p)
     go true e ih = size-removeT-full (b ∷ p) (node l r) e
-    go false e ih = rw (removeT-inner b p l r e, size-rejoin b (removeT p (side b l r)) (side b r l)) (omega (arith, over-le (size (removeT p (side b l r)) + size (side b r l)), size-side b l r))
+    go false e ih = rw (removeT-inner b p l r e, size-rejoin b (removeT p (side b l r)) (side b r l)) (omega (arith, rooted-le (size (removeT p (side b l r)) + size (side b r l)), size-side b l r))

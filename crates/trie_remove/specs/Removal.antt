@@ -38,8 +38,8 @@ abbrev pub aboveOf : ℕ → Child → ℕ
 aboveOf from c = cond (eqb (c .others) 0) from (c .first)
 
 -- the nodes of a trie with n nodes below its root: none where there are none
-abbrev pub over : ℕ → ℕ
-over n = cond (eqb n 0) 0 (n + 1)
+abbrev pub rooted : ℕ → ℕ
+rooted n = cond (eqb n 0) 0 (n + 1)
 
 -- an inner node, the next bit, the child on its side and the bits behind it
 pub record Inside (s : PrefixBits) (i e : ℕ) (t : Trie) (bit : Bool) (c : Child) (later : PrefixBits) : Type 0 where

@@ -9,7 +9,7 @@ ghost use Rattle.nets.specs.Networks.{bitsLeft};
 ghost use Rattle.nodes.specs.Words.{put, place, enc};
 ghost use Rattle.nodes.specs.Links.{linked};
 ghost use Rattle.nodes.specs.Segments.{Segment, Spliced};
-ghost use Rattle.trie_remove.specs.Removal.{Removable, begin, childOf, aboveOf, over, Says};
+ghost use Rattle.trie_remove.specs.Removal.{Removable, begin, childOf, aboveOf, rooted, Says};
 use nets::NextBit;
 use nets::PrefixBits;
 use nodes::steps;
@@ -69,9 +69,9 @@ fn step_down(w: &[u32], b: usize, i: usize, e: usize, s: PrefixBits) -> Step
 }
 
 // The nodes of a trie that has n below its root: none where it has none.
-fn over(n: usize) -> usize
+fn rooted(n: usize) -> usize
     requires { ⌜ n < 4294967296 ⌝ }
-    ensures { λ r. ⌜ r ≡ over n ⌝ }
+    ensures { λ r. ⌜ r ≡ rooted n ⌝ }
 {
     if n == 0 { 0 } else { n + 1 }
 }
@@ -87,7 +87,7 @@ pub fn remove_size(w: &[u32], b: usize, i: usize, e: usize, s: PrefixBits) -> us
         Step::Full => 2 * s.len as usize,
         Step::Inner(_, c, later) => {
             let k = remove_size(w, b, c.first, c.end, later);
-            over(k + c.others)
+            rooted(k + c.others)
         }
     }
 }

@@ -14,7 +14,7 @@ use Rattle.trie_remove.proofs.Inward.{child-here, size-here, count-smal
 use Rattle.trie_remove.proofs.remove_size.Reads as remove-size
 use Rattle.trie_remove.proofs.remove_size.Kinds as remove-size-kinds
 use Rattle.trie_remove.proofs.+remove_size.Lts-remove_size as lts
-use Rattle.trie_remove.proofs.over.Reads as over-reads
+use Rattle.trie_remove.proofs.rooted.Reads as rooted-reads
 use Rattle.trie_remove.proofs.step_down.Reads as step-down-reads
 use Rattle.trie_remove.proofs.+remove_size.{statement}
 use Rattle.trie_remove.proofs.+remove_size.Tie.{close}
@@ -29,7 +29,7 @@ abbrev below : ℕ → In 1 remove-size-kinds.ps
 below t = and 1 remove-size-kinds.ps (falls 1 remove-size-kinds.ps _<_ μ t) remove-size.Pre
 
 abbrev calls : ℕ → lts.Claims
-calls t = (step-down-reads.Asked, step-down-reads.Learnt, below t, remove-size.Post, over-reads.Asked, over-reads.Learnt)
+calls t = (step-down-reads.Asked, step-down-reads.Learnt, below t, remove-size.Post, rooted-reads.Asked, rooted-reads.Learnt)
 
 module _ (t : ℕ) where
   -- what the step says of any trie that stands there
@@ -66,4 +66,4 @@ pub +remove-size-spec : {M : Type 1} → statement M
     size-full _ t (e .0) (d .before .before .pre .1 .0))
     (λ c. λ t′ rest u g.
     let n = inside t (c .before .before .before) t′ rest u g in
-    c .over .ensures ∙ size-here g n _ (c .before .before .remove-size .ensures _ _ _ (child-here g n)))
+    c .rooted .ensures ∙ size-here g n _ (c .before .before .remove-size .ensures _ _ _ (child-here g n)))

@@ -1,4 +1,4 @@
--- `Net::prefix_bits` meets its contract: what `judge` grants is started on, and what it refuses is refused. Assumes nothing.
+-- `Net::prefix_bits` meets its contract: what `accept` grants is started on, and what it refuses is refused. Assumes nothing.
 use borrow.Author.Needs.{needs}
 use Rattle.nets.specs.Networks.{noBits, startOf}
 use Rattle.nets.proofs.Answers.{judged-network, judged-refused}
@@ -16,9 +16,9 @@ prefix-bits-spec =
     (λ c.
     let t = c .before .before in
     let s = t .before .before in
-    let h = judged-network (s .judge .result) (s .before .args .self) (t .n .given .0 .0) (s .judge .ensures) (t .n .given .1) in
+    let h = judged-network (s .accept .result) (s .before .args .self) (t .n .given .0 .0) (s .accept .ensures) (t .n .given .1) in
     rw (c .start .ensures, h .1, h .0))
     (λ c.
     let s = c .before .before .before in
     let n = s .before .args .self in
-    judged-refused (s .judge .result) n (c .before .no .given .0 .0) noBits (startOf n) (s .judge .ensures) (c .before .no .given .1)))
+    judged-refused (s .accept .result) n (c .before .no .given .0 .0) noBits (startOf n) (s .accept .ensures) (c .before .no .given .1)))

@@ -1,4 +1,4 @@
--- `Net::with_new_prefix` meets its contract: what `judge` grants is cleared at the new length, and what it refuses is refused. Assumes nothing.
+-- `Net::with_new_prefix` meets its contract: what `accept` grants is cleared at the new length, and what it refuses is refused. Assumes nothing.
 use mathlib.Core.Path.{ap, _∙_}
 use borrow.Author.Needs.{needs}
 use Rattle.nets.specs.Networks.{noNet, cleared, withLen}
@@ -18,11 +18,11 @@ with-new-prefix-spec =
     let d = c .before .before in
     let s = d .before .before in
     let a = s .before .args in
-    let h = judged-network (s .judge .result) (a .self) (d .t .given .0 .0) (s .judge .ensures) (d .t .given .1) in
+    let h = judged-network (s .accept .result) (a .self) (d .t .given .0 .0) (s .accept .ensures) (d .t .given .1) in
     rw (withLenNo-net (a .self) (a .len) (h .0)) (rw (h .1) at (c .cut .ensures)))
     (λ c.
     let s = c .before .before .before in
     let a = s .before .args in
     let no = c .before .t2 .given in
-    let e = judged-refused (s .judge .result) (a .self) (no .0 .0) noNet (cleared (withLen (a .self) (a .len))) (s .judge .ensures) (no .1) in
+    let e = judged-refused (s .accept .result) (a .self) (no .0 .0) noNet (cleared (withLen (a .self) (a .len))) (s .accept .ensures) (no .1) in
     rw (withLenNo-none (a .self) (a .len) (λ q. number-some (no .0 .0) (ap (λ p. p .0) e ∙ q))) e))

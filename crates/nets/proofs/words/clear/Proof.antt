@@ -18,5 +18,5 @@ clear-spec =
     let s = c .before .before .before in
     let n = s .before .args .n in
     let e = s .before .pre in
-    rw (c .keep2 .ensures, c .before .keep .ensures, c .before .before .less .ensures)
+    rw (c .keep2 .ensures, c .before .keep .ensures, c .before .before .less-by .ensures)
     (cleared-words n (s .past .result) e (omega (arith, refusalOf-is n e .len)) (omega arith))))

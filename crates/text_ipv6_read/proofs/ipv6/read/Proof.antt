@@ -31,7 +31,8 @@ ended : (c : tie.Else2) → let r = c .before .before .before .before in startsB
 ended c = sym (c .before .byte-at .ensures) ∙ not-false (c .before .byte-at .result) (c .if2 .left)
 
 -- the length that was read
-len : (c : tie.After-known-told) → let n = c .before .before .before in let r = n .before .before .before .before .before in let s = r .before .before .args .line .now in
+len : (c : tie.After-known-told)
+    → let n = c .before .before .before in let r = n .before .before .before .before .before in let s = r .before .before .args .line .now in
     parsed (c .before .r .given .0 .0) (drop (c .before .r .given .0 .1 .0 .at) s) ≡ readNumber 128 (drop (r .read .result .at + 1) s)
 len c =
     let n = c .before .before .before in

@@ -5,7 +5,7 @@ use lib.ListN.{drop}
 use borrow.Author.Needs.{needs}
 use Rattle.text.specs.Places.{startsByte}
 use Rattle.text.proofs.Places.{starts-within}
-use Rattle.text_ipv6_read.specs.Ipv6.{colon}
+use Rattle.text_hex.specs.Hex.{colon}
 use Rattle.text_ipv6_read.proofs.Laying.{startsDouble-other, startsDouble-behind}
 use Rattle.text_ipv6_read.proofs.outlines.double_at.Statement.{statement}
 use Rattle.text_ipv6_read.proofs.outlines.double_at.Tie as tie

@@ -28,7 +28,8 @@ small c =
     rw (c .before .c .given .1) at h
 
 -- the last
-last : (c : tie.After-known-told2) → let k = c .before .before .before .before in let s = k .before .before .before .before .before .before .before .args .s .now in
+last : (c : tie.After-known-told2)
+    → let k = c .before .before .before .before in let s = k .before .before .before .before .before .before .before .args .s .now in
     parsed (c .before .r .given .0 .0) (drop (c .before .r .given .0 .1 .0 .at) s) ≡ readNumber 255 (drop (k .before .c .given .0 .1 .0 .at) s)
 last c =
     let k = c .before .before .before .before in

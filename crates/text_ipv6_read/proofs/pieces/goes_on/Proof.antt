@@ -5,7 +5,7 @@ use lib.ListN.{drop}
 use borrow.Author.Needs.{needs}
 use Rattle.text.specs.Places.{startsByte}
 use Rattle.text.proofs.Places.{starts-within}
-use Rattle.text_ipv6_read.specs.Ipv6.{colon}
+use Rattle.text_hex.specs.Hex.{colon}
 use Rattle.text_ipv6_read.proofs.Found.{goesOn-other, goesOn-behind}
 use Rattle.text_ipv6_read.proofs.pieces.goes_on.Statement.{statement}
 use Rattle.text_ipv6_read.proofs.pieces.goes_on.Tie as tie

@@ -10,7 +10,7 @@ use Rattle.trie_emit.proofs.Combine.{op-none, op-full, op-mixed, Split,
 use Rattle.trie_emit.proofs.combining.emit.Reads as emit
 use Rattle.trie_emit.proofs.combining.emit.Kinds as emit-kinds
 use Rattle.trie_emit.proofs.combining.+emit.Lts-emit as emit-lts
-use Rattle.trie_emit.proofs.combining.judge.Reads as judge-reads
+use Rattle.trie_emit.proofs.combining.outcome.Reads as outcome-reads
 use Rattle.trie_emit.proofs.combining.halves.Reads as halves-reads
 use Rattle.trie_emit.proofs.emitting.end_of.Reads as end-of-reads
 use Rattle.trie_emit.proofs.emitting.finish.Reads as finish-reads
@@ -27,7 +27,7 @@ abbrev below : ℕ → In 1 emit-kinds.ps
 below t = and 1 emit-kinds.ps (falls 1 emit-kinds.ps _<_ μ-emit t) emit.Pre
 
 abbrev calls : ℕ → emit-lts.Claims
-calls t = (judge-reads.Asked, judge-reads.Learnt, halves-reads.Asked, halves-reads.Learnt, below t, emit.Post, end-of-reads.Asked, end-of-reads.Learnt, finish-reads.Asked, finish-reads.Learnt)
+calls t = (outcome-reads.Asked, outcome-reads.Learnt, halves-reads.Asked, halves-reads.Learnt, below t, emit.Post, end-of-reads.Asked, end-of-reads.Learnt, finish-reads.Asked, finish-reads.Learnt)
 
 module _ (n : ℕ) where
   abbrev Start : Type 0
@@ -46,7 +46,7 @@ module _ (n : ℕ) where
       Split (a .w .now) (a .b) (a .op) (a .a) (a .c) (a .o) g (a .fuel) t u (c .before .before .halves .result .a) (c .before .before .halves .result .c) (c .halves2 .result .a) (c .halves2 .result .c)
   split c g t u s = record {
     src = s;
-    mixes = op-mixed s _ _ (c .before .before .before .before .before .before .judge .ensures _ g t u (s .first) (s .second)) (c .before .before .before .before .before .if1 .left) (c .before .before .before .before .if2 .left);
+    mixes = op-mixed s _ _ (c .before .before .before .before .before .before .outcome .ensures _ g t u (s .first) (s .second)) (c .before .before .before .before .before .if1 .left) (c .before .before .before .before .if2 .left);
     left = c .before .before .halves .ensures _ g t u (s .first) (s .second);
     right = c .halves2 .ensures _ g t u (s .first) (s .second);
   }
@@ -55,9 +55,9 @@ pub +emit-spec : {M : Type 1} → statement M
 +emit-spec = close μ-emit λ n. emit-lts.spec (calls n) (at n) emit.Post
     (λ c κs. let (g, t, u, s, p) = c .before .before .pre .1 in (_, g, t, u, s .first, s .second))
     (λ c. search needs)
-    (λ c g t u s p. op-none s _ _ (c .before .judge .ensures _ g t u (s .first) (s .second)) (c .if1 .taken))
+    (λ c g t u s p. op-none s _ _ (c .before .outcome .ensures _ g t u (s .first) (s .second)) (c .if1 .taken))
     (λ c. search needs)
-    (λ c g t u s p. op-full s _ _ (c .before .before .judge .ensures _ g t u (s .first) (s .second)) (c .if2 .taken))
+    (λ c g t u s p. op-full s _ _ (c .before .before .outcome .ensures _ g t u (s .first) (s .second)) (c .if2 .taken))
     (λ c κs. let (g, t, u, s, p) = c .before .before .before .before .before .before .pre .1 in (_, g, t, u, s .first, s .second))
     (λ c κs. let (g, t, u, s, p) = c .before .before .before .before .before .before .before .before .pre .1 in (_, g, t, u, s .first, s .second))
     (λ c. let s = start n (c .before) .pre .1 .3 in omega arith)

@@ -12,7 +12,7 @@ use Rattle.trie_meets.proofs.combined.leaves.Reads as leaves
 use Rattle.trie_meets.proofs.combined.leaves.Kinds as leaves-kinds
 use Rattle.trie_meets.proofs.combined.+leaves.Lts-leaves as leaves-lts
 use Rattle.trie_emit.proofs.combining.halves.Reads as halves-reads
-use Rattle.trie_emit.proofs.combining.judge.Reads as judge-reads
+use Rattle.trie_emit.proofs.combining.outcome.Reads as outcome-reads
 use Rattle.trie_meets.proofs.combined.+leaves.{statement}
 use Rattle.trie_meets.proofs.combined.+leaves.Tie.{close}
 
@@ -26,7 +26,7 @@ abbrev below : ℕ → In 1 leaves-kinds.ps
 below t = and 1 leaves-kinds.ps (falls 1 leaves-kinds.ps _<_ μ-leaves t) leaves.Pre
 
 abbrev calls : ℕ → leaves-lts.Claims
-calls t = (judge-reads.Asked, judge-reads.Learnt, halves-reads.Asked, halves-reads.Learnt, below t, leaves.Post)
+calls t = (outcome-reads.Asked, outcome-reads.Learnt, halves-reads.Asked, halves-reads.Learnt, below t, leaves.Post)
 
 module _ (n : ℕ) where
   abbrev Inner : Type 0
@@ -41,13 +41,13 @@ module _ (n : ℕ) where
   -- at an inner node, the halves of both sources
   halved : (c : Inner) (t u : Trie) → Given (start c) t u → (d : Bool) (i k : ℕ) → let a = start c .args in Means (a .w .now) (a .b) 0 0 i (half d t) × Means (a .w .now) (a .b) 0 0 k (half d u)
       → Inputs (a .w .now) (a .b) i k 0 0 (a .fuel - 1) (half d t) (half d u)
-  halved c t u s d i k m = half-inputs s (start c .args .op) _ (c .before .before .judge .ensures 0 0 t u (s .first) (s .second)) (c .before .if1 .left) (c .if2 .left) d i k m
+  halved c t u s d i k m = half-inputs s (start c .args .op) _ (c .before .before .outcome .ensures 0 0 t u (s .first) (s .second)) (c .before .if1 .left) (c .if2 .left) d i k m
 
 pub +leaves-spec : {M : Type 1} → statement M
 +leaves-spec = close μ-leaves λ n. leaves-lts.spec (calls n) (at n) leaves.Post
     (λ c κs. let (t, u, s) = c .before .pre .1 in (0, 0, t, u, s .first, s .second))
-    (λ c t u s. leaves-none s _ _ (c .before .judge .ensures 0 0 t u (s .first) (s .second)) (c .if1 .taken))
-    (λ c t u s. leaves-full s _ _ (c .before .before .judge .ensures 0 0 t u (s .first) (s .second)) (c .if2 .taken))
+    (λ c t u s. leaves-none s _ _ (c .before .outcome .ensures 0 0 t u (s .first) (s .second)) (c .if1 .taken))
+    (λ c t u s. leaves-full s _ _ (c .before .before .outcome .ensures 0 0 t u (s .first) (s .second)) (c .if2 .taken))
     (λ c κs. let (t, u, s) = start n c .pre .1 in (0, 0, t, u, s .first, s .second))
     (λ c. let s = start n (c .before) .pre .1 .2 in omega arith)
     (λ c κs.
@@ -57,7 +57,7 @@ pub +leaves-spec : {M : Type 1} → statement M
     (λ c t u s.
     let h = c .before .before in
     let i = h .before in
-    leaves-first s _ _ (i .before .before .judge .ensures 0 0 t u (s .first) (s .second)) (i .before .if1 .left) (i .if2 .left) _
+    leaves-first s _ _ (i .before .before .outcome .ensures 0 0 t u (s .first) (s .second)) (i .before .if1 .left) (i .if2 .left) _
     (c .before .leaves .ensures _ _ (halved n i t u s false _ _ (h .halves .ensures 0 0 t u (s .first) (s .second)))) (c .if3 .taken))
     (λ c κs. let (t, u, s) = start n (c .before .before .before) .pre .1 in (0, 0, t, u, s .first, s .second))
     (λ c. let s = start n (c .before .before .before .before) .pre .1 .2 in omega arith)
@@ -69,6 +69,6 @@ pub +leaves-spec : {M : Type 1} → statement M
     let e = c .before .before in
     let h = e .before .before in
     let i = h .before in
-    leaves-second s _ _ (i .before .before .judge .ensures 0 0 t u (s .first) (s .second)) (i .before .if1 .left) (i .if2 .left) _ _
+    leaves-second s _ _ (i .before .before .outcome .ensures 0 0 t u (s .first) (s .second)) (i .before .if1 .left) (i .if2 .left) _ _
     (e .before .leaves .ensures _ _ (halved n i t u s false _ _ (h .halves .ensures 0 0 t u (s .first) (s .second)))) (e .if3 .left)
     (c .leaves2 .ensures _ _ (halved n i t u s true _ _ (c .before .halves2 .ensures 0 0 t u (s .first) (s .second)))))

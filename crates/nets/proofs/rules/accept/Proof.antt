@@ -1,14 +1,14 @@
--- `rules::judge` meets its contract: its tests are those of `refusalOf`. Assumes nothing.
+-- `rules::accept` meets its contract: its tests are those of `refusalOf`. Assumes nothing.
 use mathlib.Core.Path.{sym, _∙_}
 use borrow.Author.Needs.{needs}
 use borrow.Author.Tests.{not-true, not-false}
 use Rattle.nets.specs.Networks.{refusalOf}
-use Rattle.nets.proofs.rules.judge.Statement.{statement}
-use Rattle.nets.proofs.rules.judge.Tie as tie
+use Rattle.nets.proofs.rules.accept.Statement.{statement}
+use Rattle.nets.proofs.rules.accept.Tie as tie
 
-pub judge-spec : {M : Type 1} → statement M
+pub accept-spec : {M : Type 1} → statement M
 unfolding refusalOf
-judge-spec =
+accept-spec =
     tie.close
     (tie.spec
     (λ c. search needs)

@@ -1,12 +1,12 @@
--- `emitting::over` meets its contract, by its tests. Assumes nothing.
+-- `emitting::parent` meets its contract, by its tests. Assumes nothing.
 use native.Mathlib.Omega.{arith}
 use borrow.Author.Needs.{needs}
 use Rattle.trie_emit.proofs.Answers.{end-is, over-none, over-leaf, over-node}
-use Rattle.trie_emit.proofs.emitting.over.Statement.{statement}
-use Rattle.trie_emit.proofs.emitting.over.Tie as tie
+use Rattle.trie_emit.proofs.emitting.parent.Statement.{statement}
+use Rattle.trie_emit.proofs.emitting.parent.Tie as tie
 
-pub over-spec : {M : Type 1} → statement M
-over-spec =
+pub parent-spec : {M : Type 1} → statement M
+parent-spec =
     tie.close
     (tie.spec
     (λ c. search needs)

@@ -1,13 +1,13 @@
--- `combining::judge` meets its contract. Assumes nothing.
+-- `combining::outcome` meets its contract. Assumes nothing.
 use native.Mathlib.Omega.{arith}
 use borrow.Author.Needs.{needs}
 use Rattle.nets.specs.TrieOps.{kindOf}
 use Rattle.trie_emit.proofs.Sources.{rank-le}
-use Rattle.trie_emit.proofs.combining.judge.Statement.{statement}
-use Rattle.trie_emit.proofs.combining.judge.Tie as tie
+use Rattle.trie_emit.proofs.combining.outcome.Statement.{statement}
+use Rattle.trie_emit.proofs.combining.outcome.Tie as tie
 
-pub judge-spec : {M : Type 1} → statement M
-judge-spec =
+pub outcome-spec : {M : Type 1} → statement M
+outcome-spec =
     tie.close
     (tie.spec
     (λ c κs. search needs)
