@@ -63,6 +63,9 @@ uint64_t marlbrace_exclude_apart(uint32_t *pool, size_t pool_len, uint32_t to, u
 uint64_t marlbrace_replan(uint32_t *pool, size_t pool_len, uint32_t set, uint32_t share, uint32_t limit);
 uint64_t marlbrace_make_public(uint32_t *pool, size_t pool_len, uint32_t set);
 uint64_t marlbrace_load(uint32_t *pool, size_t pool_len, uint32_t set, const uint8_t *file, size_t file_len);
+uint64_t marlbrace_add_file(uint32_t *pool, size_t pool_len, uint32_t set, const uint8_t *file, size_t file_len);      /* the networks of a set file, all or none */
+uint64_t marlbrace_remove_file(uint32_t *pool, size_t pool_len, uint32_t set, const uint8_t *file, size_t file_len);
+uint64_t marlbrace_add_range(uint32_t *pool, size_t pool_len, uint32_t set, uint8_t family, uint64_t first_hi, uint64_t first_lo, uint64_t last_hi, uint64_t last_lo);   /* first to last address */
 /* Lines of text into set 0, up to the first that is refused: counts[0] is that line, or the one behind the last; counts[1] how many were trimmed. */
 uint64_t marlbrace_lines(uint32_t *pool, size_t pool_len, const uint8_t *text, size_t text_len, uint64_t counts[2]);
 

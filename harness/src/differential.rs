@@ -1,8 +1,10 @@
 //! Runs the same calls through the library, the model and iprange, and compares every answer, every list and every word after every step.
 use crate::exports::{exported, many_along, most, words};
-use crate::files::read_lines;
+use crate::files::{file, file_of, read_lines};
 use crate::layout::decode;
-use crate::model::{apply, read_line};
+use crate::lists::{List, Member};
+use crate::many::tail as tail_of;
+use crate::model::{apply, net, read_line};
 use crate::oracle::{left, reading, sides, Oracle};
 use crate::plan::{Dice, Plan, Universe};
 use crate::salvage;
@@ -179,7 +181,7 @@ pub fn damage(d: &mut Dice) -> Case {
                 if c.code == LAYOUT {
                     c = Call::new(FREE);
                 }
-                let changes = (ADD..=EXCLUDE_APART).contains(&c.code) || c.code == EXCLUDE || c.code == REPLAN || c.code == MAKE_PUBLIC || c.code == LOAD || c.code == LINES;
+                let changes = matches!(c.code, ADD..=EXCLUDE_APART | EXCLUDE | REPLAN | MAKE_PUBLIC | LOAD | LINES | ADD_RANGE..=REMOVE_FILE);
                 if !changes || x == old {
                     c.net.family = state.family;
                     case.calls.push(c);
@@ -210,6 +212,33 @@ fn full() -> Case {
     Case { words: words.len(), calls }
 }
 
+/// Calls of many networks are judged by the final list: one of the networks alone is refused 9, all are granted. The set has 26, 17, 18 and at last 11 nodes, by
+/// hand.
+fn halfway() -> Case {
+    let tail = [0u32, 26].iter().flat_map(|n| n.to_le_bytes()).collect();
+    let layout = Call { a: 1, b: 50, c: 1, net: Net { family: 4, len: 1, ..Net::default() }, tail, ..Call::new(LAYOUT) };
+    let one = |code: u8, (len, a): Member| Call { net: net(4, (len, a)), ..Call::new(code) };
+    let all = |code: u8, l: [Member; 2]| Call { tail: file(4, &List::from(l)), ..Call::new(code) };
+    let range = |a: u128, b: u128| Call { tail: tail_of(b), ..one(ADD_RANGE, (0, a)) };
+    let calls = vec![
+        layout,
+        one(ADD, (24, 0xc0a8_0000)),
+        one(ADD, (24, 0xc0a8_0100)),
+        one(ADD, (8, 0x0a00_0000)),
+        all(ADD_FILE, [(8, 0x0a00_0000), (8, 0xc000_0000)]),
+        Call { c: 18, ..Call::new(REPLAN) },
+        one(REMOVE, (10, 0xc000_0000)),
+        all(REMOVE_FILE, [(10, 0xc000_0000), (10, 0xc040_0000)]),
+        one(ADD, (2, 0x4000_0000)),
+        range(0x4000_0000, 0xffff_ffff),
+        range(0x4000_0000, 0x3fff_ffff),
+    ];
+    let mut words = vec![0; 64 + 8 + 400];
+    let numbers: Vec<(u8, u32)> = calls.iter().map(|c| apply(&mut words, c)).map(|a| (a.no, a.x)).collect();
+    assert_eq!(numbers, [(0, 0), (0, 25), (0, 26), (9, 0), (0, 17), (0, 17), (9, 0), (0, 18), (9, 0), (0, 11), (12, 0)]);
+    Case { words: words.len(), calls }
+}
+
 /// Damaged files, salvaged beside a small pool.
 fn wrecks(d: &mut Dice) -> Case {
     let plan = Plan { family: 4, universe: Universe::Wide, sets: 1, nodes: 2, shares: vec![0], limits: vec![2] };
@@ -235,6 +264,7 @@ pub fn main(calls: u64, seed: u64) -> bool {
         let case = match round {
             1 => full(),
             2 => wrecks(&mut d),
+            3 => halfway(),
             _ if round % 40 == 0 => damage(&mut d),
             _ => sequence(&mut d, 60),
         };
@@ -280,7 +310,12 @@ fn tamper(d: &mut Dice, case: &mut Case) {
     let on = |code: u8| Call { b: 6, net: net.clone(), ..Call::new(code) };
     case.calls.extend([Call { a: at as u32, ..on(READ_WORDS) }, write(x)]);
     case.calls.extend([HELD, CONTAINS, IS_EMPTY, EQUAL, LIST, RANGES, SAVE, LAST, PAGE].map(on));
-    case.calls.extend([write(words[at]), Call::new(FREE)]);
+    // refused on any words, then granted with an empty file and refused for a range that goes backward
+    case.calls.extend([ADD_RANGE, ADD_FILE, REMOVE_FILE].map(Call::new));
+    case.calls.push(write(words[at]));
+    let empty = file_of(net.family, std::iter::empty());
+    case.calls.extend([ADD_FILE, REMOVE_FILE].map(|code| Call { tail: empty.clone(), ..on(code) }));
+    case.calls.extend([Call { net: Net { lo: 1, ..net.clone() }, ..Call::new(ADD_RANGE) }, Call::new(FREE)]);
 }
 
 /// One frame: 128 bytes that say how it was made, how many bytes of calls and of answers there are, the calls, the answers, zeros. As many sequences as fit, each with its words and lists at its end.

@@ -1,5 +1,6 @@
 //! The calls that are exported each for itself, as include/marlbrace.h declares them, on the words that a case leaves, beside the model.
 use crate::layout::header;
+use crate::many::last;
 use crate::model::apply;
 use crate::runs::cut;
 use crate::wire::*;
@@ -22,6 +23,9 @@ extern "C" {
     fn marlbrace_replan(pool: *mut u32, pool_len: usize, set: u32, share: u32, limit: u32) -> u64;
     fn marlbrace_make_public(pool: *mut u32, pool_len: usize, set: u32) -> u64;
     fn marlbrace_load(pool: *mut u32, pool_len: usize, set: u32, file: *const u8, file_len: usize) -> u64;
+    fn marlbrace_add_file(pool: *mut u32, pool_len: usize, set: u32, file: *const u8, file_len: usize) -> u64;
+    fn marlbrace_remove_file(pool: *mut u32, pool_len: usize, set: u32, file: *const u8, file_len: usize) -> u64;
+    fn marlbrace_add_range(pool: *mut u32, pool_len: usize, set: u32, family: u8, first_hi: u64, first_lo: u64, last_hi: u64, last_lo: u64) -> u64;
     fn marlbrace_lines(pool: *mut u32, pool_len: usize, text: *const u8, text_len: usize, counts: *mut [u64; 2]) -> u64;
     fn marlbrace_contains(pool: *const u32, pool_len: usize, set: u32, family: u8, hi: u64, lo: u64, len: u8) -> u64;
     fn marlbrace_contains_all(pool: *const u32, pool_len: usize, set: u32, family: u8, queries: *const u64, queries_len: usize, answers: *mut u64, answers_len: usize) -> u64;
@@ -82,12 +86,24 @@ pub fn list(pool: &[u32], set: u32, rows: &mut [u64]) -> u64 {
     unsafe { marlbrace_list(pool.as_ptr(), pool.len(), set, rows.as_mut_ptr(), rows.len()) }
 }
 
+pub fn ranges(pool: &[u32], set: u32, rows: &mut [u64]) -> u64 {
+    unsafe { marlbrace_ranges(pool.as_ptr(), pool.len(), set, rows.as_mut_ptr(), rows.len()) }
+}
+
 pub fn save(pool: &[u32], set: u32, out: &mut [u8]) -> u64 {
     unsafe { marlbrace_save(pool.as_ptr(), pool.len(), set, out.as_mut_ptr(), out.len()) }
 }
 
 pub fn load(pool: &mut [u32], set: u32, file: &[u8]) -> u64 {
     unsafe { marlbrace_load(pool.as_mut_ptr(), pool.len(), set, file.as_ptr(), file.len()) }
+}
+
+pub fn add_file(pool: &mut [u32], set: u32, file: &[u8]) -> u64 {
+    unsafe { marlbrace_add_file(pool.as_mut_ptr(), pool.len(), set, file.as_ptr(), file.len()) }
+}
+
+pub fn remove_file(pool: &mut [u32], set: u32, file: &[u8]) -> u64 {
+    unsafe { marlbrace_remove_file(pool.as_mut_ptr(), pool.len(), set, file.as_ptr(), file.len()) }
 }
 
 pub fn lines(pool: &mut [u32], text: &[u8], counts: &mut [u64; 2]) -> u64 {
@@ -166,6 +182,12 @@ fn answered(pool: &mut [u32], c: &Call) -> Option<(u64, Vec<u8>)> {
             LAST => marlbrace_last(w, m, c.a, &mut row),
             SAVE => marlbrace_save(w, m, c.a, bytes.as_mut_ptr(), bytes.len()),
             LOAD => marlbrace_load(w, m, c.a, c.tail.as_ptr(), c.tail.len()),
+            ADD_FILE => marlbrace_add_file(w, m, c.a, c.tail.as_ptr(), c.tail.len()),
+            REMOVE_FILE => marlbrace_remove_file(w, m, c.a, c.tail.as_ptr(), c.tail.len()),
+            ADD_RANGE => {
+                let last = last(c);
+                marlbrace_add_range(w, m, c.a, n.family, n.hi, n.lo, last.hi, last.lo)
+            }
             LINES => marlbrace_lines(w, m, c.tail.as_ptr(), c.tail.len(), &mut counts),
             COMPARE => {
                 let (first, second) = c.tail.split_at(cut(c));

@@ -142,3 +142,17 @@ pub fn ranges(w: u8, l: &List) -> Vec<(u128, u128)> {
     let last: BTreeSet<u128> = l.iter().map(|m| m.1 | past(w, m.0)).filter(|&a| a == past(w, 0) || !covered(a + 1)).collect();
     first.into_iter().zip(last).collect()
 }
+
+/// The fewest networks that cover the addresses from a to b, which is no less, ascending: from a on the largest block that begins there and ends within them.
+pub fn blocks(w: u8, a: u128, b: u128) -> Vec<Member> {
+    let (mut at, mut r) = (a, vec![]);
+    loop {
+        let len = (0..=w).find(|&k| cleared(w, k, at) == at && at | past(w, k) <= b).expect("an address alone is one");
+        r.push((len, at));
+        let last = at | past(w, len);
+        if last == b {
+            return r;
+        }
+        at = last + 1;
+    }
+}

@@ -8,6 +8,7 @@ mod exports;
 mod files;
 mod layout;
 mod lists;
+mod many;
 mod model;
 mod oracle;
 mod plan;

@@ -1,8 +1,9 @@
-//! What each call has to answer and to leave, by document 01, requests M-101, M-102, M-105, M-107, M-109 and M-112, and docs/CALLS.md: refusals, room, limits, shares, reports, files, text, damaged memory.
+//! What each call has to answer and to leave, by document 01, requests M-101, M-102, M-103, M-105, M-107, M-109 and M-112, and docs/CALLS.md: refusals, room, limits, shares, reports, files, text, damaged memory.
 use crate::files::{file, read_file, read_lines};
 use crate::text6::{read_line6, text6};
 use crate::layout::{decode, encode, header, held, room, State};
 use crate::lists::{self, cleared, width, List, Member};
+use crate::many;
 use crate::runs;
 use crate::salvage;
 use crate::wire::*;
@@ -99,7 +100,7 @@ fn layout(w: &mut [u32], c: &Call) -> Answer {
 }
 
 /// A changing call on set k, where the arguments get the number `no` and the result is the list.
-fn change(w: &mut [u32], mut s: State, k: u32, no: u8, list: impl FnOnce(&State) -> List) -> Answer {
+pub fn change(w: &mut [u32], mut s: State, k: u32, no: u8, list: impl FnOnce(&State) -> List) -> Answer {
     let k = k as usize;
     if k >= s.sets.len() {
         return Answer::refused(3);
@@ -461,6 +462,7 @@ pub fn apply(w: &mut [u32], c: &Call) -> Answer {
         RANGES => rows(&s, c, 4, |l| lists::ranges(width(f), l).into_iter().flat_map(|(a, e)| [words(a), words(e)].concat()).collect()),
         SAVE => save(&s, c),
         LOAD => load(w, s, c),
+        ADD_RANGE | ADD_FILE | REMOVE_FILE => many::pour(w, s, c),
         NTH => answered(if known { 0 } else { 3 }, || found(f, s.sets[k].list.iter().nth(c.b as usize).copied())),
         LAST => answered(if known { 0 } else { 3 }, || found(f, s.sets[k].list.last().copied())),
         PAGE => answered(if !known { 3 } else if s.sets[k].list.len() > 16 { 11 } else { 0 }, || {

@@ -1,18 +1,22 @@
 //! The Rust crate iprange beside the model: one IpRange for each set, changed by each granted call.
 use crate::layout::State;
 use crate::files::{read_file, read_lines};
-use crate::lists::{width, List, Member};
+use crate::lists::{past, width, List, Member};
+use crate::many::last;
 use crate::model::{address, read_either};
 use crate::runs::cut;
 use crate::salvage::entries;
 use crate::wire::*;
-use ipnet::{Ipv4Net, Ipv6Net};
+use ipnet::{Ipv4Net, Ipv4Subnets, Ipv6Net, Ipv6Subnets};
 use iprange::{IpNet, IpRange};
 
 /// A network of one family, to and from length and address.
 pub trait Numbers: IpNet {
     fn of(m: Member) -> Self;
     fn member(&self) -> Member;
+    /// The fewest networks from the first address to the last, which are not all, by ipnet. Later versions of it take one address less for all where no least
+    /// length is given.
+    fn between(first: Member, last: Member) -> Vec<Self>;
 }
 
 impl Numbers for Ipv4Net {
@@ -22,6 +26,9 @@ impl Numbers for Ipv4Net {
     fn member(&self) -> Member {
         (self.prefix_len(), u32::from(self.addr()) as u128)
     }
+    fn between(first: Member, last: Member) -> Vec<Self> {
+        Ipv4Subnets::new(Self::of(first).addr(), Self::of(last).addr(), 1).collect()
+    }
 }
 
 impl Numbers for Ipv6Net {
@@ -30,6 +37,9 @@ impl Numbers for Ipv6Net {
     }
     fn member(&self) -> Member {
         (self.prefix_len(), u128::from(self.addr()))
+    }
+    fn between(first: Member, last: Member) -> Vec<Self> {
+        Ipv6Subnets::new(Self::of(first).addr(), Self::of(last).addr(), 1).collect()
     }
 }
 
@@ -82,6 +92,12 @@ pub fn left(c: &Call, a: &Answer) -> Option<String> {
     all.retain(|m| m.0 <= width(f));
     let right = read_file(&a.tail[..a.x as usize]).is_some_and(|(g, l)| f == g && if f == 4 { same::<Ipv4Net>(&all, &l) } else { same::<Ipv6Net>(&all, &l) });
     (!right).then(|| "iprange has another list".to_string())
+}
+
+/// The networks of a range. Of all addresses ipnet would give the two halves.
+fn between<N: Numbers>(c: &Call) -> Vec<N> {
+    let (w, a, b) = (width(c.net.family), address(&c.net), address(&last(c)));
+    if (a, b) == (0, past(w, 0)) { vec![N::of((0, 0))] } else { N::between((w, a), (w, b)) }
 }
 
 pub struct Ranges<N: Numbers>(Vec<IpRange<N>>);
@@ -143,6 +159,10 @@ impl<N: Numbers + Clone> Ranges<N> {
                 self.0[i].simplify();
             }
             LOAD => self.0[i] = ranges(&read_file(&c.tail).unwrap().1),
+            // one by one from the last, as the model begins with the first
+            ADD_FILE => read_file(&c.tail).unwrap().1.into_iter().rev().for_each(|m| _ = self.0[i].add(N::of(m))),
+            REMOVE_FILE => read_file(&c.tail).unwrap().1.into_iter().rev().for_each(|m| _ = self.0[i].remove(N::of(m))),
+            ADD_RANGE => between::<N>(c).into_iter().rev().for_each(|n| _ = self.0[i].add(n)),
             LINES => {
                 for line in &read_lines(&c.tail)[..a.x as usize - 1] {
                     let m = read_either(line).unwrap();

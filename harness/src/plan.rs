@@ -2,6 +2,7 @@
 use crate::files::{file, file_of};
 use crate::layout::{room, State};
 use crate::lists::{self, cleared, width, List, Member};
+use crate::many;
 use crate::model::net;
 use crate::salvage;
 use crate::text6::text6;
@@ -146,8 +147,8 @@ impl Plan {
         (len, cleared(w, len, a))
     }
 
-    /// A network, often one of those listed or beside one, sometimes with bits past its length, sometimes none.
-    fn net(&self, d: &mut Dice, s: &State) -> Net {
+    /// A member, often one of those listed or beside one.
+    fn near(&self, d: &mut Dice, s: &State) -> Member {
         let w = width(self.family);
         let mut m = self.member(d);
         let list = &s.sets[d.below(s.sets.len() as u64) as usize].list;
@@ -160,7 +161,12 @@ impl Plan {
                 _ => {}
             }
         }
-        let mut n = net(self.family, m);
+        m
+    }
+
+    /// A network, often one of those listed or beside one, sometimes with bits past its length, sometimes none.
+    fn net(&self, d: &mut Dice, s: &State) -> Net {
+        let mut n = net(self.family, self.near(d, s));
         if d.one_in(4) {
             n.lo |= d.below(1 << 32);
         }
@@ -275,6 +281,42 @@ impl Plan {
         f
     }
 
+    /// The file of some networks, most of them listed, beside those listed or inside them; of none at times.
+    fn nets(&self, d: &mut Dice, s: &State) -> Vec<u8> {
+        let w = width(self.family);
+        let deeper = |d: &mut Dice, m: Member| {
+            let len = d.pick(&[m.0, m.0, w.min(m.0 + 3)]);
+            (len, m.1 | cleared(w, len, d.roll() as u128 & lists::past(w, m.0)))
+        };
+        let some = (0..d.below(7)).fold(List::new(), |l, _| {
+            let m = self.near(d, s);
+            lists::add(w, &l, deeper(d, m))
+        });
+        file(self.family, &some)
+    }
+
+    /// The first and the last address of a range: inside a member, over one or from one to another, all or from an end, one address less, one alone; some go
+    /// backward.
+    fn range(&self, d: &mut Dice, s: &State) -> (u128, u128) {
+        let (w, m, n) = (width(self.family), self.near(d, s), self.near(d, s));
+        let (all, end) = (lists::past(w, 0), |m: Member| m.1 | lists::past(w, m.0));
+        let (a, b) = (m.1.min(n.1), end(m).max(end(n)));
+        match d.below(16) {
+            0 => (0, all),
+            1 => (0, b),
+            2 => (a, all),
+            3 => (a, a),
+            4 => (b, b),
+            5 => (m.1, m.1 | end(m) >> 1 & lists::past(w, m.0)),
+            6 => (a.saturating_add(1).min(b), b),
+            7 => (a, b.saturating_sub(1).max(a)),
+            8 => (b, a),
+            9 => (a, a.saturating_sub(1)),
+            10..=12 => (m.1, end(m)),
+            _ => (a, b),
+        }
+    }
+
     /// A list and one that is said to be equal: the same, simplified, with a member cut, halved or gone, with an address flipped, or another; in either order. Some files are broken.
     fn pair(&self, d: &mut Dice, s: &State) -> (Vec<u8>, Vec<u8>) {
         if d.one_in(6) {
@@ -344,7 +386,8 @@ impl Plan {
             return self.salvage(d, s);
         }
         let code = match d.below(100) {
-            0..=17 => ADD,
+            0..=14 => ADD,
+            15..=17 => d.pick(&[ADD_FILE, REMOVE_FILE]),
             18..=19 => COMPARE,
             20..=22 => SAVE,
             23..=26 => LOAD,
@@ -353,9 +396,10 @@ impl Plan {
             32 => LAST,
             33 => PAGE,
             34..=41 => REMOVE,
-            42..=46 => SIMPLIFY,
-            47..=51 => MERGE,
-            52..=56 => INTERSECT,
+            42..=45 => SIMPLIFY,
+            46..=50 => MERGE,
+            51..=54 => INTERSECT,
+            55..=56 => ADD_RANGE,
             57..=59 => EXCLUDE,
             60..=61 => EXCLUDE_APART,
             62..=67 => SUPERNET,
@@ -419,6 +463,21 @@ impl Plan {
                     call.a = d.pick(&empty);
                 }
                 call.tail = self.file(d, s);
+            }
+            ADD_FILE | REMOVE_FILE => call.tail = if d.one_in(3) { self.file(d, s) } else { self.nets(d, s) },
+            ADD_RANGE => {
+                let (first, last) = self.range(d, s);
+                call.net = Net { family: self.family, hi: (first >> 64) as u64, lo: first as u64, len: call.net.len };
+                call.tail = many::tail(last);
+                match d.below(24) {
+                    0 => call.net.family = d.pick(&[0, 4, 5, 6, 255]),
+                    1 => call.net.hi |= 1 << d.below(64),
+                    2 => call.net.lo |= 1 << d.below(64),
+                    3 => call.tail[d.below(16) as usize] |= 1 << d.below(8),
+                    4 => call.tail.truncate(d.below(17) as usize),
+                    5 => call.tail.push(d.below(256) as u8),
+                    _ => {}
+                }
             }
             LINES => {
                 call.tail = self.lines(d);

@@ -1,6 +1,6 @@
 //! Two set files compared, by runs of numbers: M-113.
 use crate::files::read_file;
-use crate::lists::{past, width, List};
+use crate::lists::{blocks, past, width, List};
 use crate::model::net;
 use crate::wire::*;
 
@@ -28,23 +28,6 @@ fn smallest(x: &[(u128, u128)], y: &[(u128, u128)]) -> Option<(bool, u128)> {
     })
 }
 
-/// The fewest networks that cover a run: from its first address on the largest block that begins there and ends within it.
-fn fewest((a, b): (u128, u128)) -> usize {
-    let (mut at, mut n) = (a, 0);
-    loop {
-        let mut k = at.trailing_zeros();
-        while k == 128 && (at, b) != (0, u128::MAX) || k < 128 && (1u128 << k) - 1 > b - at {
-            k -= 1;
-        }
-        n += 1;
-        let last = if k == 128 { u128::MAX } else { at + ((1u128 << k) - 1) };
-        if last == b {
-            return n;
-        }
-        at = last + 1;
-    }
-}
-
 /// Where the tail of a call is cut into two files.
 pub fn cut(c: &Call) -> usize {
     (c.a as usize).min(c.tail.len())
@@ -59,6 +42,6 @@ pub fn compare(c: &Call) -> Answer {
     let (x, y) = (runs(width(f), &l), runs(width(f), &m));
     match smallest(&x, &y) {
         Some((own, a)) => Answer { flag: 1, x: 2 - own as u32, net: net(f, (width(f), a)), ..Answer::default() },
-        None => Answer { x: 3 + (m.len() == y.into_iter().map(fewest).sum::<usize>()) as u32, ..Answer::default() },
+        None => Answer { x: 3 + (m.len() == y.into_iter().map(|(a, b)| blocks(width(f), a, b).len()).sum::<usize>()) as u32, ..Answer::default() },
     }
 }

@@ -31,6 +31,9 @@ extern "C" {
     fn marlbrace_exclude_apart(pool: *mut u32, pool_len: usize, to: u32, first: u32, second: u32) -> u64;
     fn marlbrace_replan(pool: *mut u32, pool_len: usize, set: u32, share: u32, limit: u32) -> u64;
     fn marlbrace_load(pool: *mut u32, pool_len: usize, set: u32, file: *const u8, file_len: usize) -> u64;
+    fn marlbrace_add_file(pool: *mut u32, pool_len: usize, set: u32, file: *const u8, file_len: usize) -> u64;
+    fn marlbrace_remove_file(pool: *mut u32, pool_len: usize, set: u32, file: *const u8, file_len: usize) -> u64;
+    fn marlbrace_add_range(pool: *mut u32, pool_len: usize, set: u32, family: u8, first_hi: u64, first_lo: u64, last_hi: u64, last_lo: u64) -> u64;
     fn marlbrace_contains(pool: *const u32, pool_len: usize, set: u32, family: u8, hi: u64, lo: u64, len: u8) -> u64;
     fn marlbrace_contains_all(pool: *const u32, pool_len: usize, set: u32, family: u8, queries: *const u64, queries_len: usize, answers: *mut u64, answers_len: usize) -> u64;
     fn marlbrace_supernet(pool: *const u32, pool_len: usize, set: u32, family: u8, hi: u64, lo: u64, len: u8, row: *mut [u64; 3]) -> u64;
@@ -124,6 +127,18 @@ pub(crate) fn remove(pool: &mut [u32], set: u32, n: &Row) -> Answer {
 
 pub(crate) fn load(pool: &mut [u32], set: u32, file: &[u8]) -> Answer {
     granted(unsafe { marlbrace_load(pool.as_mut_ptr(), pool.len(), set, file.as_ptr(), file.len()) })
+}
+
+pub(crate) fn add_file(pool: &mut [u32], set: u32, file: &[u8]) -> Answer {
+    granted(unsafe { marlbrace_add_file(pool.as_mut_ptr(), pool.len(), set, file.as_ptr(), file.len()) })
+}
+
+pub(crate) fn remove_file(pool: &mut [u32], set: u32, file: &[u8]) -> Answer {
+    granted(unsafe { marlbrace_remove_file(pool.as_mut_ptr(), pool.len(), set, file.as_ptr(), file.len()) })
+}
+
+pub(crate) fn add_range(pool: &mut [u32], set: u32, first: &Row, last: &Row) -> Answer {
+    granted(unsafe { marlbrace_add_range(pool.as_mut_ptr(), pool.len(), set, first.family, first.hi, first.lo, last.hi, last.lo) })
 }
 
 pub(crate) fn contains(pool: &[u32], set: u32, n: &Row) -> Answer {

@@ -200,6 +200,39 @@ impl SetMut<'_> {
         ffi::load(self.words, self.number, file).map(|a| a.value())
     }
 
+    /// Adds the networks of a set file, as adding them one by one would, but as one change: the pool is checked once, and all are added or none.
+    ///
+    /// ```
+    /// # use marlbrace::{IpRange, Plan, Pool};
+    /// # fn main() -> Result<(), marlbrace::Refusal> {
+    /// let more: IpRange = ["10.0.0.0/8", "192.168.0.0/16"].iter().map(|n| n.parse().unwrap()).collect();
+    /// let mut pool = Pool::new(4, 100, &[Plan { share: 100, limit: 100 }])?;
+    /// pool.set_mut(0).add("172.16.0.0/12".parse()?)?;
+    /// pool.set_mut(0).add_file(&more.to_vec())?;
+    /// assert_eq!(pool.set(0).len()?, 3);
+    /// pool.set_mut(0).remove_file(&more.to_vec())?;
+    /// assert_eq!(pool.set(0).len()?, 1);
+    /// # Ok(())
+    /// # }
+    /// ```
+    pub fn add_file(&mut self, file: &[u8]) -> Result<u32, Refusal> {
+        ffi::add_file(self.words, self.number, file).map(|a| a.value())
+    }
+
+    /// Removes the networks of a set file, as removing them one by one would, but as one change.
+    pub fn remove_file(&mut self, file: &[u8]) -> Result<u32, Refusal> {
+        ffi::remove_file(self.words, self.number, file).map(|a| a.value())
+    }
+
+    /// Adds the addresses from the first to the last: the fewest networks that have exactly these, all or none.
+    pub fn add_range(&mut self, first: std::net::IpAddr, last: std::net::IpAddr) -> Result<u32, Refusal> {
+        let (first, last) = (IpNet::from(first).row(), IpNet::from(last).row());
+        if first.family != last.family {
+            return Err(Refusal::WrongFamily);
+        }
+        ffi::add_range(self.words, self.number, &first, &last).map(|a| a.value())
+    }
+
     /// Another share and limit, in place.
     pub fn replan(&mut self, plan: Plan) -> Result<u32, Refusal> {
         ffi::replan(self.words, self.number, plan.share, plan.limit).map(|a| a.value())

@@ -11,7 +11,6 @@ use Rattle.nets.specs.Tries.{Trie, size, simplifyT}
 use Rattle.nets.specs.Networks.{width}
 use Rattle.nets.specs.Refusals.{number, firstNo}
 use Rattle.nets.specs.declared.Refusal.{Refusal}
-use Rattle.nets.proofs.Nodes.{nodesL-listOf}
 use Rattle.nets.proofs.TrieOf.{isList-within}
 use Rattle.nets.proofs.Simplifying.{isList-simplify}
 use Rattle.nodes.specs.Words.{put, place, enc}
@@ -31,11 +30,12 @@ use Rattle.pool_state.specs.Changes.{setAt, listAt, withSet, changeRule, setWit
 use Rattle.pool_state.specs.Steps.{Refuses, behindAt, Shiftable, relinked, Relink}
 use Rattle.pool_state.specs.declared.Answer.{Answer}
 use Rattle.pool_state.specs.declared.Survey.{Survey}
+use Rattle.pool_state.proofs.Kept.{heldL-listOf}
 use Rattle.pool_state.proofs.Determined.{changed-one}
 use Rattle.pool_state.proofs.Leaves.{RelistLeaves, relist-leaves}
 use Rattle.pool_state.proofs.WithSet.{claim-roomOf}
 use Rattle.pool_state.proofs.Claims.{isList-listAt, held-limit}
-use Rattle.pool_state.proofs.OnTries.{set-size, trieAt, seen-segment, withTrie, behind-last, change-granted}
+use Rattle.pool_state.proofs.OnTries.{decode-at, set-size, trieAt, seen-segment, withTrie, behind-last, change-granted}
 use Rattle.pool_state.proofs.Decoded.{decode-state, decode-set}
 use Rattle.pool_state.proofs.Judged.{relistNo-known}
 use Rattle.pool_state.proofs.Seen.{Seen, behind, seen-header, seen-figures}
@@ -65,9 +65,9 @@ module _ {w u : List ℕ} {b i e fuel : ℕ} {t : Trie} {x : Emitted} (g : Sourc
 abbrev simpleAt : State → ℕ → Trie
 simpleAt S k = simplifyT (trieAt S k)
 
-nodesL-simplify : (S : State) (k : ℕ) → heldL (listSimple k S) ≡ size (simpleAt S k)
+heldL-simplify : (S : State) (k : ℕ) → heldL (listSimple k S) ≡ size (simpleAt S k)
 unfolding simplifyL
-nodesL-simplify S k = nodesL-listOf (simpleAt S k)
+heldL-simplify S k = heldL-listOf (simpleAt S k)
 
 module _ (w : List ℕ) (S : State) (k : ℕ) (d : decode w ≡ sound S) (lt : k < length (S .sets)) where
   trie-size : size (trieAt S k) ≡ held (setAt S k)
@@ -85,7 +85,7 @@ module _ (w : List ℕ) (S : State) (k : ℕ) (d : decode w ≡ sound S) (lt : k
   -- never refused for the mark, the limit or the room
   grant-simplify : firstNo (grantRules S k (listSimple k S)) ≡ 0
   grant-simplify =
-      let n = nodesL-simplify S k in
+      let n = heldL-simplify S k in
       rw (admits-simplify S k (decode-state w S d), le-ltb (setAt S k .limit) (heldL (listSimple k S)) (omega (arith, in-limit)), le-ltb (roomOf S k) (heldL (listSimple k S)) (omega (arith, in-room)))
 
   pub relistNo-simplify : relistNo S k [] (simplifyL (listAt S k)) ≡ 0
@@ -104,7 +104,7 @@ module _ {w : List ℕ} {S : State} {k : ℕ} {v : Survey} (h : Seen w S k v) {b
         here = rw o (seen-segment h);
         one = seen-figures h .first;
         behind = omega arith;
-        deep = rw (q, seen-header h .family) (decode-set w S (h .decoded) k (h .known) .trie .deep);
+        deep = rw (q, seen-header h .family) (decode-at w S (h .decoded) k (h .known) .deep);
       }
 
   module _ {u : List ℕ} {n : ℕ} (s : Shrunk w u b (v .at) (trieAt S k) n) where

@@ -7,6 +7,7 @@ ghost use Rattle.change.specs.Calls.{Added, Removed, Reports};
 ghost use Rattle.change.specs.Simplified.{Simplifies};
 ghost use Rattle.combine.specs.Rules.{Merged, Intersected, Excluded, ExcludedApart};
 ghost use Rattle.setfile.specs.Loading.{Loaded};
+ghost use Rattle.change_many.specs.Calls.{spanWords, FileAdded, FileRemoved, RangeAdded};
 ghost use Rattle.calls_replies.specs.Replies.{oneReply, writeReply};
 ghost use Rattle.exports.specs.Exported.{Tells, ReadsLines};
 use calls_packed::packed;
@@ -121,6 +122,39 @@ pub extern "C" fn marlbrace_load(pool: &mut [u32], set: u32, file: &[u8]) -> u64
     ensures { λ r. ⌜ Tells (Loaded (now (pool .entry)) set (now (file .entry))) oneReply r (now (pool .exit)) ⌝ }
 {
     packed(of_answer(setfile::load(pool, set, file)))
+}
+
+// Adds the networks of a set file to a set, all or none.
+#[no_mangle]
+pub extern "C" fn marlbrace_add_file(pool: &mut [u32], set: u32, file: &[u8]) -> u64
+    ensures { λ r. ⌜ Tells (FileAdded (now (pool .entry)) set (now (file .entry))) oneReply r (now (pool .exit)) ⌝ }
+{
+    packed(of_answer(change_many::add_file(pool, set, file)))
+}
+
+// Removes the networks of a set file from a set, all or none.
+#[no_mangle]
+pub extern "C" fn marlbrace_remove_file(pool: &mut [u32], set: u32, file: &[u8]) -> u64
+    ensures { λ r. ⌜ Tells (FileRemoved (now (pool .entry)) set (now (file .entry))) oneReply r (now (pool .exit)) ⌝ }
+{
+    packed(of_answer(change_many::remove_file(pool, set, file)))
+}
+
+// Adds a range of addresses to a set: the fewest networks that have exactly these addresses, all or none.
+#[no_mangle]
+pub extern "C" fn marlbrace_add_range(
+    pool: &mut [u32],
+    set: u32,
+    family: u8,
+    first_hi: u64,
+    first_lo: u64,
+    last_hi: u64,
+    last_lo: u64,
+) -> u64
+    ensures { λ r. ⌜ Tells (RangeAdded (now (pool .entry)) set (spanWords family «first_hi» «first_lo» «last_hi» «last_lo»)) oneReply r (now (pool .exit)) ⌝ }
+{
+    let span = change_many::span_of(family, first_hi, first_lo, last_hi, last_lo);
+    packed(of_answer(change_many::add_range(pool, set, span)))
 }
 
 // Adds the networks of lines of text to set 0, up to the first line that is refused: the counts are the number of that line, or of the one behind the last, and how many lines

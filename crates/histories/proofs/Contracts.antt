@@ -8,7 +8,9 @@ use Rattle.change.specs.Calls.{Added, Removed, Reports}
 use Rattle.change.specs.Simplified.{Simplifies}
 use Rattle.combine.specs.Rules.{Merged, Intersected, Excluded, ExcludedApart}
 use Rattle.setfile.specs.Loading.{Loaded}
-use Rattle.histories.specs.Calls.{add, remove, simplify, merge, intersect, exclude, excludeApart, load, relist, replan, makePublic, Outcome}
+use Rattle.change_many.specs.Calls.{Poured, RangeAdded}
+use Rattle.change_many.specs.declared.Span.{Span}
+use Rattle.histories.specs.Calls.{add, remove, simplify, merge, intersect, exclude, excludeApart, load, pour, addRange, relist, replan, makePublic, Outcome}
 
 -- of add and remove, their number and nodes; the report is no part of a history
 module _ {w v : List ℕ} {r : ℕ × (ℕ × Bool)} (k : ℕ) (n : Net) where
@@ -36,6 +38,12 @@ module _ {w v : List ℕ} {r : ℕ × ℕ} (k : ℕ) where
 
   pub loaded : (d : List ℕ) → Loaded w k d r v → Outcome w (relist (load k d)) r v
   loaded d h = h
+
+  pub poured : (x : Bool) (d : List ℕ) → Poured x w k d r v → Outcome w (relist (pour x k d)) r v
+  poured x d h = h
+
+  pub rangeAdded : (s : Span) → RangeAdded w k s r v → Outcome w (relist (addRange k s)) r v
+  rangeAdded s h = h
 
   pub replanned : (x y : ℕ) → Replanned w k x y r v → Outcome w (replan k x y) r v
   replanned x y h = h

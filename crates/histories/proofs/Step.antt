@@ -1,6 +1,6 @@
 -- One call from a state: the number of its answer, and the state that it leaves. Three laws have a case for each call that relists: the refusals of its arguments stand in the table before those of the limit
--- and the room (rules-few), its result is a list (isList-resultOf), and where it names one set it depends on that set alone (call-same). Assumes nothing.
-use mathlib.Core.Path.{_≡_, refl, ap, _∙_}
+-- and the room (rules-other), its result is a list (isList-resultOf), and where it names one set it depends on that set alone (call-same). Assumes nothing.
+use mathlib.Core.Path.{_≡_, refl, ap, ap₂, _∙_}
 use mathlib.Core.Bool.{Bool, true, false, not, cond, _&&_}
 use mathlib.Core.List.{List, [], _∷_, _++_}
 use Prim.Native.Nat.{ℕ, _≤_, _<_}
@@ -14,7 +14,7 @@ use Rattle.nets.specs.Lists.{within, isList, mergeL, intersectL, differenceL, e
 use Rattle.nets.specs.Networks.{width, netBits}
 use Rattle.nets.specs.Refusals.{Rule, firstNo}
 use Rattle.nets.specs.declared.Net.{Net}
-use Rattle.nets.specs.declared.Refusal.the-variants.{OverLimit, NotPublic}
+use Rattle.nets.specs.declared.Refusal.the-variants.{NoSet, WrongFamily, BadNetwork, OverLimit, BadRange, NotPublic}
 use Rattle.nets.proofs.Strings.{and-left, and-right}
 use Rattle.nets.proofs.Refused.{Few, firstNo-append, firstNo-few}
 use Rattle.nets.proofs.TrieOf.{isList-within, isList-add}
@@ -36,9 +36,15 @@ use Rattle.combine.specs.Rules.{combineRules}
 use Rattle.replan.proofs.Outcomes.{plan-keeps, replan-lists}
 use Rattle.make_public.proofs.Outcomes.{mark-keeps, make-public-lists}
 use Rattle.setfile_format.specs.Files.{File, broken, file, readFile}
-use Rattle.setfile.specs.Loading.{loadRules}
+use Rattle.setfile.specs.Loading.{loadRules, fileList}
+use Rattle.ranges.specs.Blocks.{addRangeL}
+use Rattle.ranges.proofs.OfRanges.{isList-addRange}
+use Rattle.change_many.specs.Calls.{pouredL, fileRules, isSpan, rangeOf, spanRules}
+use Rattle.change_many.specs.declared.Span.{Span}
+use Rattle.change_many.proofs.Lists.{isList-poured}
+use Rattle.change_many.proofs.Outcomes.{isList-file}
 use Rattle.setfile.proofs.LoadOutcomes.{isList-load}
-use Rattle.histories.specs.Calls.{Relist, Call, add, remove, simplify, merge, intersect, exclude, excludeApart, load, relist, replan, makePublic, writes, target, namesOne, argsOf, argsNo, resultOf, rulesOf, nextOf, callNo, answerOf, stateAfter, Outcome}
+use Rattle.histories.specs.Calls.{Relist, Call, add, remove, simplify, merge, intersect, exclude, excludeApart, load, pour, addRange, relist, replan, makePublic, writes, target, namesOne, argsOf, argsNo, resultOf, rulesOf, nextOf, callNo, answerOf, stateAfter, Outcome}
 use Rattle.histories.specs.Histories.{SameAt}
 
 within-listAt : (S : State) (k : ℕ) → isState S ≡ true → within (width (S .family)) (listAt S k) ≡ true
@@ -58,15 +64,36 @@ unfolding loadRules
 load-few broken k S = (omega arith, tt)
 load-few (file f l) k S = (omega arith, (omega arith, tt))
 
-rules-few : (c : Relist) (S : State) → Few 9 (argsOf c S)
-rules-few (add k n) S = net-few n S
-rules-few (remove k n) S = net-few n S
-rules-few (simplify k) S = tt
-rules-few (merge to a b) S = combine-few to a b S
-rules-few (intersect to a b) S = combine-few to a b S
-rules-few (exclude to a b) S = combine-few to a b S
-rules-few (excludeApart to a b) S = combine-few to a b S
-rules-few (load k d) S = load-few (readFile d) k S
+file-few : (x : File) (S : State) → Few 9 (fileRules x S)
+unfolding fileRules
+file-few broken S = (omega arith, tt)
+file-few (file f l) S = (omega arith, tt)
+
+few-other : (a : List Rule) → Few 9 a → firstNo a ≡ 10 → ⊥
+few-other a f e = omega (arith, firstNo-few 9 a f)
+
+-- a range has 12 among its own, which is none of the room either
+span-other : (s : Span) (S : State) → firstNo (spanRules s S) ≡ 10 → ⊥
+unfolding spanRules
+span-other s S = go (not (eqb (s .family) (S .family))) (not (isSpan s)) (ltb (rangeOf s .last) (rangeOf s .first))
+  where
+    go : (x y z : Bool) → firstNo ((x, WrongFamily) ∷ (y, BadNetwork) ∷ (z, BadRange) ∷ []) ≡ 10 → ⊥
+    go true y z e = omega arith
+    go false true z e = omega arith
+    go false false true e = omega arith
+    go false false false e = omega arith
+
+rules-other : (c : Relist) (S : State) → argsNo c S ≡ 10 → ⊥
+rules-other (add k n) S = few-other (netRules n S) (net-few n S)
+rules-other (remove k n) S = few-other (netRules n S) (net-few n S)
+rules-other (simplify k) S = few-other [] tt
+rules-other (merge to a b) S = few-other (combineRules to a b S) (combine-few to a b S)
+rules-other (intersect to a b) S = few-other (combineRules to a b S) (combine-few to a b S)
+rules-other (exclude to a b) S = few-other (combineRules to a b S) (combine-few to a b S)
+rules-other (excludeApart to a b) S = few-other (combineRules to a b S) (combine-few to a b S)
+rules-other (load k d) S = few-other (loadRules (readFile d) k S) (load-few (readFile d) k S)
+rules-other (pour x k d) S = few-other (fileRules (readFile d) S) (file-few (readFile d) S)
+rules-other (addRange k s) S = span-other s S
 
 -- Its result.
 isList-resultOf : (c : Relist) (S : State) → isState S ≡ true → argsNo c S ≡ 0 → isList (width (S .family)) (resultOf c S) ≡ true
@@ -78,6 +105,8 @@ isList-resultOf (intersect to x y) S e a = isList-intersect (width (S .family)) 
 isList-resultOf (exclude to x y) S e a = isList-difference (width (S .family)) (listAt S x) (listAt S y) (isList-listAt S x e) (isList-listAt S y e)
 isList-resultOf (excludeApart to x y) S e a = isList-exclude (width (S .family)) (listAt S x) (listAt S y) (isList-listAt S x e) (isList-listAt S y e)
 isList-resultOf (load k d) S e a = isList-load d k S a
+isList-resultOf (pour x k d) S e a = isList-poured (width (S .family)) (listAt S k) (fileList (readFile d)) (isList-listAt S k e) (isList-file d S a) x
+isList-resultOf (addRange k s) S e a = isList-addRange (width (S .family)) (listAt S k) (rangeOf s) (isList-listAt S k e)
 
 -- Two states that agree on a set.
 pub sameAt-list : {k : ℕ} {S T : State} → SameAt k S T → listAt S k ≡ listAt T k
@@ -91,6 +120,15 @@ load-same : (x : File) (k : ℕ) (S T : State) → SameAt k S T → loadRules x 
 unfolding loadRules
 load-same broken k S T h = refl
 load-same (file f l) k S T h = rw (h .family, sameAt-list h)
+
+file-same : (x : File) (k : ℕ) (S T : State) → SameAt k S T → fileRules x S ≡ fileRules x T
+unfolding fileRules
+file-same broken k S T h = refl
+file-same (file f l) k S T h = rw (h .family)
+
+span-same : (s : Span) (k : ℕ) (S T : State) → SameAt k S T → spanRules s S ≡ spanRules s T
+unfolding spanRules
+span-same s k S T h = rw (h .family)
 
 combine-same : (L : List Bits → List Bits → List Bits) (to a b : ℕ) (S T : State) → (eqb a to && eqb b to) ≡ true → SameAt to S T
     → (combineRules to a b S ≡ combineRules to a b T) × (L (listAt S a) (listAt S b) ≡ L (listAt T a) (listAt T b))
@@ -109,6 +147,8 @@ call-same (intersect to a b) S T e h = combine-same intersectL to a b S T e h
 call-same (exclude to a b) S T e h = combine-same differenceL to a b S T e h
 call-same (excludeApart to a b) S T e h = combine-same excludeL to a b S T e h
 call-same (load k d) S T e h = (load-same (readFile d) k S T h, refl)
+call-same (pour x k d) S T e h = (file-same (readFile d) k S T h, ap (λ l. pouredL x l (fileList (readFile d))) (sameAt-list h))
+call-same (addRange k s) S T e h = (span-same s k S T h, ap₂ (λ f l. addRangeL (width f) l (rangeOf s)) (h .family) (sameAt-list h))
 
 -- A result within the share is judged by the mark and the limit of its set alone.
 abbrev pub ownRules : State → ℕ → List Bits → List Rule
@@ -133,12 +173,16 @@ own-never true q e = omega arith
 own-never false true e = omega arith
 own-never false false e = omega arith
 
-few-never : (a b : List Rule) → Few 9 a → (firstNo b ≡ 10 → ⊥) → firstNo (a ++ b) ≡ 10 → ⊥
-few-never a b f g e = go (eqb (firstNo a) 0) (rw (firstNo-append a b) at e)
+args-never : (a b : List Rule) → (firstNo a ≡ 10 → ⊥) → (firstNo b ≡ 10 → ⊥) → firstNo (a ++ b) ≡ 10 → ⊥
+args-never a b f g e = go (eqb (firstNo a) 0) (rw (firstNo-append a b) at e)
   where
     go : (y : Bool) → cond y (firstNo b) (firstNo a) ≡ 10 → ⊥
     go true q = g q
-    go false q = omega (arith, firstNo-few 9 a f)
+    go false q = f q
+
+set-never : (x : Bool) (a : List Rule) → (firstNo a ≡ 10 → ⊥) → firstNo ((x, NoSet) ∷ a) ≡ 10 → ⊥
+set-never true a f e = omega arith
+set-never false a f e = f e
 
 -- The number of the answer of a call that relists, and what becomes of the set.
 module _ (S : State) (c : Relist) where
@@ -154,7 +198,7 @@ module _ (S : State) (c : Relist) where
   callNo-share e le q =
       let k = writes c in
       let l = resultOf c S in
-      few-never (unknown S k ∷ argsOf c S) (ownRules S k l) (omega arith, rules-few c S)
+      args-never (unknown S k ∷ argsOf c S) (ownRules S k l) (set-never (leb (length (S .sets)) k) (argsOf c S) (rules-other c S))
       (own-never (not (admits (S .family) (setAt S k) l)) (ltb (setAt S k .limit) (heldL l)))
       (rw (callNo-is, relistNo-share S k (argsOf c S) l e (λ z. le)) at q)
 

@@ -16,7 +16,7 @@ use Prim.Native.Nat.{ℕ}
 use lib.Dec.{eqb}
 use Rattle.nets.specs.Bits.{Bits}
 use Rattle.nets.specs.Lists.{addL, removeL, simplifyL, mergeL, intersectL, differenceL, excludeL}
-use Rattle.nets.specs.Networks.{netBits}
+use Rattle.nets.specs.Networks.{width, netBits}
 use Rattle.nets.specs.Refusals.{answered, Rule, firstNo}
 use Rattle.nets.specs.declared.Net.{Net}
 use Rattle.pool_state.specs.States.{SetState, State, held}
@@ -24,13 +24,18 @@ use Rattle.pool_state.specs.Changes.{setAt, listAt, withSet, changeNo, Changed,
 use Rattle.combine.specs.Rules.{combineRules}
 use Rattle.setfile_format.specs.Files.{readFile}
 use Rattle.setfile.specs.Loading.{loadRules, fileList}
+use Rattle.ranges.specs.Blocks.{addRangeL}
+use Rattle.change_many.specs.Calls.{pouredL, fileRules, rangeOf, spanRules}
+use Rattle.change_many.specs.declared.Span.{Span}
 
--- a set and a network; a set; the set to write and the two to read; a set and the bytes of a file
+-- a set and a network; a set; the set to write and the two to read; a set and the bytes of a file; the same, into the set or out of it; a set and a range
 pub data Relist : Type 0 where
   add remove : ℕ → Net → Relist
   simplify : ℕ → Relist
   merge intersect exclude excludeApart : ℕ → ℕ → ℕ → Relist
   load : ℕ → List ℕ → Relist
+  pour : Bool → ℕ → List ℕ → Relist
+  addRange : ℕ → Span → Relist
 
 -- such a call; or a set, and the share and the limit that it is given; or a set that is made public-only
 pub data Call : Type 0 where
@@ -47,6 +52,8 @@ writes (intersect to a b) = to
 writes (exclude to a b) = to
 writes (excludeApart to a b) = to
 writes (load k d) = k
+writes (pour x k d) = k
+writes (addRange k s) = k
 
 abbrev pub namesOne : Relist → Bool
 namesOne (add k n) = true
@@ -57,6 +64,8 @@ namesOne (intersect to a b) = eqb a to && eqb b to
 namesOne (exclude to a b) = eqb a to && eqb b to
 namesOne (excludeApart to a b) = eqb a to && eqb b to
 namesOne (load k d) = true
+namesOne (pour x k d) = true
+namesOne (addRange k s) = true
 
 abbrev pub argsOf : Relist → State → List Rule
 argsOf (add k n) = netRules n
@@ -67,6 +76,8 @@ argsOf (intersect to a b) = combineRules to a b
 argsOf (exclude to a b) = combineRules to a b
 argsOf (excludeApart to a b) = combineRules to a b
 argsOf (load k d) = loadRules (readFile d) k
+argsOf (pour x k d) = fileRules (readFile d)
+argsOf (addRange k s) = spanRules s
 
 abbrev pub argsNo : Relist → State → ℕ
 argsNo c S = firstNo (argsOf c S)
@@ -80,6 +91,8 @@ resultOf (intersect to a b) = λ S. intersectL (listAt S a) (listAt S b)
 resultOf (exclude to a b) = λ S. differenceL (listAt S a) (listAt S b)
 resultOf (excludeApart to a b) = λ S. excludeL (listAt S a) (listAt S b)
 resultOf (load k d) = λ S. fileList (readFile d)
+resultOf (pour x k d) = λ S. pouredL x (listAt S k) (fileList (readFile d))
+resultOf (addRange k s) = λ S. addRangeL (width (S .family)) (listAt S k) (rangeOf s)
 
 abbrev pub target : Call → ℕ
 target (relist c) = writes c

@@ -16,7 +16,7 @@ use Rattle.nets.specs.Tries.{Trie, glue}
 use Rattle.nets.specs.TrieOps.{Kind, flat, mixed, kindOf}
 use Rattle.nets.specs.Networks.{width}
 use Rattle.nodes.specs.Words.{put}
-use Rattle.trie_emit.specs.Answers.{written}
+use Rattle.trie_emit.specs.Answers.{bodyOf}
 use Rattle.trie_paths.specs.Spans.{snoc}
 use Rattle.branch_points.specs.KeptTries.{keptSize}
 use Rattle.kept_nodes.specs.Words.{nodeWords, ownWords, keptEnc, spot}
@@ -32,7 +32,7 @@ unfoldable pub answer : Trie → Emitted
 answer t = said (kindOf t) (keptSize t)
 
 unfoldable pub body : ℕ → Bits → Trie → List ℕ
-body f p t = written (kindOf t) (keptEnc f p t)
+body f p t = bodyOf (kindOf t) (keptEnc f p t)
 
 pub record Emits (f : ℕ) (w v : List ℕ) (b : ℕ) (p : Bits) (e : ℕ) (x : Emitted) (t : Trie) : Type 0 where
   pub answers : x ≡ answer t

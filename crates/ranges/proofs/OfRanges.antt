@@ -82,7 +82,7 @@ coversT-one (node l r) (node m s) e = go (bare l r) refl (sym (e [])) (coversT-o
     go true f g i j = let h = bare-none l r f in let k = bare-none m s (g ∙ f) in rw (h .0, h .1, k .0, k .1)
     go false f g i j = ap₂ node (i (inner false f (g ∙ f))) (j (inner true f (g ∙ f)))
 
-covers-one : (w : ℕ) (l m : List Bits) → isList w l ≡ true → isList w m ≡ true → ((a : Bits) → covers l a ≡ covers m a) → l ≡ m
+pub covers-one : (w : ℕ) (l m : List Bits) → isList w l ≡ true → isList w m ≡ true → ((a : Bits) → covers l a ≡ covers m a) → l ≡ m
 covers-one w l m i j e =
     let (t, f, _) = isList-is w l i in
     let (u, g, _) = isList-is w m j in

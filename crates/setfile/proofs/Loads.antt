@@ -40,11 +40,11 @@ never : {A : Type 0} → _≡_ {A = ℕ} 0 1 → A
 never e = absurd (omega arith)
 
 -- What `check` says of the file.
-checked-broken : (x : File) → checkedOf x ≡ checked.Broken → x ≡ broken
+pub checked-broken : (x : File) → checkedOf x ≡ checked.Broken → x ≡ broken
 checked-broken broken e = refl
 checked-broken (file f l) e = never cc
 
-checked-file : (x : File) (f n : ℕ) → checkedOf x ≡ checked.File f n → (l : List Bits) × (x ≡ file f l) × (n ≡ heldL l)
+pub checked-file : (x : File) (f n : ℕ) → checkedOf x ≡ checked.File f n → (l : List Bits) × (x ≡ file f l) × (n ≡ heldL l)
 checked-file broken f n e = never cc
 checked-file (file g l) f n e = let p : g ≡ f = cc in let q : n ≡ nodesL l = cc in (l, ap (λ h. file h l) p, q ∙ sym (heldL-is l))
 

@@ -33,7 +33,7 @@ readFile-fileAt w S d k lt =
     let v = S .family in
     readFile-fileOf (S .family) (listAt S k) (isState-family S (decode-state w S d)) (isSet-list v (setAt S k) e) (decode-few w S d k lt (set-listOf v (setAt S k) e))
 
-take-put : (v xs : List ℕ) → length xs ≤ length v → take (length xs) (put v 0 xs) ≡ xs
+pub take-put : (v xs : List ℕ) → length xs ≤ length v → take (length xs) (put v 0 xs) ≡ xs
 unfolding put
 take-put [] [] h = refl
 take-put [] (x ∷ xs) h = absurd (omega arith)

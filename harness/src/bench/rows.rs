@@ -5,7 +5,7 @@ use crate::exports as call;
 use crate::files::file;
 use crate::lists::{meets_inner, List, Member};
 use crate::model::net;
-use crate::oracle::{ranges, Numbers};
+use crate::oracle::{self, Numbers};
 use crate::wire::{Net, EXCLUDE, EXCLUDE_APART, INTERSECT, MERGE};
 use ipnet::{Ipv4Net, Ipv6Net};
 use iprange::IpRange;
@@ -46,9 +46,12 @@ pub const ROWS: &[Row] = rows! {
     contains_all_miss, "contains_all, miss / contains", "lookup", One;
     supernet, "supernet / supernet", "lookup", One;
     list, "list / iterate", "network", One;
+    ranges, "ranges", "network", One;
     walk, "nth: a walk of 1,000 steps / iterate", "network", One;
     load, "load / collect", "network", One;
     save, "save", "network", One;
+    add_file, "add_file of half a table to the rest / add", "network of the file", One;
+    remove_file, "remove_file of half a table / remove", "network of the file", One;
     simplify, "simplify / simplify", "network", One;
     merge, "merge / merge", "network of both", Two;
     intersect, "intersect / intersect", "network of both", Two;
@@ -124,6 +127,11 @@ fn list<N: Numbers + Clone>(c: &Case<N>) -> Took {
     c.beside(n, || seconds(|| assert_eq!(call::list(&c.words, 0, &mut rows), n as u64)), theirs)
 }
 
+fn ranges<N: Numbers + Clone>(c: &Case<N>) -> Took {
+    let mut rows = vec![0u64; 4 * c.list.len()];
+    c.alone(c.list.len(), || seconds(|| granted(call::ranges(&c.words, 0, &mut rows))))
+}
+
 /// The networks that a walk passes: all of a large table would take minutes.
 const STEPS: usize = 1000;
 
@@ -148,6 +156,43 @@ fn load<N: Numbers + Clone>(c: &Case<N>) -> Took {
 fn save<N: Numbers + Clone>(c: &Case<N>) -> Took {
     let mut out = vec![0u8; file(c.family, &c.list).len()];
     c.alone(c.list.len(), || seconds(|| assert_eq!(call::save(&c.words, 0, &mut out), out.len() as u64)))
+}
+
+/// Every other network of a table, and the rest.
+fn halves(l: &List) -> [List; 2] {
+    [0, 1].map(|k| l.iter().copied().skip(k).step_by(2).collect())
+}
+
+fn add_file<N: Numbers + Clone>(c: &Case<N>) -> Took {
+    let [half, rest] = halves(&c.list);
+    let (f, nets) = (file(c.family, &half), half.iter().map(|&m| N::of(m)).collect::<Vec<N>>());
+    let (pool, range) = (Pool::of(c.family, &[&rest], false), oracle::ranges::<N>(&rest));
+    let mut w = pool.words();
+    let ours = || {
+        pool.again(&mut w);
+        seconds(|| assert_eq!(call::add_file(&mut w, 0, &f), c.pool.nodes() as u64))
+    };
+    let theirs = || {
+        let mut r = range.clone();
+        seconds(|| nets.iter().cloned().for_each(|n| _ = r.add(n)))
+    };
+    Took { nodes: pool.nodes(), ..c.beside(nets.len(), ours, theirs) }
+}
+
+fn remove_file<N: Numbers + Clone>(c: &Case<N>) -> Took {
+    let [half, rest] = halves(&c.list);
+    let (f, nets) = (file(c.family, &half), half.iter().map(|&m| N::of(m)).collect::<Vec<N>>());
+    let left = Pool::of(c.family, &[&rest], false).nodes();
+    let mut w = c.pool.words();
+    let ours = || {
+        c.pool.again(&mut w);
+        seconds(|| assert_eq!(call::remove_file(&mut w, 0, &f), left as u64))
+    };
+    let theirs = || {
+        let mut r = c.range.clone();
+        seconds(|| nets.iter().cloned().for_each(|n| _ = r.remove(n)))
+    };
+    c.beside(nets.len(), ours, theirs)
 }
 
 fn simplify<N: Numbers + Clone>(c: &Case<N>) -> Took {
@@ -204,7 +249,7 @@ fn copy<N: Numbers + Clone>(c: &Case<N>) -> Took {
 fn equal<N: Numbers + Clone>(c: &Case<N>) -> Took {
     let pool = Pool::of(c.family, &[&c.list, &c.list], false);
     // built as the other is, network by network
-    let (w, same) = (pool.words(), ranges::<N>(&c.list));
+    let (w, same) = (pool.words(), oracle::ranges::<N>(&c.list));
     let theirs = || seconds(|| assert!(black_box(&c.range) == black_box(&same)));
     Took { nodes: pool.nodes(), ..c.beside(c.list.len(), || seconds(|| assert_eq!(call::equal(&w, 0, 1) >> 48, 1)), theirs) }
 }

@@ -1,0 +1,5 @@
+-- Why: what pouring leaves, said of lists; then the calls.
+pub mod Lists
+pub mod Asked
+pub mod Poured
+pub mod Outcomes

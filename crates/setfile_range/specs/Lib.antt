@@ -1,0 +1,2 @@
+-- What writing the file of a range asks and leaves.
+pub mod Edges
