@@ -3,7 +3,7 @@ use crate::net::Row;
 use crate::{ffi, IpNet, Refusal};
 
 /// The most networks that a set can have: a list of m networks has at least 2m - 1 nodes, and a pool at most 4,194,304. A file has room for twice as many, so
-/// for a set's networks and as many others.
+/// for those that are left of the ones before and as many others.
 const MOST: usize = 2_097_152;
 
 const HEADER: usize = 16;

@@ -35,11 +35,21 @@ extern "C" {
     fn marlbrace_remove_file(pool: *mut u32, pool_len: usize, set: u32, file: *const u8, file_len: usize) -> u64;
     fn marlbrace_add_range(pool: *mut u32, pool_len: usize, set: u32, family: u8, first_hi: u64, first_lo: u64, last_hi: u64, last_lo: u64) -> u64;
     fn marlbrace_contains(pool: *const u32, pool_len: usize, set: u32, family: u8, hi: u64, lo: u64, len: u8) -> u64;
-    fn marlbrace_contains_all(pool: *const u32, pool_len: usize, set: u32, family: u8, queries: *const u64, queries_len: usize, answers: *mut u64, answers_len: usize) -> u64;
+    fn marlbrace_contains_all(
+        pool: *const u32,
+        pool_len: usize,
+        set: u32,
+        family: u8,
+        queries: *const u64,
+        queries_len: usize,
+        answers: *mut u64,
+        answers_len: usize,
+    ) -> u64;
     fn marlbrace_supernet(pool: *const u32, pool_len: usize, set: u32, family: u8, hi: u64, lo: u64, len: u8, row: *mut [u64; 3]) -> u64;
     fn marlbrace_is_empty(pool: *const u32, pool_len: usize, set: u32) -> u64;
     fn marlbrace_equal(pool: *const u32, pool_len: usize, first: u32, second: u32) -> u64;
     fn marlbrace_list(pool: *const u32, pool_len: usize, set: u32, rows: *mut u64, rows_len: usize) -> u64;
+    fn marlbrace_ranges(pool: *const u32, pool_len: usize, set: u32, rows: *mut u64, rows_len: usize) -> u64;
     fn marlbrace_save(pool: *const u32, pool_len: usize, set: u32, out: *mut u8, out_len: usize) -> u64;
     fn marlbrace_salvage(file: *const u8, file_len: usize, out: *mut u8, out_len: usize, counts: *mut [u64; 4]) -> u64;
     fn marlbrace_read_line_either(line: *const u8, line_len: usize, row: *mut [u64; 3]) -> u64;
@@ -168,6 +178,14 @@ pub(crate) fn list(pool: &[u32], set: u32) -> Result<Vec<IpNet>, Refusal> {
     let mut rows = vec![0u64; 3 * networks(pool, set)?.value() as usize];
     granted(unsafe { marlbrace_list(pool.as_ptr(), pool.len(), set, rows.as_mut_ptr(), rows.len()) })?;
     Ok(rows.chunks_exact(3).map(|row| row_of(family(pool), row).net()).collect())
+}
+
+/// The first and the last address of each range of a set, which has no more of them than networks.
+pub(crate) fn ranges(pool: &[u32], set: u32) -> Result<Vec<(Row, Row)>, Refusal> {
+    let mut rows = vec![0u64; 4 * networks(pool, set)?.value() as usize];
+    let a = granted(unsafe { marlbrace_ranges(pool.as_ptr(), pool.len(), set, rows.as_mut_ptr(), rows.len()) })?;
+    let end = |row: &[u64]| Row { family: family(pool), hi: row[0], lo: row[1], len: 0 };
+    Ok(rows.chunks_exact(4).take(a.value() as usize).map(|row| (end(row), end(&row[2..]))).collect())
 }
 
 /// The family of a pool, a word of its header (docs/LAYOUT.md).

@@ -76,6 +76,26 @@ impl IpNet {
         ffi::read_line(line).map(|(row, trimmed)| (row.net(), trimmed))
     }
 
+    /// The first and the last address of a line as `10.0.0.1-10.0.0.6`, without its end. Refused BadText where there are no two addresses, WrongFamily where
+    /// they are of two families, and BadRange where the first is above the last.
+    ///
+    /// ```
+    /// # use marlbrace::{IpNet, Refusal};
+    /// assert_eq!(IpNet::read_range(b"10.0.0.1-10.0.0.6"), Ok(([10, 0, 0, 1].into(), [10, 0, 0, 6].into())));
+    /// assert_eq!(IpNet::read_range(b"10.0.0.6-10.0.0.1"), Err(Refusal::BadRange));
+    /// ```
+    pub fn read_range(line: &[u8]) -> Result<(IpAddr, IpAddr), Refusal> {
+        let at = line.iter().position(|&byte| byte == b'-').ok_or(Refusal::BadText)?;
+        let (first, last) = (address(&line[..at])?, address(&line[at + 1..])?);
+        if first.is_ipv4() != last.is_ipv4() {
+            Err(Refusal::WrongFamily)
+        } else if first > last {
+            Err(Refusal::BadRange)
+        } else {
+            Ok((first, last))
+        }
+    }
+
     /// Its line, without an end, in front of the bytes that are lent; [`LINE`] are enough for any.
     pub fn write_line(self, out: &mut [u8]) -> Result<&[u8], Refusal> {
         let written = ffi::write_line(&self.row(), out)?;
@@ -85,6 +105,12 @@ impl IpNet {
     pub(crate) fn row(self) -> Row {
         Row::of(self.addr, self.prefix_len)
     }
+}
+
+/// The address of a text, read as the network of it alone.
+fn address(text: &[u8]) -> Result<IpAddr, Refusal> {
+    let len: &[u8] = if text.contains(&b':') { b"/128" } else { b"/32" };
+    IpNet::read_line(&[text, len].concat()).map(|(net, _)| net.addr())
 }
 
 /// A network as the calls have it.

@@ -1,4 +1,5 @@
 use crate::{ffi, IpNet, Refusal};
+use std::net::IpAddr;
 
 /// The share and the limit of a set, in nodes: what it is sure of, and what it may not pass.
 #[derive(Clone, Copy, Debug, PartialEq, Eq)]
@@ -162,6 +163,21 @@ impl<'a> Set<'a> {
         Ok(ffi::list(self.words, self.number)?.into_iter())
     }
 
+    /// The fewest ranges of its addresses, each as first and last address: ascending, and no two of them meet or touch.
+    ///
+    /// ```
+    /// # fn main() -> Result<(), Box<dyn std::error::Error>> {
+    /// let mut pool = marlbrace::Pool::new(4, 100, &[marlbrace::Plan::new(100, 100)])?;
+    /// pool.set_mut(0).add_range("10.0.0.1".parse()?, "10.0.0.6".parse()?)?;
+    /// assert_eq!(pool.set(0).len()?, 4); // 10.0.0.2/31, 10.0.0.4/31, 10.0.0.1/32, 10.0.0.6/32
+    /// assert_eq!(pool.set(0).ranges()?, [("10.0.0.1".parse()?, "10.0.0.6".parse()?)]);
+    /// # Ok(())
+    /// # }
+    /// ```
+    pub fn ranges(&self) -> Result<Vec<(IpAddr, IpAddr)>, Refusal> {
+        Ok(ffi::ranges(self.words, self.number)?.iter().map(|(first, last)| (first.net().addr(), last.net().addr())).collect())
+    }
+
     /// Its set file.
     pub fn to_vec(&self) -> Result<Vec<u8>, Refusal> {
         ffi::save(self.words, self.number)
@@ -224,8 +240,9 @@ impl SetMut<'_> {
         ffi::remove_file(self.words, self.number, file).map(|a| a.value())
     }
 
-    /// Adds the addresses from the first to the last: the fewest networks that have exactly these, all or none.
-    pub fn add_range(&mut self, first: std::net::IpAddr, last: std::net::IpAddr) -> Result<u32, Refusal> {
+    /// Adds the addresses from the first to the last: the fewest networks that have exactly these, as one change. Refused BadRange where the first is above the
+    /// last.
+    pub fn add_range(&mut self, first: IpAddr, last: IpAddr) -> Result<u32, Refusal> {
         let (first, last) = (IpNet::from(first).row(), IpNet::from(last).row());
         if first.family != last.family {
             return Err(Refusal::WrongFamily);

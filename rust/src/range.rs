@@ -1,5 +1,6 @@
 use crate::{entries, IpNet, Plan, Pool, Refusal};
 use std::fmt;
+use std::net::IpAddr;
 
 /// The most nodes that a pool has; few for the tests of this file, so that sets soon have to be combined in parts.
 const MOST: u32 = if cfg!(test) { 4096 } else { 4_194_304 };
@@ -45,7 +46,33 @@ impl IpRange {
         if net.family() != self.family() && self.is_empty() {
             self.pool = one_set(net.family(), FEW)?;
         }
-        self.change(|pool| pool.set_mut(0).add(net))
+        self.change(0, |pool| pool.set_mut(0).add(net))
+    }
+
+    /// Adds the addresses from the first to the last: the fewest networks that have exactly these.
+    ///
+    /// ```
+    /// # use marlbrace::{IpRange, Refusal};
+    /// # fn main() -> Result<(), Box<dyn std::error::Error>> {
+    /// let mut set = IpRange::new();
+    /// set.add_range("10.0.0.0".parse()?, "10.0.2.255".parse()?)?;
+    /// set.add("10.0.3.0/24".parse()?)?;
+    /// let lines: Vec<String> = set.iter().map(|net| net.to_string()).collect();
+    /// assert_eq!(lines, ["10.0.0.0/23", "10.0.2.0/24", "10.0.3.0/24"]);
+    /// assert_eq!(set.ranges(), [("10.0.0.0".parse()?, "10.0.3.255".parse()?)]);
+    /// assert_eq!(set.add_range("10.0.0.2".parse()?, "10.0.0.1".parse()?), Err(Refusal::BadRange));
+    /// # Ok(())
+    /// # }
+    /// ```
+    pub fn add_range(&mut self, first: IpAddr, last: IpAddr) -> Result<(), Refusal> {
+        let family = IpNet::from(first).family();
+        if family == self.family() || !self.is_empty() {
+            return self.change(0, |pool| pool.set_mut(0).add_range(first, last));
+        }
+        let mut other = IpRange { pool: one_set(family, FEW)? };
+        other.add_range(first, last)?;
+        *self = other;
+        Ok(())
     }
 
     /// Removes a network: the members inside it go, and one that contains it gives way to the blocks beside it.
@@ -64,7 +91,7 @@ impl IpRange {
         if net.family() != self.family() && self.is_empty() {
             return Ok(());
         }
-        self.change(|pool| pool.set_mut(0).remove(net))
+        self.change(0, |pool| pool.set_mut(0).remove(net))
     }
 
     /// Joins the halves of each block: afterwards the set has the shortest list of the same addresses.
@@ -113,6 +140,11 @@ impl IpRange {
         self.pool.set(0).iter().expect(SOUND)
     }
 
+    /// The fewest ranges of its addresses, each as first and last address: ascending, and no two of them meet or touch.
+    pub fn ranges(&self) -> Vec<(IpAddr, IpAddr)> {
+        self.pool.set(0).ranges().expect(SOUND)
+    }
+
     pub fn is_empty(&self) -> bool {
         self.pool.set(0).is_empty().expect(SOUND)
     }
@@ -159,17 +191,21 @@ impl IpRange {
     pub fn try_extend(&mut self, nets: impl IntoIterator<Item = IpNet>) -> Result<(), Refusal> {
         let mut nets = nets.into_iter().peekable();
         let Some(first) = nets.peek() else { return Ok(()) };
-        let file = if self.is_empty() { entries::none(first.family()) } else { self.to_vec() };
-        *self = IpRange::from_bytes(&entries::with_others(file, nets)?)?;
-        Ok(())
+        let family = if self.is_empty() { first.family() } else { self.family() };
+        let file = entries::with_others(entries::none(family), nets)?;
+        if self.is_empty() {
+            *self = IpRange::from_bytes(&file)?;
+            return Ok(());
+        }
+        self.change(usual_nodes(family, entries::count(family, &file)), |pool| pool.set_mut(0).add_file(&file))
     }
 
-    /// Does a change, in a larger pool where it is refused for its nodes.
-    fn change(&mut self, call: impl Fn(&mut Pool) -> Result<u32, Refusal>) -> Result<(), Refusal> {
+    /// Does a change, in a larger pool where it is refused for its nodes: with twice as many, or as many more as are asked for.
+    fn change(&mut self, more: u64, call: impl Fn(&mut Pool) -> Result<u32, Refusal>) -> Result<(), Refusal> {
         match call(&mut self.pool) {
             Err(Refusal::OverLimit) => {
                 let (family, file) = (self.family(), self.to_vec());
-                self.pool = with_room(2 * self.nodes() as u64, |nodes| {
+                self.pool = with_room(self.nodes() as u64 + more.max(self.nodes() as u64), |nodes| {
                     let mut pool = one_set(family, nodes)?;
                     pool.set_mut(0).from_bytes(&file)?;
                     call(&mut pool)?;

@@ -119,6 +119,43 @@ fn an_empty_set_takes_either_family() -> Done {
     Ok(())
 }
 
+/// Each range alone, and again from what is left of a set that is simplified.
+#[test]
+fn ranges_cover_the_addresses() -> Done {
+    let mut random = Random(3);
+    for _ in 0..50 {
+        let (mut set, mut expected) = (IpRange::new(), BTreeSet::new());
+        for _ in 0..6 {
+            let (a, b) = (random.next() as u32 & 255, random.next() as u32 & 255);
+            set.add_range(Ipv4Addr::from(a.min(b)).into(), Ipv4Addr::from(a.max(b)).into())?;
+            expected.extend(a.min(b)..=a.max(b));
+        }
+        set.simplify();
+        assert_eq!(addresses(&set), expected);
+        let mut again = IpRange::new();
+        for (first, last) in set.ranges() {
+            again.add_range(first, last)?;
+        }
+        assert_eq!((again.ranges(), again.iter().collect::<IpRange>()), (set.ranges(), set));
+    }
+    Ok(())
+}
+
+#[test]
+fn a_range_has_either_family_and_makes_it_grow() -> Done {
+    let (first, last) = (Ipv6Addr::from(1), Ipv6Addr::from(u128::MAX - 1));
+    let mut set = IpRange::new();
+    assert_eq!(set.add_range(last.into(), first.into()), Err(Refusal::BadRange));
+    assert_eq!((set.family(), set.is_empty()), (4, true));
+    set.add_range(first.into(), last.into())?;
+    assert_eq!((set.family(), set.len(), set.ranges()), (6, 254, vec![(first.into(), last.into())]));
+    assert_eq!(set.add_range(Ipv4Addr::LOCALHOST.into(), Ipv4Addr::LOCALHOST.into()), Err(Refusal::WrongFamily));
+    let mut four = IpRange::new();
+    four.add_range(Ipv4Addr::from(1).into(), Ipv4Addr::from(u32::MAX - 1).into())?;
+    assert_eq!(four.len(), 62);
+    Ok(())
+}
+
 #[test]
 fn it_is_walked_like_any_collection() {
     let set: IpRange = ["10.0.0.0/8", "10.1.0.0/16", "9.0.0.0/8"].into_iter().map(net).collect();

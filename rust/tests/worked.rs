@@ -1,6 +1,6 @@
 //! The worked networks of the scope document, and every refusal that the crate can be given. Expected values are the document's.
 use marlbrace::{IpNet, IpRange, Plan, Pool, Refusal, LINE};
-use std::net::{Ipv4Addr, Ipv6Addr};
+use std::net::{IpAddr, Ipv4Addr, Ipv6Addr};
 
 type Done = Result<(), Refusal>;
 
@@ -171,7 +171,8 @@ fn lines_are_read_and_written() -> Done {
 #[test]
 fn many_queries_in_one_call() -> Done {
     let pool = pool_of(&["192.168.0.0/24", "192.168.1.0/24", "10.0.0.0/8"]);
-    let asked = ["10.0.0.0/8", "10.255.0.1/32", "11.0.0.0/8", "192.168.0.0/23", "192.168.1.0/24", "192.168.2.0/24", "0.0.0.0/0", "192.168.0.255/32", "10.0.0.0/7"];
+    let asked =
+        ["10.0.0.0/8", "10.255.0.1/32", "11.0.0.0/8", "192.168.0.0/23", "192.168.1.0/24", "192.168.2.0/24", "0.0.0.0/0", "192.168.0.255/32", "10.0.0.0/7"];
     let yes = [true, true, false, false, true, false, false, true, false];
     for n in 0..=asked.len() {
         assert_eq!(pool.set(0).contains_all(&nets(&asked[..n]))?, yes[..n]);
@@ -180,4 +181,64 @@ fn many_queries_in_one_call() -> Done {
     assert_eq!(pool.set(3).contains_all(&[]), Err(Refusal::NoSet));
     assert_eq!(pool.set(0).contains_all(&nets(&["10.0.0.0/8", "::1/128"])), Err(Refusal::WrongFamily));
     Ok(())
+}
+
+/// Judged by the final list, and counted by hand: 10.0.0.0/8 beside the halves would take 34 nodes, but 192.168.0.0/16 takes the halves' place. One block less
+/// would leave two others, and two less leave one.
+#[test]
+fn files_are_added_and_removed_as_one_change() -> Done {
+    let file = |lines: &[&str]| {
+        let mut set = IpRange::new();
+        set.extend(nets(lines));
+        set.to_vec()
+    };
+    let mut pool = pool_of(&HALVES);
+    pool.set_mut(0).replan(Plan::new(26, 27))?;
+    assert_eq!(pool.set_mut(0).add(net("10.0.0.0/8")), Err(Refusal::OverLimit));
+    assert_eq!(pool.set_mut(0).add_file(&file(&["10.0.0.0/8", "192.168.0.0/16"])), Ok(25));
+    assert_eq!(list(&pool, 0), nets(&["10.0.0.0/8", "192.168.0.0/16"]));
+    assert_eq!(pool.set_mut(0).remove(net("192.168.128.0/18")), Err(Refusal::OverLimit));
+    assert_eq!(pool.set_mut(0).remove_file(&file(&["192.168.0.0/17", "192.168.128.0/18"])), Ok(27));
+    assert_eq!(list(&pool, 0), nets(&["10.0.0.0/8", "192.168.192.0/18"]));
+    let before = pool.clone().into_words();
+    assert_eq!(pool.set_mut(0).add_file(&file(&["11.0.0.0/8"])[1..]), Err(Refusal::BadFile));
+    assert_eq!(pool.set_mut(0).remove_file(&file(&["2001:db8::/32"])), Err(Refusal::WrongFamily));
+    assert_eq!(pool.set_mut(3).add_file(&file(&["11.0.0.0/8"])), Err(Refusal::NoSet));
+    assert_eq!(pool.set_mut(0).add_file(&file(&["11.0.0.0/8", "12.0.0.0/8"])), Err(Refusal::OverLimit));
+    assert_eq!(pool.into_words(), before);
+    Ok(())
+}
+
+/// The nodes by hand: 30 down to 10.0.0.0/29, then 2, 4 and 2.
+#[test]
+fn ranges_in_and_out() -> Done {
+    let address = |text: &str| -> IpAddr { text.parse().unwrap() };
+    let mut pool = pool_of(&[]);
+    assert_eq!(pool.set_mut(0).add_range(address("10.0.0.1"), address("10.0.0.6")), Ok(38));
+    assert_eq!(list(&pool, 0), nets(&["10.0.0.2/31", "10.0.0.4/31", "10.0.0.1/32", "10.0.0.6/32"]));
+    assert_eq!(pool.set_mut(0).add_range(address("10.0.0.6"), address("10.0.0.5")), Err(Refusal::BadRange));
+    assert_eq!(pool.set_mut(0).add_range(address("10.0.0.6"), address("::1")), Err(Refusal::WrongFamily));
+    assert_eq!(pool.set_mut(0).add_range(address("::1"), address("::1")), Err(Refusal::WrongFamily));
+    assert_eq!(pool.set_mut(3).add_range(address("1.1.1.1"), address("1.1.1.1")), Err(Refusal::NoSet));
+    // the last address of all is not beside the first
+    let (first, last) = (address("0.0.0.0"), address("255.255.255.255"));
+    pool.set_mut(0).add_range(last, last)?;
+    pool.set_mut(0).add_range(first, first)?;
+    assert_eq!(pool.set(0).ranges()?, [(first, first), (address("10.0.0.1"), address("10.0.0.6")), (last, last)]);
+    assert_eq!(pool.set_mut(0).add_range(first, last), Ok(1));
+    assert_eq!((pool.set(0).ranges()?, pool.set(1).ranges()?), (vec![(first, last)], vec![]));
+    assert_eq!(pool_of(&HALVES).set(0).ranges()?, [(address("192.168.0.0"), address("192.168.1.255"))]);
+    Ok(())
+}
+
+#[test]
+fn lines_of_ranges() {
+    let read = |line: &str| IpNet::read_range(line.as_bytes()).map(|(first, last)| format!("{first} {last}"));
+    assert_eq!(read("10.0.0.1-10.0.0.6"), Ok("10.0.0.1 10.0.0.6".to_string()));
+    assert_eq!(read("2001:db8::-2001:db8::ffff"), Ok("2001:db8:: 2001:db8::ffff".to_string()));
+    assert_eq!(read("1.2.3.4-1.2.3.4"), Ok("1.2.3.4 1.2.3.4".to_string()));
+    assert_eq!((read("10.0.0.6-10.0.0.1"), read("10.0.0.1-::1")), (Err(Refusal::BadRange), Err(Refusal::WrongFamily)));
+    for line in ["", "-", "10.0.0.1", "10.0.0.1-", "-10.0.0.1", "10.0.0.1-10.0.0.6-", "10.0.0.0/8-11.0.0.0/8", "10.0.0.1 - 10.0.0.6", "010.0.0.1-10.0.0.6"] {
+        assert_eq!(read(line), Err(Refusal::BadText), "{line}");
+    }
 }

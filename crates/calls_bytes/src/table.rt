@@ -55,6 +55,12 @@ pub const MAKE_PUBLIC: u8 = 27;
 
 pub const RANGES: u8 = 28;
 
+pub const ADD_RANGE: u8 = 29;
+
+pub const ADD_FILE: u8 = 30;
+
+pub const REMOVE_FILE: u8 = 31;
+
 pub const NEW: u8 = 32;
 
 pub const TO_NETWORK: u8 = 33;

@@ -40,6 +40,7 @@ table =
     ∷ codes 22 24 kind.Report
     ∷ codes 25 27 kind.Change
     ∷ code 28 kind.List
+    ∷ codes 29 31 kind.Load
     ∷ codes 32 42 kind.Network
     ∷ code 43 kind.Salvage
     ∷ code 44 kind.Compare

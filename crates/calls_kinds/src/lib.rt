@@ -51,6 +51,7 @@ pub fn kind_of(code: u8) -> Kind
         table::NTH..=table::PAGE => Kind::Report,
         table::EXCLUDE..=table::MAKE_PUBLIC => Kind::Change,
         table::RANGES => Kind::List,
+        table::ADD_RANGE..=table::REMOVE_FILE => Kind::Load,
         table::NEW..=table::READ_LINE_EITHER => Kind::Network,
         table::SALVAGE => Kind::Salvage,
         table::COMPARE => Kind::Compare,

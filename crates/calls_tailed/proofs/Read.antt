@@ -12,6 +12,7 @@ use Rattle.pool_state.specs.Decode.{decode}
 use Rattle.setfile_format.specs.Files.{readFile}
 use Rattle.setfile.specs.Loading.{Loaded}
 use Rattle.setfile_compare.specs.Comparing.{Values, compared}
+use Rattle.change_many.specs.Calls.{Poured}
 use Rattle.lines.specs.Lines.{lineFeed, lineNo, trimmedIn, poolNo}
 use Rattle.lines.specs.Reading.{places, begun, kept, pushed, stopped, endedAs, ended, stepped, passed, closed, checked, fed, finished, fedAll, allRead}
 use Rattle.lines.specs.declared.Reader.{Reader}
@@ -20,12 +21,15 @@ use Rattle.calls_bytes.specs.declared.Call.{Call}
 use Rattle.calls_bytes.specs.declared.Reply.{Reply}
 use Rattle.calls_replies.specs.Replies.{oneReply, comparedReply}
 use Rattle.calls_replies.proofs.Changing.{changed-is}
-use Rattle.calls_tailed.specs.Reading.{loadOf, piecesOf, readerReply, linesOf, compareOf, Cut}
+use Rattle.calls_tailed.specs.Reading.{loadedBy, pouredBy, piecesOf, readerReply, linesOf, compareOf, Cut}
 
 -- the bytes behind the fixed part are the file
-pub load-is : (w s : List ℕ) (c : Call) {v : List ℕ} {a : ℕ × ℕ} {x : Reply} → Loaded w (c .a) (take (length s - 35) (drop 35 s)) a v → x ≡ oneReply a → (x, v) ≡ loadOf w c s
-unfolding loadOf
-load-is w s c l e = changed-is (rw (rest-is s 35) at l) e
+module _ (w s : List ℕ) (c : Call) {v : List ℕ} {a : ℕ × ℕ} {x : Reply} (e : x ≡ oneReply a) where
+  pub loaded-is : Loaded w (c .a) (take (length s - 35) (drop 35 s)) a v → (x, v) ≡ loadedBy w c s
+  loaded-is l = changed-is (rw (rest-is s 35) at l) e
+
+  pub poured-is : (y : Bool) → Poured y w (c .a) (take (length s - 35) (drop 35 s)) a v → (x, v) ≡ pouredBy y w c s
+  poured-is y l = changed-is (rw (rest-is s 35) at l) e
 
 -- so many bytes in, or at the end
 pub cut-inside : (s : List ℕ) (b : ℕ) → 35 + b ≤ length s → Cut s b (35 + b)

@@ -22,6 +22,7 @@ use Rattle.nodes.specs.declared.seats.Seat.{Seat}
 use Rattle.nodes.proofs.Put.{length-put}
 use Rattle.nodes.proofs.Has.{has-put}
 use Rattle.trie_insert.proofs.Insertion.{size-insert}
+use Rattle.nodes.proofs.Tries.{length-enc}
 use Rattle.inner_nets.specs.Inner.{isPublic}
 use Rattle.inner_nets.proofs.Public.{isPublic-exclude}
 use Rattle.ranges.specs.Ranges.{range}
@@ -36,8 +37,8 @@ use Rattle.pool_state.specs.Steps.{Surveyed, behindAt, Shiftable}
 use Rattle.pool_state.specs.declared.Survey.{Survey}
 use Rattle.pool_state.proofs.Claims.{isList-listAt, admits-listAt}
 use Rattle.pool_state.proofs.Decoded.{decode-header, decode-state}
-use Rattle.pool_state.proofs.Seen.{Seen, seen, seen-as, seen-figures, placeOf, own-has, own-length, behind-has, behindAt-is}
-use Rattle.pool_state.proofs.OnTries.{seen-segment, seen-size, trieAt, withTrie, behind-first, behind-last, Result}
+use Rattle.pool_state.proofs.Seen.{Seen, seen, seen-as, seen-figures, placeOf, behind-has, behindAt-is}
+use Rattle.pool_state.proofs.OnTries.{seen-segment, seen-size, trie-has, trieAt, withTrie, behind-first, behind-last, Result}
 use Rattle.pool_state.proofs.Changed.{shift-asks}
 use Rattle.setfile_format.specs.Files.{file, readFile, fileOf}
 use Rattle.setfile_format.proofs.Written.{length-fileOf}
@@ -51,7 +52,7 @@ use Rattle.setfile_range.proofs.Files.{few-nets, range-reads}
 use Rattle.setfile.proofs.Outcomes.{take-put}
 use Rattle.change_many.specs.Calls.{pouredL, fileRules, rangeOf, spanRules}
 use Rattle.change_many.specs.declared.Span.{Span}
-use Rattle.change_many.specs.Steps.{FileReady, SpanReady, Admits, Pourable, Clear, Writable, written}
+use Rattle.change_many.specs.Steps.{FileReady, SpanReady, Admits, Pourable, Clear, PourFits, withPoured}
 use Rattle.change_many.proofs.Lists.{listOf-poured, isPublic-addAll}
 use Rattle.change_many.proofs.Asked.{fileRules-right}
 
@@ -87,7 +88,7 @@ module _ (w : List ℕ) (S : State) (k : ℕ) (d : decode w ≡ sound S) where
       admits-same (setAt S k .public) (isPublic f l) (isPublic f (excludeL l ns)) (isPublic f l) e (λ q. isPublic-exclude f l ns q ∙ sym q) ∙ e
 
 -- What is written.
-module _ {w : List ℕ} {k : ℕ} {v : Survey} {d : List ℕ} {f : ℕ} {x : Bool} {n : ℕ} {S : State} {l : List Bits} (h : Writable w k v d f x n S l) where
+module _ {w : List ℕ} {k : ℕ} {v : Survey} {d : List ℕ} {f : ℕ} {x : Bool} {n : ℕ} {S : State} {l : List Bits} (h : PourFits w k v d f x n S l) where
   known : Seen w S k v
   known = seen-as (h .surveyed) S (h .decoded)
 
@@ -115,14 +116,14 @@ module _ {w : List ℕ} {k : ℕ} {v : Survey} {d : List ℕ} {f : ℕ} {x : Boo
       }
 
   -- the sets behind were moved first: the set is where it was
-  grown-has : {u : List ℕ} → v .held < n → u ≡ put w (place (base (getD w 2 0)) (v .at + n)) (behindAt w (base (getD w 2 0)) v) → Has u (placeOf w v) (enc (trieAt S k))
-  grown-has lt e =
+  grtrie-has : {u : List ℕ} → v .held < n → u ≡ put w (place (base (getD w 2 0)) (v .at + n)) (behindAt w (base (getD w 2 0)) v) → Has u (placeOf w v) (enc (trieAt S k))
+  grtrie-has lt e =
       let p = place (base (getD w 2 0)) (v .at + n) in
       let ys = behindAt w (base (getD w 2 0)) v in
-      let far : Apart (placeOf w v) (length (enc (trieAt S k))) p (length ys) = λ j a b c d. omega (arith, own-length known, seen-figures known .first) in
-      rw e (has-put p ys (own-has known) far)
+      let far : Apart (placeOf w v) (length (enc (trieAt S k))) p (length ys) = λ j a b c d. omega (arith, length-enc (trieAt S k), seen-size known, seen-figures known .first) in
+      rw e (has-put p ys (trie-has known) far)
 
-  with-is : withTrie w S k v new ≡ written w v new
+  with-is : withTrie w S k v new ≡ withPoured w v new
   with-is = ap (λ ys. put w (placeOf w v) (enc new ++ ys)) (sym (behindAt-is known (behind-has known)))
 
   module _ {t : Seat} (q : t ≡ seatOf w v) where
@@ -136,7 +137,7 @@ module _ {w : List ℕ} {k : ℕ} {v : Survey} {d : List ℕ} {f : ℕ} {x : Boo
     seat-gap e = writes-gap base-is e
 
     pub seat-end : t .first + n < 18446744073709551616
-    seat-end = omega (arith, first-is, writes-pours {u = w} {g = v .at + n} refl refl (own-has known) .few)
+    seat-end = omega (arith, first-is, writes-pours {u = w} {g = v .at + n} refl refl (trie-has known) .few)
 
     pub grown-pours : {u : List ℕ} {g : ℕ} → v .held < n → u ≡ put w (place (t .base) (v .at + n)) (behindAt w (t .base) v) → g ≡ t .first + n
         → Pours u (t .base) (t .first) (t .end) g d f x l (trieAt S k)
@@ -144,15 +145,15 @@ module _ {w : List ℕ} {k : ℕ} {v : Survey} {d : List ℕ} {f : ℕ} {x : Boo
         let b = base-is in
         let s : length u ≡ length w = ap length e ∙ length-put w (place (t .base) (v .at + n)) (behindAt w (t .base) v) in
         let j = rw q at i in
-        rw q (writes-pours j s (grown-has lt (rw q at e)))
+        rw q (writes-pours j s (grtrie-has lt (rw q at e)))
 
     pub shrunk-pours : {g : ℕ} → g ≡ t .first + n → Pours w (t .base) (t .first) (t .end) g d f x l (trieAt S k)
-    shrunk-pours i = let j = rw q at i in rw q (writes-pours j refl (own-has known))
+    shrunk-pours i = let j = rw q at i in rw q (writes-pours j refl (trie-has known))
 
-    pub grown-wrote : {u y : List ℕ} → u ≡ put w (place (t .base) (v .at + n)) (behindAt w (t .base) v) → y ≡ put u (place (t .base) (t .first)) (enc new) → y ≡ written w v new
+    pub grown-wrote : {u y : List ℕ} → u ≡ put w (place (t .base) (v .at + n)) (behindAt w (t .base) v) → y ≡ put u (place (t .base) (t .first)) (enc new) → y ≡ withPoured w v new
     grown-wrote e g = behind-first known new (rw (q, h .size) at e) (rw q at g) ∙ with-is
 
-    pub shrunk-wrote : {u y : List ℕ} → n ≤ v .held → u ≡ put w (place (t .base) (t .first)) (enc new) → y ≡ put u (place (t .base) (v .at + n)) (behindAt u (t .base) v) → y ≡ written w v new
+    pub shrunk-wrote : {u y : List ℕ} → n ≤ v .held → u ≡ put w (place (t .base) (t .first)) (enc new) → y ≡ put u (place (t .base) (v .at + n)) (behindAt u (t .base) v) → y ≡ withPoured w v new
     shrunk-wrote le e g = behind-last known new (omega (arith, h .size)) (rw q at e) (rw (q, h .size) at g) ∙ with-is
 
     pub shrunk-length : {u : List ℕ} → u ≡ put w (place (t .base) (t .first)) (enc new) → length u ≡ length w
@@ -175,7 +176,7 @@ module _ {w : List ℕ} {k : ℕ} {v : Survey} {d : List ℕ} {f : ℕ} {x : Boo
       rw q
       (record {
         here =
-            record { has = rw (append-nil (enc (trieAt state k))) (own-has sees); one = s .one; end = s .end; used = omega arith; few = omega (arith, s .used, s .few); low = s .low };
+            record { has = rw (append-nil (enc (trieAt state k))) (trie-has sees); one = s .one; end = s .end; used = omega arith; few = omega (arith, s .used, s .few); low = s .low };
         reads = h .reads;
       })
 
@@ -197,10 +198,10 @@ module _ {w : List ℕ} {k : ℕ} {v : Survey} {d : List ℕ} {f : ℕ} {x : Boo
     pub pour-result : {c : Bool} → Clear w k g c → Result w state k v a g result-trie c m
     pour-result q = record { seen = sees; right = h .right state (sees .decoded); list = its-list; public = q state (sees .decoded); size = sym e }
 
-    pub pour-writable : m ≤ roomOf state k → Writable w k v d f x m state (h .list)
+    pub pour-writable : m ≤ roomOf state k → PourFits w k v d f x m state (h .list)
     pour-writable le = record { surveyed = h .surveyed; decoded = sees .decoded; reads = h .reads; family = h .family; size = e; fits = le }
 
-    pub pour-wrote : {u : List ℕ} → u ≡ written w v result-trie → u ≡ withTrie w state k v result-trie
+    pub pour-wrote : {u : List ℕ} → u ≡ withPoured w v result-trie → u ≡ withTrie w state k v result-trie
     pour-wrote q = q ∙ ap (λ ys. put w (placeOf w v) (enc result-trie ++ ys)) (behindAt-is sees (behind-has sees))
 
 -- the mark, where networks come in

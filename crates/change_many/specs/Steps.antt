@@ -5,7 +5,7 @@
 --   Admits w k d f c         c says whether set k may have the networks of the file d with its own, as far as its mark goes
 --   Pourable .. a g          what pouring asks: the rules a of the call's arguments are kept, and g is the list that the call is to leave
 --   Clear w k g c            c says whether set k may have the list g as far as its mark goes
---   Writable, written        what writing a result asks, and the words that it leaves
+--   PourFits, withPoured        what writing a result asks, and the words that it leaves
 use mathlib.Core.Bool.{Bool, true}
 use mathlib.Core.List.{List, _++_}
 use mathlib.Core.Path.{_≡_}
@@ -69,7 +69,7 @@ abbrev pub Clear : List ℕ → ℕ → (State → List Bits) → Bool → Type 
 Clear w k g c = (S : State) → decode w ≡ sound S → admits (S .family) (setAt S k) (g S) ≡ c
 
 -- writing a result of n nodes that the room takes
-pub record Writable (w : List ℕ) (k : ℕ) (v : Survey) (d : List ℕ) (f : ℕ) (x : Bool) (n : ℕ) (S : State) (l : List Bits) : Type 0 where
+pub record PourFits (w : List ℕ) (k : ℕ) (v : Survey) (d : List ℕ) (f : ℕ) (x : Bool) (n : ℕ) (S : State) (l : List Bits) : Type 0 where
   pub surveyed : Surveyed w k v
   pub decoded : decode w ≡ sound S
   pub reads : readFile d ≡ file f l
@@ -78,5 +78,5 @@ pub record Writable (w : List ℕ) (k : ℕ) (v : Survey) (d : List ℕ) (f : �
   pub fits : n ≤ roomOf S k
 
 -- the trie t in the place of the surveyed set, and the sets behind it behind it
-abbrev pub written : List ℕ → Survey → Trie → List ℕ
-written w v t = put w (place (base (getD w 2 0)) (v .at)) (enc t ++ behindAt w (base (getD w 2 0)) v)
+abbrev pub withPoured : List ℕ → Survey → Trie → List ℕ
+withPoured w v t = put w (place (base (getD w 2 0)) (v .at)) (enc t ++ behindAt w (base (getD w 2 0)) v)

@@ -22,7 +22,7 @@ ghost use Rattle.pool_state.specs.Rules.{answerAs};
 ghost use Rattle.pool_state.specs.Steps.{Surveyed};
 ghost use Rattle.setfile_format.specs.Files.{readFile, file};
 ghost use Rattle.trie_pour.specs.Pour.{pourT};
-ghost use Rattle.change_many.specs.Steps.{Admits, Pourable, Clear, Writable, written};
+ghost use Rattle.change_many.specs.Steps.{Admits, Pourable, Clear, PourFits, withPoured};
 
 // Whether the surveyed set may have the networks of the file with its own as far as its mark goes: it is not public-only, or no network of the file overlaps an inner one.
 fn is_admitted(pool: &[u32], set: u32, v: Survey, bytes: &[u8], family: u8) -> bool
@@ -38,9 +38,9 @@ fn is_admitted(pool: &[u32], set: u32, v: Survey, bytes: &[u8], family: u8) -> b
 
 // Writes the result, of n nodes, in the place of the surveyed set; the sets behind it move, before it grows or after it has shrunk.
 fn write(pool: &mut [u32], set: u32, v: Survey, bytes: &[u8], family: u8, into: bool, n: u32)
-    requires { ⌜ ((S : State) × (l : List Bits) × Writable (now pool) set v (now bytes) family into n S l) ⌝ }
-    ensures { λ _. ⌜ ((S : State) (l : List Bits) → Writable (now (pool .entry)) set v (now (bytes .entry)) family into n S l
-        → now (pool .exit) ≡ written (now (pool .entry)) v (pourT into (trieOf l) (trieOf (listAt S set)))) ⌝ }
+    requires { ⌜ ((S : State) × (l : List Bits) × PourFits (now pool) set v (now bytes) family into n S l) ⌝ }
+    ensures { λ _. ⌜ ((S : State) (l : List Bits) → PourFits (now (pool .entry)) set v (now (bytes .entry)) family into n S l
+        → now (pool .exit) ≡ withPoured (now (pool .entry)) v (pourT into (trieOf l) (trieOf (listAt S set)))) ⌝ }
 {
     let at = seat_in(pool, v);
     let end = at.first + n as usize;

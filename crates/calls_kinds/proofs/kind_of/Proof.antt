@@ -39,12 +39,12 @@ kind-of-spec =
     let e = beyond (beyond d (r .0 .0 .0 .0 .0 .0 .1)) (r .0 .0 .0 .0 .0 .1) in
     kindOf-from 22 25 (m .before .args .code) refl e (c .if4 .taken))
     (λ c. kindOf-from 25 28 (c .before .before .before .before .before .before .args .code) refl (c .before .if4 .left) (c .if5 .taken))
-    (λ c. kindOf-from 32 43 (c .before .before .before .before .before .before .before .before .args .code) refl (c .before .if6 .left) (c .if7 .taken))
-    (λ c. kindOf-from 0 1 (c .before .before .args .code) refl zero-le (c .if1 .taken))
     (λ c.
     let m = c .before .before .before .before .before .before in
     let r = m .match .rest in
     kindOf-from 29 32 (m .before .args .code) refl (beyond (c .before .if5 .left) (r .0 .0 .0 .0 .1)) (c .if6 .taken))
+    (λ c. kindOf-from 32 43 (c .before .before .before .before .before .before .before .before .args .code) refl (c .before .if6 .left) (c .if7 .taken))
+    (λ c. kindOf-from 0 1 (c .before .before .args .code) refl zero-le (c .if1 .taken))
     (λ c.
     let m = c .before .before .before .before .before .before .before in
     let r = m .match .rest in

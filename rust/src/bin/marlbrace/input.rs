@@ -23,7 +23,15 @@ pub struct Input {
 
 enum Content {
     Set(IpRange),
-    Lines { nets: Vec<IpNet>, trimmed: u64 },
+    Lines(Lines),
+}
+
+/// The networks of lines, how many lines were read, and how many of them were trimmed.
+#[derive(Default)]
+struct Lines {
+    nets: Vec<IpNet>,
+    read: u64,
+    trimmed: u64,
 }
 
 impl Input {
@@ -31,9 +39,9 @@ impl Input {
     pub fn set(self) -> Result<IpRange, Refusal> {
         match self.content {
             Content::Set(set) => Ok(set),
-            Content::Lines { nets, .. } => {
+            Content::Lines(lines) => {
                 let mut set = IpRange::new();
-                set.try_extend(nets)?;
+                set.try_extend(lines.nets)?;
                 Ok(set)
             }
         }
@@ -43,7 +51,7 @@ impl Input {
     pub fn nets(self) -> std::vec::IntoIter<IpNet> {
         match self.content {
             Content::Set(set) => set.iter(),
-            Content::Lines { nets, .. } => nets.into_iter(),
+            Content::Lines(lines) => lines.nets.into_iter(),
         }
     }
 
@@ -51,8 +59,8 @@ impl Input {
     pub fn report(&self) -> String {
         match &self.content {
             Content::Set(set) => format!("IPv{} set file", set.family()),
-            Content::Lines { nets, trimmed } => match nets.first() {
-                Some(net) => format!("IPv{} lines, {} read, {trimmed} trimmed", net.family(), nets.len()),
+            Content::Lines(lines) => match lines.nets.first() {
+                Some(net) => format!("IPv{} lines, {} read, {} trimmed", net.family(), lines.read, lines.trimmed),
                 None => "no lines".to_string(),
             },
         }
@@ -73,9 +81,11 @@ impl Reader<'_> {
 
     pub fn read(&mut self, word: &OsStr) -> Result<Input, Failure> {
         let name = if word == "-" { "standard input".to_string() } else { word.to_string_lossy().into_owned() };
-        if let Ok((net, trimmed)) = IpNet::read_line(word.as_encoded_bytes()) {
-            self.same_family(net.family()).map_err(|no| Failure::refused(&format!("{name}:"), no))?;
-            return Ok(Input { name, content: Content::Lines { nets: vec![net], trimmed: trimmed as u64 } });
+        let mut lines = Lines::default();
+        match self.take(word.as_encoded_bytes(), &mut lines) {
+            Ok(()) => return Ok(Input { name, content: Content::Lines(lines) }),
+            Err(Refusal::BadText) => {}
+            Err(no) => return Err(Failure::refused(&format!("{name}:"), no)),
         }
         let mut bytes = BufReader::with_capacity(1 << 16, open(word).map_err(|e| Failure::system(&name, e))?);
         let first = bytes.fill_buf().map_err(|e| Failure::system(&name, e))?.first().copied();
@@ -91,31 +101,44 @@ impl Reader<'_> {
     }
 
     fn lines(&mut self, name: &str, mut bytes: impl BufRead) -> Result<Content, Failure> {
-        let (mut nets, mut trimmed, mut number, mut line) = (Vec::new(), 0, 0u64, Vec::new());
+        let (mut lines, mut number, mut line) = (Lines::default(), 0u64, Vec::new());
         while bytes.by_ref().take(LONGEST).read_until(b'\n', &mut line).map_err(|e| Failure::system(name, e))? > 0 {
             number += 1;
             if number % STEP == 0 {
                 self.progress.say(|| format!("{name}: {number} lines"));
             }
-            if let Some((net, cut)) = self.line(&line).map_err(|no| Failure::refused(&format!("{name}: line {number}"), no))? {
-                nets.push(net);
-                trimmed += cut as u64;
-            }
+            self.line(&line, &mut lines).map_err(|no| Failure::refused(&format!("{name}: line {number}"), no))?;
             line.clear();
         }
-        Ok(Content::Lines { nets, trimmed })
+        Ok(Content::Lines(lines))
     }
 
-    /// The network of a line and whether it was trimmed; nothing for a line that a lenient reading passes over.
-    fn line(&mut self, line: &[u8]) -> Result<Option<(IpNet, bool)>, Refusal> {
+    /// Takes a line, but for one that a lenient reading passes over.
+    fn line(&mut self, line: &[u8], lines: &mut Lines) -> Result<(), Refusal> {
         let text = line.strip_suffix(b"\n").unwrap_or(line);
         let text = if self.lenient { bare(text) } else { text };
         if self.lenient && text.is_empty() {
-            return Ok(None);
+            return Ok(());
         }
-        let (net, cut) = IpNet::read_line(text)?;
-        self.same_family(net.family())?;
-        Ok(Some((net, cut)))
+        self.take(text, lines)
+    }
+
+    /// Takes the network of a text, or the fewest of a range.
+    fn take(&mut self, text: &[u8], lines: &mut Lines) -> Result<(), Refusal> {
+        if text.contains(&b'-') {
+            let (first, last) = if self.lenient { IpNet::read_range(&tight(text)) } else { IpNet::read_range(text) }?;
+            self.same_family(IpNet::from(first).family())?;
+            let mut set = IpRange::new();
+            set.add_range(first, last)?;
+            lines.nets.extend(&set);
+        } else {
+            let (net, cut) = IpNet::read_line(text)?;
+            self.same_family(net.family())?;
+            lines.nets.push(net);
+            lines.trimmed += cut as u64;
+        }
+        lines.read += 1;
+        Ok(())
     }
 
     fn same_family(&mut self, family: u8) -> Result<(), Refusal> {
@@ -129,6 +152,11 @@ impl Reader<'_> {
 /// A line without its comment and the blanks around it, a carriage return included.
 fn bare(line: &[u8]) -> &[u8] {
     line.split(|&byte| byte == b'#').next().unwrap_or(line).trim_ascii()
+}
+
+/// A range without the blanks around its hyphen.
+fn tight(range: &[u8]) -> Vec<u8> {
+    range.splitn(2, |&byte| byte == b'-').map(|end| end.trim_ascii()).collect::<Vec<_>>().join(&b'-')
 }
 
 /// A closed standard input has to fail: `Stdin` would take it for an empty one.

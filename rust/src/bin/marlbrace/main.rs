@@ -48,7 +48,11 @@ fn rewrite(words: &Words, progress: &mut Progress) -> Result<bool, Failure> {
     progress.say(|| "building".to_string());
     let set = combined(words.command, inputs).map_err(|no| Failure::refused(&format!("{}:", words.command.name()), no))?;
     progress.say(|| "writing".to_string());
-    Output::to(words.output.as_deref()).set(&set, words.set)?;
+    let output = Output::to(words.output.as_deref());
+    match words.command {
+        Command::Ranges => output.ranges(set.ranges().into_iter())?,
+        _ => output.set(&set, words.set)?,
+    }
     Ok(true)
 }
 
@@ -63,7 +67,7 @@ fn combined(command: Command, mut inputs: Vec<Input>) -> Result<IpRange, Refusal
             let others = together(inputs.split_off(1))?;
             together(inputs)?.exclude(&others)
         }
-        Command::Convert => together(inputs),
+        Command::Convert | Command::Ranges => together(inputs),
         _ => together(inputs).map(simplified),
     }
 }

@@ -1,9 +1,10 @@
 //! Where the result goes: standard output, or a file that is replaced when the new one is whole.
 use crate::failure::Failure;
-use marlbrace::{IpNet, IpRange, LINE};
+use marlbrace::{IpNet, IpRange, Refusal, LINE};
 use std::ffi::{OsStr, OsString};
 use std::fs::{self, File};
 use std::io::{self, stdout, BufWriter, ErrorKind, Write};
+use std::net::IpAddr;
 use std::os::fd::AsFd;
 use std::path::{Path, PathBuf};
 
@@ -34,16 +35,34 @@ impl Output {
     }
 
     pub fn lines(&self, nets: impl Iterator<Item = IpNet>) -> Result<(), Failure> {
+        self.each(nets, |net, line| {
+            line.extend_from_slice(net.write_line(&mut [0; LINE])?);
+            Ok(())
+        })
+    }
+
+    /// Ranges, as first and last address with a hyphen between them.
+    pub fn ranges(&self, ranges: impl Iterator<Item = (IpAddr, IpAddr)>) -> Result<(), Failure> {
+        self.each(ranges, |(first, last), line| {
+            address(first, line)?;
+            line.push(b'-');
+            address(last, line)
+        })
+    }
+
+    /// A line for each, with what is put into it.
+    fn each<T>(&self, all: impl Iterator<Item = T>, put: impl Fn(T, &mut Vec<u8>) -> Result<(), Refusal>) -> Result<(), Failure> {
         let mut no = None;
         let written = self.write(|out| {
-            let mut line = [0; LINE];
-            for net in nets {
-                let text = net.write_line(&mut line).map_err(|refusal| {
+            let mut line = Vec::new();
+            for one in all {
+                line.clear();
+                put(one, &mut line).map_err(|refusal| {
                     no = Some(refusal);
                     io::Error::from(ErrorKind::InvalidData)
                 })?;
-                out.write_all(text)?;
-                out.write_all(b"\n")?;
+                line.push(b'\n');
+                out.write_all(&line)?;
             }
             Ok(())
         });
@@ -63,6 +82,14 @@ impl Output {
             _ => Failure::system(&self.name, error),
         })
     }
+}
+
+/// The text of an address: the line of the network of it alone, without the length.
+fn address(address: IpAddr, line: &mut Vec<u8>) -> Result<(), Refusal> {
+    let mut out = [0; LINE];
+    let text = IpNet::from(address).write_line(&mut out)?;
+    line.extend(text.iter().take_while(|&&byte| byte != b'/'));
+    Ok(())
 }
 
 /// A closed standard output has to fail: `Stdout` would lose what is written.

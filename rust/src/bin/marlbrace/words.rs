@@ -10,11 +10,13 @@ usage: marlbrace COMMAND [--lenient] [--set] [-o FILE] INPUT..
   intersect INPUT INPUT..   the addresses that all inputs have, in the shortest list
   exclude INPUT INPUT..     the addresses of the first input that no other has, in the shortest list
   convert INPUT..           the networks of all inputs, those inside another left out, none joined
+  ranges INPUT..            the addresses of all inputs as the fewest ranges, a line as 10.0.0.1-10.0.0.6 for each
   contains INPUT INPUT..    whether the first input has all addresses of the others; prints the networks that it has not
   check INPUT..             whether each input is right; prints a line for each
 
-An input is a file, - for standard input, or a network such as 10.0.0.0/8. A file is a set file or has a network in each line, all of one family.
-  --lenient   lines may be blank, have a comment from # on, blanks around them and a carriage return at their end
+An input is a file, - for standard input, a network such as 10.0.0.0/8 or a range such as 10.0.0.1-10.0.0.6. A file is a set file or has a network or a
+range in each line, all of one family. A range stands for its fewest networks.
+  --lenient   lines may be blank, have a comment from # on, blanks around them and the - of a range, and a carriage return at their end
   --set       writes a set file instead of lines
   -o FILE     writes there instead of standard output (-): beside the old file, which is replaced when the new one is whole
 Statuses: 0 done, or yes; 1 no, or refused, and standard error says why; 2 other words than these.
@@ -27,6 +29,7 @@ pub enum Command {
     Intersect,
     Exclude,
     Convert,
+    Ranges,
     Contains,
     Check,
 }
@@ -34,12 +37,13 @@ pub enum Command {
 use Command::*;
 
 impl Command {
-    const ALL: [(&'static str, Command); 7] = [
+    const ALL: [(&'static str, Command); 8] = [
         ("simplify", Simplify),
         ("merge", Merge),
         ("intersect", Intersect),
         ("exclude", Exclude),
         ("convert", Convert),
+        ("ranges", Ranges),
         ("contains", Contains),
         ("check", Check),
     ];
@@ -82,7 +86,7 @@ impl Words {
     fn take(&mut self, word: OsString, rest: &mut impl Iterator<Item = OsString>) -> Result<(), Failure> {
         match word.to_str() {
             Some("--lenient") => self.lenient = true,
-            Some("--set") if self.command.writes() => self.set = true,
+            Some("--set") if self.command.writes() && self.command != Ranges => self.set = true,
             Some("-o") if self.command.writes() && self.output.is_none() => self.output = Some(rest.next().ok_or_else(|| usage("-o takes a file"))?),
             Some("--") => self.inputs.extend(rest),
             _ if word != "-" && word.as_encoded_bytes().starts_with(b"-") => {
