@@ -16,7 +16,7 @@ use Rattle.nets.specs.Networks.{isFamily, width}
 use Rattle.nodes.specs.Words.{put}
 use Rattle.trie_index.specs.Index.{isAt}
 use Rattle.pool_state.specs.Kept.{heldL, encL, indexL, ReadList, badList, okList, readL}
-use Rattle.pool_state.specs.States.{SetState, State, held, claimed, keepsRules, isSize}
+use Rattle.pool_state.specs.States.{SetState, State, held, claimed, indexedOf, keepsRules, isSize}
 
 abbrev pub mark : ℕ
 mark = 1296126540
@@ -61,7 +61,10 @@ overIndexes w m s j [] = put w 4 (j ∷ [])
 overIndexes w m s j (x ∷ xs) =
     overIndexes (put (put w (recordAt s + 4) (tagOf (x .indexed) j ∷ [])) (m + 256 * j) (indexWords x)) m (s + 1) (j + digit (x .indexed)) xs
 
--- where the indexes of a state begin
+-- the smallest buffer of a state, and where its indexes begin
+abbrev pub leastOf : State → ℕ
+leastOf S = leastWords (length (S .sets)) (S .nodes) (indexedOf (S .sets))
+
 abbrev pub indexesAt : State → ℕ
 indexesAt S = leastWords (length (S .sets)) (S .nodes) 0
 

@@ -119,6 +119,11 @@ emptySets [] limits z = []
 emptySets (x ∷ shares) [] z = []
 emptySets (x ∷ shares) (y ∷ limits) z = record { share = x; limit = y; public = false; indexed = eqb (z % 2) 1; list = [] } ∷ emptySets shares limits (z / 2)
 
+-- the same without shares and limits
+abbrev pub blanks : ℕ → ℕ → List SetState
+blanks zero z = []
+blanks (suc n) z = record { share = 0; limit = 0; public = false; indexed = eqb (z % 2) 1; list = [] } ∷ blanks n (z / 2)
+
 abbrev pub emptyState : Setup → State
 emptyState p = record { family = p .family; nodes = p .nodes; sets = emptySets (p .shares) (p .limits) (p .indexed) }
 
