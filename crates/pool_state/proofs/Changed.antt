@@ -175,7 +175,7 @@ tag-few true j = omega arith
 tag-few false j = omega arith
 
 -- The roots can move: those behind set k are behind its nodes.
-firstNode-from : (k i : ℕ) (ss : List SetState) → k < length ss → i ≤ firstNode k i ss
+pub firstNode-from : (k i : ℕ) (ss : List SetState) → k < length ss → i ≤ firstNode k i ss
 firstNode-from k i [] lt = absurd (omega arith)
 firstNode-from zero i (x ∷ xs) lt = omega arith
 firstNode-from (suc k) i (x ∷ xs) lt = omega (arith, firstNode-from k (i + held x) xs (omega arith))

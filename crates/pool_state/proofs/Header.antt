@@ -37,9 +37,9 @@ module _ (w : List ℕ) where
   isHeader-indexed lt = simp (lt-leb (getD w 4 0) (getD w 2 0) lt, and-false)
 
   pub isHeader-long : getD w 0 0 ≡ mark → isFamily (getD w 1 0) ≡ true → isSize (getD w 2 0) (getD w 3 0) ≡ true → getD w 4 0 ≤ getD w 2 0
-      → leb (leastWords (getD w 2 0) (getD w 3 0) (getD w 4 0)) (length w) ≡ isHeader w
+      → {n : ℕ} → n ≡ leastWords (getD w 2 0) (getD w 3 0) (getD w 4 0) → leb n (length w) ≡ isHeader w
   unfolding isHeader
-  isHeader-long m f s i = rw (eq-eqb (getD w 0 0) mark m, f, s, le-leb (getD w 4 0) (getD w 2 0) i)
+  isHeader-long m f s i e = rw (e, eq-eqb (getD w 0 0) mark m, f, s, le-leb (getD w 4 0) (getD w 2 0) i)
 
 -- What it says: the mark, a family, few sets and nodes, no more indexed sets than sets, and words for them all.
 pub record IsHeader (w : List ℕ) : Type 0 where

@@ -23,6 +23,7 @@ pub mod Beside
 pub mod Judged
 pub mod Relinked
 pub mod Changed
+pub mod Reindexed
 pub mod Restated
 pub mod Planned
 pub mod Returns

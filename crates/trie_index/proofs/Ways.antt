@@ -1,123 +1,150 @@
 -- The way of a walk through eight bits: what it has still to go decides its word; the eight bits of a byte. Assumes nothing.
 use mathlib.Core.Bool.{Bool, true, false, cond}
 use mathlib.Core.List.{List, [], _∷_}
-use mathlib.Core.Path.{_≡_, refl, ap, sym, _∙_}
-use Prim.Native.Nat.{ℕ, suc, _+_, _-_, _*_, _≤_, _<_, _^_, _/_}
+use mathlib.Core.Path.{_≡_, refl, ap, sym, _∙_, subst}
+use Prim.Native.Nat.{ℕ, zero, suc, _+_, _-_, _*_, _/_, _%_, _≤_, _<_, _^_}
 use native.Mathlib.Nat.{add-zero, mul-assoc}
 use native.Mathlib.Omega.{arith}
-use lib.ListN.{length, take}
+use lib.Dec.{eqb}
+use lib.ListN.{take}
 use lib.Pow.{shl-shr}
+use borrow.Author.Tests.{eq-eqb, ne-eqb}
 use Rattle.nets.specs.Bits.{Bits, bits}
 use Rattle.nets.specs.Networks.{value, bitsLeft}
-use Rattle.nets.specs.Tries.{Trie, none, node, leaf, size, bare, side}
+use Rattle.nets.specs.Tries.{Trie, none, node, size, bare, side}
 use Rattle.nets.specs.declared.PrefixBits.{PrefixBits}
 use Rattle.nets.proofs.Numbers.{take-bits}
-use Rattle.nodes.specs.Segments.{Segment, viewOf, Branch, Views}
-use Rattle.nodes.specs.declared.steps.View.{View}
-use Rattle.nodes.specs.declared.steps.View.the-variants.{Nothing, Leaf, Inner}
-use Rattle.nodes.proofs.Segments.{segment-fit}
-use Rattle.nodes.proofs.Views.{view-none, view-leaf, view-inner, branch-fit, branch-child, inward}
-use Rattle.trie_index.specs.Index.{nodeAt, absentAt, standing}
+use Rattle.nodes.specs.Parse.{Stands}
+use Rattle.nodes.specs.Words.{Has, link0, link1, word, enc, place, wordAt}
+use Rattle.nodes.proofs.Has.{has-at}
+use Rattle.nodes.proofs.Tries.{some, size-node, word-first, word-second, word-leaf, Split, apart}
+use Rattle.trie_index.specs.Index.{nodeAt, absentAt, standing, Rooted}
 
--- A walk that set out at node first for the bits q has come to node i, d bits down, with the bits p still to go: whatever trie stands there, what is below node i decides.
-pub record Way (w : List ℕ) (b first end : ℕ) (q : Bits) (i e d : ℕ) (p : Bits) : Type 0 where
-  pub from : first ≤ i
-  pub few : e ≤ first + 4194304
-  pub part : (t : Trie) (rest : List ℕ) (u : ℕ) → Segment w b first end u t rest
-      → (x : Trie) × (after : List ℕ) × Segment w b i e u x after × (standing p d (i - first) x ≡ standing q 0 0 t)
+-- a trie with a node stands at node i of n
+pub record At (w : List ℕ) (b n i : ℕ) (t : Trie) : Type 0 where
+  pub one : 1 ≤ i
+  pub within : i + size t ≤ suc n
+  pub has : Has w (place b i) (enc t)
+  pub node : t ≡ none → ⊥
 
-pub way-start : (w : List ℕ) (b first end d : ℕ) (q : Bits) → end ≤ first + 4194304 → d ≡ 0 → Way w b first end q first end d q
-way-start w b first end d q le n = record { from = omega arith; few = le; part = λ t rest u g. (t, rest, g, let z : first - first ≡ 0 = omega arith in rw (z, n)) }
+at-in : {w : List ℕ} {b n i : ℕ} (t : Trie) → At w b n i t → i ≤ n
+unfolding size
+at-in none h = absurd (h .node refl)
+at-in (node l r) h = omega (arith, h .within)
 
+pub at-stands : {w : List ℕ} {b n f i : ℕ} {t : Trie} → 1 ≤ i → Stands w b n f i t → (t ≡ none → ⊥) → At w b n i t
+at-stands one s ne = record { one = one; within = s .within; has = s .has; node = ne }
+
+-- The child on the side of a bit: by the distance to it, and where there is none.
+abbrev step : Bool → Trie → ℕ
+step c l = side c 1 (1 + size l)
+
+toward-none : (c : Bool) (l r : Trie) → side c (word l r % 2) (word l r / 2) ≡ 0 → side c l r ≡ none
+unfolding link0 link1
+toward-none false none r e = refl
+toward-none false (node x y) r e = absurd (omega (arith, word-first (node x y) r))
+toward-none true l none e = refl
+toward-none true l (node x y) e = absurd (omega (arith, word-second l (node x y)))
+
+toward-some : (c : Bool) (l r : Trie) → (side c (word l r % 2) (word l r / 2) ≡ 0 → ⊥) → (side c (word l r % 2) (word l r / 2) ≡ step c l) × (side c l r ≡ none → ⊥)
+unfolding link0 link1
+toward-some false none r ne = absurd (ne (word-first none r))
+toward-some false (node x y) r ne = (word-first (node x y) r, some x y)
+toward-some true l none ne = absurd (ne (word-second l none))
+toward-some true l (node x y) ne = (word-second l (node x y), some x y)
+
+module _ {w : List ℕ} {b n i : ℕ} {l r : Trie} (h : At w b n i (node l r)) where
+  split : Split w b i l r
+  split = apart l r (h .one) (h .has)
+
+  at-child : (c : Bool) → (side c l r ≡ none → ⊥) → At w b n (i + step c l) (side c l r)
+  at-child false ne = record { one = omega arith; within = omega (arith, h .within, size-node l r); has = split .left; node = ne }
+  at-child true ne = record { one = omega arith; within = omega (arith, h .within, size-node l r); has = has-at (omega arith) (split .right); node = ne }
+
+-- The word of a walk.
 standing-none : (p : Bits) (d r : ℕ) → standing p d r none ≡ absentAt d
 unfolding standing
 standing-none [] d r = refl
 standing-none (b ∷ p) d r = refl
 
-standing-leaf : (p : Bits) (d r : ℕ) → standing p d r leaf ≡ nodeAt d r
+standing-bare : (p : Bits) (d n : ℕ) (l r : Trie) → bare l r ≡ true → standing p d n (node l r) ≡ nodeAt d n
 unfolding standing
-standing-leaf [] d r = refl
-standing-leaf (b ∷ p) d r = refl
+standing-bare [] d n l r e = refl
+standing-bare (c ∷ p) d n l r e = rw e
 
 standing-end : (l r : Trie) (d n : ℕ) → standing [] d n (node l r) ≡ nodeAt d n
 unfolding standing
 standing-end l r d n = refl
 
-standing-on : (c : Bool) (p : Bits) (d n : ℕ) (l r : Trie) → bare l r ≡ false → standing (c ∷ p) d n (node l r) ≡ standing p (d + 1) (n + side c 1 (1 + size l)) (side c l r)
+standing-on : (c : Bool) (p : Bits) (d n : ℕ) (l r : Trie) → bare l r ≡ false → standing (c ∷ p) d n (node l r) ≡ standing p (d + 1) (n + step c l) (side c l r)
 unfolding standing
 standing-on c p d n l r e = rw e
 
--- at an inner node: the bits end, or one of them leads on
-branch-end : {i m : ℕ} {x : Trie} (k : Branch i m x) (p : Bits) (d n : ℕ) → p ≡ [] → nodeAt d n ≡ standing p d n x
-branch-end k p d n z = rw (z, k .is) (sym (standing-end (k .l) (k .r) d n))
+-- at a trie with a node: by its word x, by the bits, and by the distance on the side of the next bit
+module _ {w : List ℕ} {b n i : ℕ} (p : Bits) (d m : ℕ) where
+  word-leafs : (t : Trie) → At w b n i t → wordAt w b i ≡ 0 → standing p d m t ≡ nodeAt d m
+  word-leafs none h e = absurd (h .node refl)
+  word-leafs (node l r) h e = standing-bare p d m l r (sym (word-leaf l r) ∙ eq-eqb (word l r) 0 (sym (split h .root) ∙ e))
 
-branch-on : {i m : ℕ} {x : Trie} (k : Branch i m x) (p : Bits) (d n : ℕ) (c : Bool) (later : Bits) → p ≡ c ∷ later
-    → standing p d n x ≡ standing later (d + 1) (n + side c 1 (1 + size (k .l))) (side c (k .l) (k .r))
-branch-on {i} {m} {x} k p d n c later z = ap (λ y. standing y d n x) z ∙ ap (standing (c ∷ later) d n) (k .is) ∙ standing-on c later d n (k .l) (k .r) (k .inner)
+  word-ends : (t : Trie) → At w b n i t → p ≡ [] → standing p d m t ≡ nodeAt d m
+  word-ends none h e = absurd (h .node refl)
+  word-ends (node l r) h e = rw e (standing-end l r d m)
 
-module _ {w : List ℕ} {b first end : ℕ} {q : Bits} {i e d : ℕ} {p : Bits} (h : Way w b first end q i e d p) where
-  pub way-some : ((t : Trie) × (rest : List ℕ) × (u : ℕ) × Segment w b first end u t rest) → (t : Trie) × (rest : List ℕ) × (u : ℕ) × Segment w b i e u t rest
-  way-some (t, rest, u, g) = let (x, after, s, q) = h .part t rest u g in (x, after, u, s)
+  module _ (c : Bool) (q : Bits) (z : p ≡ c ∷ q) where
+    inner : (l r : Trie) → At w b n i (node l r) → (wordAt w b i ≡ 0 → ⊥) → standing p d m (node l r) ≡ standing q (d + 1) (m + step c l) (side c l r)
+    inner l r h ne = rw z (standing-on c q d m l r (sym (word-leaf l r) ∙ ne-eqb (word l r) 0 (λ e. ne (split h .root ∙ e))))
 
-  pub way-low : ((t : Trie) × (rest : List ℕ) × (u : ℕ) × Segment w b first end u t rest) → i ≤ e
-  way-low (t, rest, u, g) = let (x, after, s, q) = h .part t rest u g in omega (arith, s .end)
+    word-absent : (t : Trie) → At w b n i t → (wordAt w b i ≡ 0 → ⊥) → side c (wordAt w b i % 2) (wordAt w b i / 2) ≡ 0 → standing p d m t ≡ absentAt (d + 1)
+    word-absent none h ne e = absurd (h .node refl)
+    word-absent (node l r) h ne e = inner l r h ne ∙ rw (toward-none c l r (rw (split h .root) at e)) (standing-none q (d + 1) (m + step c l))
 
-  module _ (v : View) (sees : Views w b i e v) where
-    pub way-nothing : v ≡ Nothing → (t : Trie) (rest : List ℕ) (u : ℕ) → Segment w b first end u t rest → 16 + d ≡ standing q 0 0 t
-    way-nothing z t rest u g =
-        let (x, after, s, a) = h .part t rest u g in
-        sym (standing-none p d (i - first)) ∙ ap (standing p d (i - first)) (sym (view-none i x (sym z ∙ sees x after u s))) ∙ a
+    word-on : (t : Trie) (k : ℕ) → At w b n i t → (wordAt w b i ≡ 0 → ⊥) → k ≡ side c (wordAt w b i % 2) (wordAt w b i / 2) → (k ≡ 0 → ⊥)
+        → (x : Trie) × At w b n (i + k) x × (standing p d m t ≡ standing q (d + 1) (m + k) x)
+    word-on none k h ne o e = absurd (h .node refl)
+    word-on (node l r) k h ne o e =
+        let u : k ≡ side c (word l r % 2) (word l r / 2) = o ∙ ap (λ x. side c (x % 2) (x / 2)) (split h .root) in
+        let f = toward-some c l r (λ z. e (u ∙ z)) in
+        let g : k ≡ step c l = u ∙ f .0 in
+        (side c l r, subst (λ z. At w b n (i + z) (side c l r)) (sym g) (at-child h c (f .1)), inner l r h ne ∙ ap (λ z. standing q (d + 1) (m + z) (side c l r)) (sym g))
 
-    pub way-leaf : v ≡ Leaf → (t : Trie) (rest : List ℕ) (u : ℕ) → Segment w b first end u t rest → 32 * (i - first) + d ≡ standing q 0 0 t
-    way-leaf z t rest u g =
-        let (x, after, s, a) = h .part t rest u g in
-        sym (standing-leaf p d (i - first)) ∙ ap (standing p d (i - first)) (sym (view-leaf i x (sym z ∙ sees x after u s))) ∙ a
+-- A walk that set out at node first for the bits q has come to node i, d bits down, with the bits p still to go: whatever trie stands there, what is below node i decides.
+pub record Way (w : List ℕ) (b n first : ℕ) (q : Bits) (i d : ℕ) (p : Bits) : Type 0 where
+  pub from : first ≤ i
+  pub part : (t : Trie) → At w b n first t → (x : Trie) × At w b n i x × (standing p d (i - first) x ≡ standing q 0 0 t)
 
-    module _ (m : ℕ) (z : v ≡ Inner m) where
-      branch : (x : Trie) (after : List ℕ) (u : ℕ) → Segment w b i e u x after → Branch i m x
-      branch x after u s = view-inner i m x (sym z ∙ sees x after u s)
+pub way-start : (w : List ℕ) (b n first d : ℕ) (q : Bits) → d ≡ 0 → Way w b n first q first d q
+way-start w b n first d q e = record { from = omega arith; part = λ t h. (t, h, let z : first - first ≡ 0 = omega arith in rw (z, e)) }
 
-      pub way-end : p ≡ [] → (t : Trie) (rest : List ℕ) (u : ℕ) → Segment w b first end u t rest → 32 * (i - first) + d ≡ standing q 0 0 t
-      way-end n t rest u g =
-          let (x, after, s, a) = h .part t rest u g in
-          branch-end (branch x after u s) p d (i - first) n ∙ a
+module _ {w : List ℕ} {b n first : ℕ} {q : Bits} {i d : ℕ} {p : Bits} (h : Way w b n first q i d p) where
+  pub way-in : ((f : ℕ) × (t : Trie) × Stands w b n f first t × (t ≡ none → ⊥)) → 1 ≤ first → (1 ≤ i) × (i ≤ n)
+  way-in (f, t, s, ne) one = let (x, a, z) = h .part t (at-stands one s ne) in (a .one, at-in x a)
 
-      pub way-fit : ((t : Trie) × (rest : List ℕ) × (u : ℕ) × Segment w b first end u t rest) → (i + 1 ≤ m) × (m ≤ e) × (e < 1073741824)
-      way-fit (t, rest, u, g) =
-          let (x, after, s, a) = h .part t rest u g in
-          let f = branch-fit s (branch x after u s) in
-          (f .1, f .2, f .3)
+  pub way-leaf : 1 ≤ first → wordAt w b i ≡ 0 → (f : ℕ) (t : Trie) → Stands w b n f first t → (t ≡ none → ⊥) → 32 * (i - first) + d ≡ standing q 0 0 t
+  way-leaf one e f t s ne = let (x, a, z) = h .part t (at-stands one s ne) in sym (word-leafs p d (i - first) x a e) ∙ z
 
-      pub way-on : (c : Bool) (rest : Bits) (deep : ℕ) → (i + 1 ≤ m) × (m ≤ e) × (e < 1073741824) → p ≡ c ∷ rest → deep ≡ d + 1
-          → (side c (i + 1) m ≤ side c m e) × Way w b first end q (side c (i + 1) m) (side c m e) deep rest
-      way-on c later deep (low, up, small) n next = (
-        fits c,
-        record {
-          from = go c;
-          few = ge c;
-          part = λ t rest u g.
-              let (x, after, s, a) = h .part t rest u g in
-              let k = branch x after u s in
-              let o : side c (i + 1) m - first ≡ i - first + side c 1 (1 + size (k .l)) = gap c (size (k .l)) (k .middle) in
-              (inward s k c, _, branch-child s k c, ap (λ z. standing later z (side c (i + 1) m - first) (inward s k c)) next ∙ ap (λ z. standing later (d + 1) z (inward s k c)) o ∙ sym (branch-on k p d (i - first) c later n) ∙ a);
-        },
-      )
-        where
-          fits : (c : Bool) → side c (i + 1) m ≤ side c m e
-          fits false = low
-          fits true = up
+  pub way-end : 1 ≤ first → p ≡ [] → (f : ℕ) (t : Trie) → Stands w b n f first t → (t ≡ none → ⊥) → 32 * (i - first) + d ≡ standing q 0 0 t
+  way-end one e f t s ne = let (x, a, z) = h .part t (at-stands one s ne) in sym (word-ends p d (i - first) x a e) ∙ z
 
-          go : (c : Bool) → first ≤ side c (i + 1) m
-          go false = omega (arith, h .from)
-          go true = omega (arith, h .from)
+  module _ (ne : wordAt w b i ≡ 0 → ⊥) (c : Bool) (later : Bits) (e : p ≡ c ∷ later) {m : ℕ} (o : m ≡ side c (wordAt w b i % 2) (wordAt w b i / 2)) where
+    pub way-absent : 1 ≤ first → m ≡ 0 → (f : ℕ) (t : Trie) → Stands w b n f first t → (t ≡ none → ⊥) → 17 + d ≡ standing q 0 0 t
+    way-absent one k f t s some =
+        let (x, a, z) = h .part t (at-stands one s some) in
+        let y : 17 + d ≡ absentAt (d + 1) = omega arith in
+        y ∙ sym (word-absent p d (i - first) c later e x a ne (sym o ∙ k)) ∙ z
 
-          ge : (c : Bool) → side c m e ≤ first + 4194304
-          ge false = omega (arith, h .few)
-          ge true = h .few
+    pub way-on : (deep : ℕ) → (m ≡ 0 → ⊥) → deep ≡ d + 1 → Way w b n first q (i + m) deep later
+    way-on deep k up = record {
+      from = omega (arith, h .from);
+      part = λ t g.
+          let (x, a, z) = h .part t g in
+          let (y, s, r) = word-on p d (i - first) c later e x m a ne o k in
+          let u : i + m - first ≡ i - first + m = omega (arith, h .from) in
+          (y, s, ap (λ j. standing later j (i + m - first) y) up ∙ ap (λ j. standing later (d + 1) j y) u ∙ sym r ∙ z);
+    }
 
-          gap : (c : Bool) (n : ℕ) → m ≡ i + 1 + n → side c (i + 1) m - first ≡ i - first + side c 1 (1 + n)
-          gap false n z = omega (arith, h .from)
-          gap true n z = omega (arith, h .from)
+-- Without a root every word is that of an absence at the root.
+pub rooted-none : {w : List ℕ} {b n r : ℕ} (q : Bits) → r ≡ 0 → (t : Trie) → Rooted w b n r t → 16 ≡ standing q 0 0 t
+rooted-none q e t h = rw (h .empty e) (sym (standing-none q 0 0))
 
 -- The eight bits of a byte, from the highest of 128 on.
 pub byte-bits : (v : ℕ) → bitsLeft (record { hi = v * 72057594037927936; lo = 0; len = 8 }) ≡ bits 8 v

@@ -6,13 +6,16 @@
 --   fill g i m          g i, g (i + 1) and so on, m numbers
 --   indexT t            the index of the trie t
 --   isAt w p xs         the words w are xs from place p on
+--   Rooted w b n r t    the trie t is the one whose root has the number r among the n nodes that stand from b on: 0 where it has none
 use mathlib.Core.Bool.{Bool, true, cond, _&&_}
 use mathlib.Core.List.{List, [], _∷_}
+use mathlib.Core.Path.{_≡_}
 use Prim.Native.Nat.{ℕ, zero, suc, _+_, _*_}
 use lib.Dec.{eqb}
 use lib.ListN.{getD}
 use Rattle.nets.specs.Bits.{Bits, bits}
 use Rattle.nets.specs.Tries.{Trie, none, node, size, bare, side}
+use Rattle.nodes.specs.Parse.{Stands}
 
 abbrev pub nodeAt : ℕ → ℕ → ℕ
 nodeAt d r = 32 * r + d
@@ -36,3 +39,7 @@ indexT t = fill (λ v. standing (bits 8 v) 0 0 t) 0 256
 unfoldable pub isAt : List ℕ → ℕ → List ℕ → Bool
 isAt w p [] = true
 isAt w p (x ∷ xs) = eqb (getD w p 0) x && isAt w (p + 1) xs
+
+pub record Rooted (w : List ℕ) (b n r : ℕ) (t : Trie) : Type 0 where
+  pub empty : r ≡ 0 → t ≡ none
+  pub some : (r ≡ 0 → ⊥) → (f : ℕ) × Stands w b n f r t × (t ≡ none → ⊥)

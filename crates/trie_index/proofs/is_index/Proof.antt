@@ -7,10 +7,10 @@ use Rattle.trie_index.proofs.is_index.Statement.{statement}
 use Rattle.trie_index.proofs.is_index.Tie as tie
 
 abbrev Inv-loop : tie.InvT-loop
-Inv-loop w b first end p v₀ v = (v ≤ 256) × Left w b first end p v
+Inv-loop w b n root p v₀ v = (v ≤ 256) × Left w b n root p v
 
 abbrev μ-loop : tie.MeasureT-loop
-μ-loop w b first end p v₀ v = 256 - v
+μ-loop w b n root p v₀ v = 256 - v
 
 pub is-index-spec : {M : Type 1} → statement M
 is-index-spec =
@@ -23,15 +23,12 @@ is-index-spec =
     (λ c. search needs)
     (λ c. search needs)
     (λ c κs. search needs)
-    (λ c κs. let s = c .before .before .before .before .before in ((omega (arith, c .byte-bits .ensures .0), s .pre .0 .0), s .pre .1))
     (λ c.
-    let s = c .before in
-    let l = s .before .before .before in
-    left-off (l .before .loop .inv .1) (l .loop-test .taken) (s .before .byte-bits .ensures .1) (s .stand .ensures) (c .if1 .taken))
+    let l = c .before .before .before in
+    left-off (l .before .loop .inv .1) (l .loop-test .taken) (c .before .word-of .ensures) (c .if1 .taken))
     (λ c. search needs)
     (λ c. search needs)
     (λ c.
-    let s = c .before in
-    let l = s .before .before .before in
-    (omega arith, left-on (l .before .loop .inv .1) (l .loop-test .taken) (s .before .byte-bits .ensures .1) (s .stand .ensures) (c .if1 .left)))
+    let l = c .before .before .before in
+    (omega (arith, l .loop-test .taken), left-on (l .before .loop .inv .1) (l .loop-test .taken) (c .before .word-of .ensures) (c .if1 .left)))
     (λ c. left-end (c .before .loop .inv .1) (c .loop-test .left)))

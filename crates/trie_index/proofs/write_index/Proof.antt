@@ -1,5 +1,4 @@
 -- `write_index` meets its contract. The loop's invariant: what is left to write completes the index. Assumes nothing.
-use mathlib.Core.Path.{_∙_}
 use Prim.Native.Nat.{_-_, _≤_}
 use native.Mathlib.Omega.{arith}
 use borrow.Author.Needs.{needs}
@@ -8,10 +7,10 @@ use Rattle.trie_index.proofs.write_index.Statement.{statement}
 use Rattle.trie_index.proofs.write_index.Tie as tie
 
 abbrev Inv-loop : tie.InvT-loop
-Inv-loop w₀ b first end p v₀ w v = (v ≤ 256) × Writing w₀ b first end p w v
+Inv-loop w₀ b n root p v₀ w v = (v ≤ 256) × Writing w₀ b n root p w v
 
 abbrev μ-loop : tie.MeasureT-loop
-μ-loop w₀ b first end p v₀ w v = 256 - v
+μ-loop w₀ b n root p v₀ w v = 256 - v
 
 pub write-index-spec : {M : Type 1} → statement M
 write-index-spec =
@@ -20,20 +19,18 @@ write-index-spec =
     Inv-loop
     μ-loop
     (λ c. (omega arith, writing-start _ _ _ _ _))
-    (λ c κs. search needs)
     (λ c κs.
-    let l = c .before .before .before in
+    let l = c .before .before in
     let s = l .before .before in
-    ((omega (arith, c .byte-bits .ensures .0), s .pre .0 .0), writing-some (l .loop .inv .1) (s .pre .1)))
+    ((record { low = s .pre .0 .0 .low; few = s .pre .0 .0 .few; long = omega (arith, s .pre .0 .0 .long, l .loop .inv .1 .long) }, c .before .loop-test .taken), writing-some (l .loop .inv .1) (s .pre .1)))
     (λ c. search needs)
     (λ c. search needs)
-    (λ c. let l = c .before .before .before .before in omega (arith, l .loop .inv .1 .long, c .before .before .before .loop-test .taken, l .before .before .pre .0 .1))
+    (λ c. let l = c .before .before .before in omega (arith, l .loop .inv .1 .long, c .before .before .loop-test .taken, l .before .before .pre .0 .1))
     (λ c. search needs)
     (λ c. search needs)
     (λ c.
-    let b = c .before in
-    let t = b .before .before in
+    let t = c .before .before in
     let l = t .before in
-    (omega (arith, t .loop-test .taken), writing-on (l .loop .inv .1) (l .before .before .pre .0 .2) (t .loop-test .taken) (b .byte-bits .ensures .1) (c .stand .ensures)))
+    (omega (arith, t .loop-test .taken), writing-on (l .loop .inv .1) (l .before .before .pre .0 .2) (t .loop-test .taken) (c .word-of .ensures)))
     (λ c. c .before .loop .inv .1 .long)
     (λ c. writing-end (c .before .loop .inv .1) (c .loop-test .left)))
