@@ -13,7 +13,10 @@ use lib.Seq.{drop-cons}
 use borrow.Author.Tests.{le-leb, lt-leb, eq-eqb, ne-eqb, leb-true, eqb-true}
 use Rattle.nets.specs.Bits.{digit}
 use Rattle.nets.proofs.Strings.{and-left, and-right, bool-iff}
+use Rattle.nets.specs.Tries.{Trie, none, trieOf}
 use Rattle.nodes.specs.Words.{put}
+use Rattle.nodes.specs.Parse.{Room}
+use Rattle.trie_index.specs.Index.{indexT, Rooted}
 use Rattle.pool_state.proofs.Kept.{heldL-nil, encL-nil}
 use Rattle.pool_state.specs.Kept.{heldL, indexL}
 use Rattle.pool_state.specs.States.{indexedOf, isSize}
@@ -252,6 +255,20 @@ module _ {sets z left x n : ℕ} (h : Marking sets z left x n) where
   pub marking-fit : left ≤ 0 → eqb x 0 ≡ marksFit sets z
   unfolding marksFit
   marking-fit le = let e : left ≡ 0 = omega arith in rw e at (h .fit)
+
+-- the tag and the index of one empty set: it has no root
+pub blank-rooted : (w : List ℕ) → 64 ≤ length w → Room w 64 0 × ((t : Trie) × Rooted w 64 0 0 t)
+blank-rooted w le = (record { low = omega arith; few = omega arith; long = omega arith }, (none, record { empty = λ e. refl; some = λ ne. absurd (ne refl) }))
+
+pub blank-indexed : (w : List ℕ) (p q x : ℕ) {v : List ℕ} → ((t : Trie) → Rooted (set w p x) 64 0 0 t → v ≡ put (set w p x) q (indexT t)) → v ≡ put (put w p (x ∷ [])) q (indexL [])
+unfolding indexL trieOf
+blank-indexed w p q x f = f none (record { empty = λ e. refl; some = λ ne. absurd (ne refl) }) ∙ ap (λ u. put u q (indexT none)) (set-put w p x)
+
+pub blank-length : (w : List ℕ) (p q x : ℕ) {v : List ℕ} → ((t : Trie) → Rooted (set w p x) 64 0 0 t → v ≡ put (set w p x) q (indexT t)) → length v ≡ length w
+blank-length w p q x f = ap length (blank-indexed w p q x f) ∙ length-put (put w p (x ∷ [])) q (indexL []) ∙ length-put w p (x ∷ [])
+
+pub blank-plain : (w : List ℕ) (p q : ℕ) → set w p 0 ≡ put (put w p (0 ∷ [])) q []
+blank-plain w p q = set-put w p 0 ∙ sym (put-nil (put w p (0 ∷ [])) q)
 
 -- indexes: the tags and indexes of the sets from s on, of which the number x marks those that are indexed
 pub record Indexing (at sets z : ℕ) (w₀ w : List ℕ) (s j x : ℕ) : Type 0 where
