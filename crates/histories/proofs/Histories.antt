@@ -13,7 +13,7 @@ use Rattle.nets.specs.Networks.{width, netBits, inRange, refusalOf}
 use Rattle.nets.specs.declared.Net.{Net}
 use Rattle.pool_state.specs.Kept.{heldL}
 use Rattle.pool_state.specs.States.{SetState, State, held, used, claimed, claimedBut, freeOf, roomOf, admits, isState}
-use Rattle.pool_state.specs.Decode.{leastWords, sound, decode}
+use Rattle.pool_state.specs.Decode.{leastOf, sound, decode}
 use Rattle.pool_state.specs.Rules.{answerOn, Setup, setup, emptyState, layoutNo, Laid, freeRule}
 use Rattle.pool_state.specs.Changes.{setAt, listAt, withSet, fits, changeRules, changeRule, wordsAfter, planRules, relistRules, relistSet, netRules}
 use Rattle.pool_state.proofs.Answered.{leftOn-refused}
@@ -69,7 +69,7 @@ module _ {w : List ℕ} {S : State} (d : decode w ≡ sound S) where
   history-sound (step {cs = cs} {c = c} h o) = outcome-decode (stateFrom S cs) c (history-sound h) o
 
   -- "No call touches words past the smallest buffer."
-  pub history-past : {cs : List Call} {rs : List (ℕ × ℕ)} {v : List ℕ} → History w cs rs v → Past (leastWords (length (S .sets)) (S .nodes)) w v
+  pub history-past : {cs : List Call} {rs : List (ℕ × ℕ)} {v : List ℕ} → History w cs rs v → Past (leastOf S) w v
   history-past begin = past-refl _ w
   history-past (step {cs = cs} {c = c} h o) =
       let n = stateFrom-numbers S cs in
@@ -151,7 +151,7 @@ module _ (S : State) (cs : List Call) where
 -- "IPv6 pool, 100 nodes, shares 40 and 30, limits 60 and 80, both sets empty. On set 1, adding a /59 (60 nodes) is granted; a /60 or /79 instead gets 10, a /80 gets 9. With the
 -- /59 there, set 0 may add a /39; a /40 gets 10."
 abbrev pool100 : State
-pool100 = emptyState (setup 6 2 100 (40 ∷ 30 ∷ []) (60 ∷ 80 ∷ []))
+pool100 = emptyState (setup 6 2 100 (40 ∷ 30 ∷ []) (60 ∷ 80 ∷ []) 0)
 
 abbrev net : ℕ → Net
 net n = record { family = 6; hi = 0; lo = 0; len = n }
