@@ -25,7 +25,7 @@ use Rattle.pool_state.proofs.WithSet.{SamePlan}
 use Rattle.replan.proofs.Outcomes.{mayPlan, replan-exactly}
 use Rattle.histories.specs.Calls.{Relist, Call, add, relist, replan, makePublic, writes, target, argsNo, resultOf, callNo, answerOf, stateAfter, Outcome}
 use Rattle.histories.specs.Histories.{stateFrom, answersFrom, History, begin, step}
-use Rattle.histories.proofs.Step.{callNo-share, callNo-room, stateAfter-plan, stateAfter-lists, stateAfter-marked, outcome-answer, stateAfter-numbers, stateAfter-other, outcome-decode, outcome-past}
+use Rattle.histories.proofs.Step.{callNo-share, callNo-room, stateAfter-plan, stateAfter-lists, stateAfter-marked, outcome-answer, stateAfter-numbers, stateAfter-least, stateAfter-other, outcome-decode, outcome-past}
 
 -- One call from any words.
 
@@ -56,6 +56,12 @@ stateFrom-numbers S (c ∷ cs) =
     let n = stateAfter-numbers (stateFrom S cs) c in
     (n .0 ∙ h .0, n .1 ∙ h .1, n .2 ∙ h .2)
 
+-- its smallest buffer stays
+stateFrom-least : (S : State) (cs : List Call) → leastOf (stateFrom S cs) ≡ leastOf S
+unfolding stateFrom
+stateFrom-least S [] = refl
+stateFrom-least S (c ∷ cs) = stateAfter-least (stateFrom S cs) c ∙ stateFrom-least S cs
+
 -- "Every memory reached from a layout by these calls is sound." It holds the lists that the calls make, and no others. A layout begins a history, where it is granted.
 pub layout-begins : {w v : List ℕ} {p : Setup} {n : ℕ} → Laid w p (0, n) v → decode v ≡ sound (emptyState p)
 layout-begins {w} {p = p} h =
@@ -72,8 +78,7 @@ module _ {w : List ℕ} {S : State} (d : decode w ≡ sound S) where
   pub history-past : {cs : List Call} {rs : List (ℕ × ℕ)} {v : List ℕ} → History w cs rs v → Past (leastOf S) w v
   history-past begin = past-refl _ w
   history-past (step {cs = cs} {c = c} h o) =
-      let n = stateFrom-numbers S cs in
-      past-trans (history-past h) (rw (n .1, n .2) at (outcome-past (stateFrom S cs) c (history-sound h) o))
+      past-trans (history-past h) (rw (stateFrom-least S cs) at (outcome-past (stateFrom S cs) c (history-sound h) o))
 
   module _ {cs : List Call} {rs : List (ℕ × ℕ)} {v : List ℕ} (h : History w cs rs v) where
     -- the rules of a state hold

@@ -49,7 +49,7 @@ module _ (g : ℕ → ℕ) (m from : ℕ) (v : List ℕ) where
     le = omega arith;
     room = rw (length-set u i x) (h .room);
     same = length-set u i x ∙ h .same;
-    rest = set-rest g u i m x lt e ∙ h .rest;
+    rest = (rw (zero-add i, zero-add (i + 1)) at (set-rest g u 0 i m x lt e)) ∙ h .rest;
   }
 
   pub filling-end : (u : List ℕ) (i : ℕ) → Filling g m from v u i → m ≤ i → u ≡ put v from (fill g from (m - from))

@@ -14,7 +14,7 @@ use pool_check::HEAD;
 use pool_check::RECORD;
 ghost use mathlib.Core.Bool.{true};
 ghost use mathlib.Core.Path.{_≡_};
-ghost use Prim.Native.Nat.{_+_, _-_, _/_, _≤_};
+ghost use Prim.Native.Nat.{_+_, _/_, _≤_, _<_};
 ghost use lib.ListN.{length, getD};
 ghost use Rattle.nodes.specs.Words.{put};
 ghost use Rattle.pool_state.specs.Decode.{isHeader};
