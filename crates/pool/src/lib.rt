@@ -46,7 +46,10 @@ pub fn layout(
     if !laying::is_setup(pool.len(), family, sets, nodes, shares, limits, indexed) {
         return Answer::Refused(Refusal::BadSetup);
     }
-    laying::clear(pool, least_words(sets, nodes, laying::count_marks(sets, indexed)));
+    laying::clear(
+        pool,
+        least_words(sets, nodes, laying::count_marks(sets, indexed)),
+    );
     laying::header(pool, family, sets, nodes);
     laying::records(pool, shares, limits);
     laying::indexes(pool, least_words(sets, nodes, 0), sets, indexed);

@@ -244,7 +244,13 @@ fn index_after(w: &[u32], s: usize, j: u32) -> u32
         return WRONG;
     }
     let root = w[HEAD + RECORD * s];
-    if !is_index(w, HEAD + RECORD * (w[2] as usize), w[3], root, least_words(w[2], w[3], j)) {
+    if !is_index(
+        w,
+        HEAD + RECORD * (w[2] as usize),
+        w[3],
+        root,
+        least_words(w[2], w[3], j),
+    ) {
         return WRONG;
     }
     j + 1

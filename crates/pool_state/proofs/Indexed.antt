@@ -68,8 +68,7 @@ areIndexes-is w m s j (x ∷ xs) a b c e =
     let t = eqb (getD w (recordAt s + 4) 0) (tagOf (x .indexed) j) in
     let i = isAt w (m + 256 * j) (indexWords x) in
     let r = areIndexes w m (s + 1) (j + digit (x .indexed)) xs in
-    let f = and-left (t && i) r e in
-    (
+    let f = and-left (t && i) r e in (
       has-word w (recordAt s + 4) (tagOf (x .indexed) j) (omega arith) (eqb-true (getD w (recordAt s + 4) 0) (tagOf (x .indexed) j) (and-left t i f)),
       isAt-has (m + 256 * j) (indexWords x) (omega (arith, length-indexWords x)) (and-right t i f),
       areIndexes-is w m (s + 1) (j + digit (x .indexed)) xs a (omega arith) (omega arith) (and-right (t && i) r e),
@@ -123,8 +122,7 @@ overIndexes-has w m s j (x ∷ xs) b c =
     let i = j + digit (x .indexed) in
     let e = length-overIndexes v m (s + 1) i xs in
     let lu = length-put w p ts in
-    let lv = length-put u q is in
-    (
+    let lv = length-put u q is in (
       has-keep e (λ k lt. getD-overIndexes v m (s + 1) i xs (p + k) (omega arith, λ t a d. omega arith) (omega arith)) (has-put q is (put-has w p ts (omega arith)) (λ k a d f g. omega arith)),
       has-keep e (λ k lt. getD-overIndexes v m (s + 1) i xs (q + k) (omega arith, λ t a d. omega arith) (omega arith)) (put-has u q is (omega arith)),
       overIndexes-has v m (s + 1) i xs (omega arith) (omega arith),

@@ -47,8 +47,7 @@ by-fours-spec =
     let l = t .before in
     let e = l .before in
     let d = e .before in
-    let h = d .before .before .before .before .before .before .before .before .before .pre in
-    (
+    let h = d .before .before .before .before .before .before .before .before .before .pre in (
       seated (h .0) (h .1) (d .before .if1 .left) refl refl (d .if2 .left) (e .if3 .left) (h .2),
       record { queries = t .loop-test .taken; answers = omega (arith, l .loop .inv .same, h .3) },
     ))
