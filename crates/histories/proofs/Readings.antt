@@ -24,6 +24,9 @@ use Rattle.listing.specs.Calls.{listRules, listRule, rowsAfter, placeFrom, noth
 use Rattle.listing.specs.Calls.{foundAs as followsAs}
 use Rattle.listing.specs.declared.From.{From}
 use Rattle.netrows.specs.Rows.{filled, rowRules, rowRule, rowAfter}
+use Rattle.ranges.specs.Addresses.{rangeRows}
+use Rattle.rangelist.specs.Calls.{rangesAt, rangesRules, rangesRule}
+use Rattle.rangelist.specs.Calls.{rowsAfter as rangesAfter}
 use Rattle.walk.specs.Walks.{walkNo}
 use Rattle.walk.specs.Places.{placeRule, nthL, nthRule, lastL, lastRule}
 use Rattle.setfile.specs.Calls.{fileAt, saveRules, saveRule, bytesAfter}
@@ -85,6 +88,12 @@ module _ {w : List ℕ} {S : State} (d : decode w ≡ sound S) {cs : List Call} 
         × (bytesAfter u (decode v) k ≡ cond (eqb (firstNo (saveRules k (length u) now)) 0) (put u 0 (fileAt now k)) u)
     unfolding saveRule bytesAfter
     history-save u = (answer-is _ 0 _, left-is _ u _)
+
+    -- its ranges
+    pub history-ranges : (u : List ℕ) → (rangesRule (decode v) k (length u) ≡ answered (firstNo (rangesRules k (length u) now)) 0 (length (rangesAt now k)))
+        × (rangesAfter u (decode v) k ≡ cond (eqb (firstNo (rangesRules k (length u) now)) 0) (put u 0 (rangeRows (rangesAt now k))) u)
+    unfolding rangesRule rangesAfter
+    history-ranges u = (answer-is _ 0 _, left-is _ u _)
 
     -- one network of it
     pub history-next : (x : From) → nextRule (decode v) k x ≡ answered (firstNo (nextRules k x now)) nothing (followsAs (now .family) (nextL list (placeFrom x)))

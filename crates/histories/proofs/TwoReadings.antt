@@ -21,6 +21,8 @@ use Rattle.listing.specs.Calls.{listRules, listRule, rowsAfter, nothing, nextRu
 use Rattle.listing.specs.declared.From.{From}
 use Rattle.listing.specs.declared.From.the-variants.{Start, Past}
 use Rattle.netrows.specs.Rows.{rowRules, rowRule, rowAfter}
+use Rattle.rangelist.specs.Calls.{rangesAt, rangesRules, rangesRule}
+use Rattle.rangelist.specs.Calls.{rowsAfter as rangesAfter}
 use Rattle.walk.specs.Walks.{walkNo}
 use Rattle.walk.specs.Places.{placeRule, nthL, nthRule, lastL, lastRule}
 use Rattle.setfile.specs.Calls.{saveRules, saveRule, bytesAfter}
@@ -60,6 +62,14 @@ module _ {k : ℕ} {S T : State} (s : SameAt k S T) where
   row-same : (n : ℕ) → rowRules k n S ≡ rowRules k n T
   unfolding rowRules
   row-same n = rw (s .known, sameAt-list s)
+
+  ranges-at : rangesAt S k ≡ rangesAt T k
+  unfolding rangesAt
+  ranges-at = rw (s .family, sameAt-list s)
+
+  ranges-same : (n : ℕ) → rangesRules k n S ≡ rangesRules k n T
+  unfolding rangesRules
+  ranges-same n = rw (s .known, ranges-at)
 
   save-same : (n : ℕ) → saveRules k n S ≡ saveRules k n T
   unfolding saveRules
@@ -124,6 +134,14 @@ module _ {w z : List ℕ} {S T : State} {cs ds : List Call} {rs ss : List (ℕ �
   two-save x = (
     answers here there _ 0 _ (save-same agree (length x)) (rw (agree .family, sameAt-list agree)),
     leaves here there _ x _ (save-same agree (length x)) (rw (agree .family, sameAt-list agree)),
+  )
+
+  pub two-ranges : (x : List ℕ) → (rangesRule (decode u) k (length x) ≡ rangesRule (decode v) k (length x))
+      × (rangesAfter x (decode u) k ≡ rangesAfter x (decode v) k)
+  unfolding rangesRule rangesAfter
+  two-ranges x = (
+    answers here there _ 0 _ (ranges-same agree (length x)) (rw (ranges-at agree)),
+    leaves here there _ x _ (ranges-same agree (length x)) (rw (ranges-at agree)),
   )
 
   pub two-next : (x : From) → nextRule (decode u) k x ≡ nextRule (decode v) k x
