@@ -4,6 +4,7 @@ pub mod Histories
 pub mod TwoHistories
 pub mod Readings
 pub mod TwoReadings
+pub mod Queries
 pub mod Public
 pub mod InnerTexts
 pub mod MergeOrder

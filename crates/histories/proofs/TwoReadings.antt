@@ -33,7 +33,7 @@ use Rattle.histories.proofs.Histories.{history-sound}
 use Rattle.histories.proofs.TwoHistories.{same-after, two-reports}
 
 -- the test of a walk is that of the other calls, turned round
-ltb-leb : (m n : ℕ) → ltb m n ≡ not (leb n m)
+pub ltb-leb : (m n : ℕ) → ltb m n ≡ not (leb n m)
 ltb-leb m n = go (leb n m) refl
   where
     go : (b : Bool) → leb n m ≡ b → ltb m n ≡ not b
