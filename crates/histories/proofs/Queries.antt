@@ -4,8 +4,9 @@ use mathlib.Core.Bool.{Bool, true, false, not, cond}
 use mathlib.Core.List.{List, [], _∷_}
 use mathlib.Core.Path.{_≡_, refl, ap, ap₂, sym, _∙_}
 use Prim.Native.Nat.{ℕ, zero, suc, _+_, _/_}
-use lib.Dec.{eqb, leb}
+use lib.Dec.{eqb, leb, ltb}
 use lib.ListN.{length}
+use borrow.Author.Tests.{leb-true, leb-false, le-ltb, lt-ltb}
 use Rattle.nets.specs.Lists.{containsL, stepsL}
 use Rattle.nets.specs.Networks.{netBits, hasBitPast}
 use Rattle.nets.specs.Refusals.{answered, Rule, firstNo}
@@ -24,11 +25,19 @@ use Rattle.histories.specs.Histories.{stateFrom, History, callsOn, AllAl
 use Rattle.histories.proofs.Histories.{history-sound}
 use Rattle.histories.proofs.TwoHistories.{same-after}
 use Rattle.histories.proofs.Readings.{history-contains}
-use Rattle.histories.proofs.TwoReadings.{ltb-leb, two-contains}
+use Rattle.histories.proofs.TwoReadings.{two-contains}
 
 -- the rules on a sound pool: 3 no such set, 6 another family, 11 fewer numbers for the answers than there are queries
 abbrev pub allRules : ℕ → ℕ → List ℕ → ℕ → State → List Rule
 allRules k f qs n S = unknown S k ∷ (not (eqb f (S .family)), WrongFamily) ∷ short (length qs / 3) n ∷ []
+
+-- the test of a set and that of a buffer, turned round
+ltb-leb : (m n : ℕ) → ltb m n ≡ not (leb n m)
+ltb-leb m n = go (leb n m) refl
+  where
+    go : (b : Bool) → leb n m ≡ b → ltb m n ≡ not b
+    go true e = le-ltb m n (leb-true n m e)
+    go false e = lt-ltb m n (leb-false n m e)
 
 allNo-sound : (w : List ℕ) (S : State) → decode w ≡ sound S → (k f : ℕ) (qs : List ℕ) (n : ℕ) → allNo w k f qs n ≡ firstNo (allRules k f qs n S)
 unfolding allNo onRoot

@@ -27,7 +27,6 @@ use Rattle.netrows.specs.Rows.{filled, rowRules, rowRule, rowAfter}
 use Rattle.ranges.specs.Addresses.{rangeRows}
 use Rattle.rangelist.specs.Calls.{rangesAt, rangesRules, rangesRule}
 use Rattle.rangelist.specs.Calls.{rowsAfter as rangesAfter}
-use Rattle.walk.specs.Walks.{walkNo}
 use Rattle.walk.specs.Places.{placeRule, nthL, nthRule, lastL, lastRule}
 use Rattle.setfile.specs.Calls.{fileAt, saveRules, saveRule, bytesAfter}
 use Rattle.histories.specs.Calls.{Call}
@@ -100,14 +99,14 @@ module _ {w : List ℕ} {S : State} (d : decode w ≡ sound S) {cs : List Call} 
     unfolding nextRule
     history-next x = answer-is _ nothing _
 
-    place-is : (f : List Bits → Found) → placeRule f (decode v) k ≡ answered (walkNo (sound now) k) nothing (followsAs (now .family) (f list))
+    place-is : (f : List Bits → Found) → placeRule f (decode v) k ≡ answered (firstNo (unknown now k ∷ [])) nothing (followsAs (now .family) (f list))
     unfolding placeRule
-    place-is f = rw holds
+    place-is f = answer-is _ nothing _
 
-    pub history-nth : (i : ℕ) → nthRule (decode v) k i ≡ answered (walkNo (sound now) k) nothing (followsAs (now .family) (nthL list i))
+    pub history-nth : (i : ℕ) → nthRule (decode v) k i ≡ answered (firstNo (unknown now k ∷ [])) nothing (followsAs (now .family) (nthL list i))
     history-nth i = place-is (λ l. nthL l i)
 
-    pub history-last : lastRule (decode v) k ≡ answered (walkNo (sound now) k) nothing (followsAs (now .family) (lastL list))
+    pub history-last : lastRule (decode v) k ≡ answered (firstNo (unknown now k ∷ [])) nothing (followsAs (now .family) (lastL list))
     history-last = place-is lastL
 
     -- and the list of another set
