@@ -2,27 +2,28 @@
 -- an empty set cover their addresses and no others, whatever calls stand between; simplified, that is one list. Assumes nothing.
 use mathlib.Core.Path.{_≡_, refl, sym, ap, _∙_}
 use mathlib.Core.Bool.{Bool, true, false, _||_, or-comm, false≢true}
-use mathlib.Core.List.{List, [], _∷_, map, List·Memᴰ, List·Memᴰ·head, List·Memᴰ·tail}
+use mathlib.Core.List.{List, [], _∷_, map, List·Memᴰ, List·Memᴰ·head, List·Memᴰ·tail, List·Memᴰ·not-nil}
 use mathlib.Core.Logic.{_↔_, _⊎_, inl, inr}
-use Prim.Native.Nat.{ℕ, _+_, _*_, _^_, _≤_, _<_}
+use Prim.Native.Nat.{ℕ, zero, suc, _+_, _*_, _^_, _≤_, _<_}
 use native.Mathlib.Decide.{decLt}
 use native.Mathlib.Omega.{arith}
-use lib.Dec.{eqb}
-use lib.ListN.{length}
-use borrow.Author.Tests.{eqb-true, eqb-false, lt-ltb}
+use lib.Dec.{eqb, leb, ltb}
+use lib.ListN.{length, drop}
+use borrow.Author.Tests.{ltb-true, leb-true, eqb-true, eqb-false, lt-ltb, le-ltb, le-leb, eq-eqb}
 use Rattle.nets.specs.Bits.{Bits, val, before, bits}
 use Rattle.nets.specs.Tries.{levels, listOf, insertT, trieOf, simplifyT}
 use Rattle.nets.specs.Lists.{covers, isList, nodesL, addL, removeL, simplifyL}
 use Rattle.nets.specs.Networks.{width, netBits, inRange, refusalOf}
+use Rattle.nets.specs.Refusals.{firstNo}
 use Rattle.nets.specs.declared.Net.{Net}
-use Rattle.nets.proofs.Strings.{bool-iff}
+use Rattle.nets.proofs.Strings.{and-left, and-right, bool-iff}
 use Rattle.nets.proofs.Order.{val-high}
 use Rattle.nets.proofs.Numbers.{bits-val}
 use Rattle.nets.proofs.TrieOf.{isList-within}
 use Rattle.nets.proofs.Fewest.{covers-same}
 use Rattle.nodes.specs.Words.{put}
 use Rattle.address_order.specs.Streams.{inAddressOrder, putInOrder}
-use Rattle.ranges.specs.Ranges.{Range, holds, inSome, blockOf, joined, rangesOf, Covering}
+use Rattle.ranges.specs.Ranges.{Range, holds, inSome, spaced, blockOf, joined, rangesOf, Covering}
 use Rattle.ranges.specs.Blocks.{partOf, rangeT, netsOf, addAll, addRangeL}
 use Rattle.ranges.specs.Addresses.{rangeRows}
 use Rattle.ranges.proofs.OfRanges.{covers-addRange}
@@ -38,7 +39,7 @@ use Rattle.pool_state.specs.declared.Answer.the-variants.{Granted}
 use Rattle.pool_state.proofs.Claims.{isList-listAt}
 use Rattle.pool_state.proofs.Decoded.{decode-state}
 use Rattle.rangelist.specs.Calls.{rangesAt, Ranges}
-use Rattle.rangelist.proofs.Outcomes.{ranges-noset, ranges-small, ranges-rows, own-covering}
+use Rattle.rangelist.proofs.Outcomes.{ranges-noset, ranges-small, ranges-rows, own-covering, own-spaced}
 use Rattle.histories.specs.Calls.{Relist, Call, add, remove, simplify, addRange, relist, replan, makePublic, writes, resultOf, stateAfter, Outcome}
 use Rattle.histories.specs.Histories.{stateFrom, answersFrom, History, begin, step}
 use Rattle.histories.specs.Imports.{spansIn, grantedOn}
@@ -126,7 +127,8 @@ exported : {w : List ℕ} {S : State} → decode w ≡ sound S → (k : ℕ) {v 
     → (k < length (S .sets)) × (map rangeOf (spansIn (S .family) n u) ≡ rangesAt S k)
 exported {w} {S} d k {v} {u} {n} r = go (decLt k (length (S .sets))) (decLt (length v) (4 * length (rangesAt S k)))
   where
-    go : Dec (k < length (S .sets)) → Dec (length v < 4 * length (rangesAt S k)) → (k < length (S .sets)) × (map rangeOf (spansIn (S .family) n u) ≡ rangesAt S k)
+    go : Dec (k < length (S .sets)) → Dec (length v < 4 * length (rangesAt S k))
+        → (k < length (S .sets)) × (map rangeOf (spansIn (S .family) n u) ≡ rangesAt S k)
     go (no ge) b = let e = ranges-noset r S d (omega arith) .0 in let q : _≡_ {A = ℕ} 0 1 = cc in absurd (omega arith)
     go (yes lt) (yes less) = let e = ranges-small r S d lt less .0 in let q : _≡_ {A = ℕ} 0 1 = cc in absurd (omega arith)
     go (yes lt) (no ge) =
@@ -153,9 +155,44 @@ module _ (a : ℕ) where
   inSome-same : (ps qs : List Span) → ((p : Span) → List·Memᴰ p ps ↔ List·Memᴰ p qs) → inSome (map rangeOf ps) a ≡ inSome (map rangeOf qs) a
   inSome-same ps qs m = bool-iff (inSome (map rangeOf ps) a) (inSome (map rangeOf qs) a) (inSome-all ps qs (λ p. m p .0)) (inSome-all qs ps (λ p. m p .1))
 
--- "Ranges of an exported set, imported unrefused into an empty set and simplified, give the simplified list." Export set k of any sound words w; take the ranges
--- that the rows now have, in any order, into an empty set x of any sound words z of the family, the same pool or another, each granted; simplify. Any other calls
--- may stand between, granted on other sets or refused.
+-- An import of what was exported is never refused for its range: the family is the pool's, both ends are addresses, and the first is not above the last. Mark,
+-- limit and room are left.
+spaced-first : (rs : List Range) → spaced rs ≡ true → (r : Range) → List·Memᴰ r rs → r .first ≤ r .last
+unfolding spaced
+spaced-first (s ∷ []) e r (List·Memᴰ·head q) = rw q (leb-true (s .first) (s .last) e)
+spaced-first (s ∷ []) e r (List·Memᴰ·tail m) = absurd (List·Memᴰ·not-nil m)
+spaced-first (s ∷ t ∷ rs) e r (List·Memᴰ·head q) = rw q (leb-true (s .first) (s .last) (and-left (leb (s .first) (s .last)) _ e))
+spaced-first (s ∷ t ∷ rs) e r (List·Memᴰ·tail m) =
+    spaced-first (t ∷ rs) (and-right (ltb (suc (s .last)) (t .first)) _ (and-right (leb (s .first) (s .last)) _ e)) r m
+
+family-spans : (f n : ℕ) (u : List ℕ) (p : Span) → List·Memᴰ p (spansIn f n u) → p .family ≡ f
+unfolding spansIn
+family-spans f zero u p m = absurd (List·Memᴰ·not-nil m)
+family-spans f (suc n) u p (List·Memᴰ·head e) = ap (λ (s : Span). s .family) e
+family-spans f (suc n) u p (List·Memᴰ·tail m) = family-spans f n (drop 4 u) p m
+
+range-in : (ps : List Span) (p : Span) → List·Memᴰ p ps → List·Memᴰ (rangeOf p) (map rangeOf ps)
+range-in (q ∷ ps) p (List·Memᴰ·head e) = List·Memᴰ·head (ap rangeOf e)
+range-in (q ∷ ps) p (List·Memᴰ·tail m) = List·Memᴰ·tail (range-in ps p m)
+
+pub exported-right : {w : List ℕ} {S : State} → decode w ≡ sound S → (k : ℕ) {v u : List ℕ} {n : ℕ} → Ranges w k v (Granted n) u
+    → (T : State) → T .family ≡ S .family → (p : Span) → List·Memᴰ p (spansIn (S .family) n u) → firstNo (spanRules p T) ≡ 0
+unfolding spanRules isSpan
+exported-right {w} {S} d k {v} {u} {n} r T fam p m =
+    let (lt, rows) = exported d k r in
+    let f = S .family in
+    let own = family-spans f n u p m in
+    let le = spaced-first (rangesAt S k) (own-spaced w S k d lt) (rangeOf p) (rw rows at (range-in (spansIn f n u) p m)) in
+    let a = rangeOf p .first in
+    let b = rangeOf p .last in
+    let last : holds (rangeOf p) b ≡ true = rw (le-leb a b le, le-leb b b (omega arith)) in
+    let some = rw rows at (inSome-one b p (spansIn f n u) m last) in
+    let high = ltb-true b (2 ^ width f) (and-left _ _ (sym (own-covering w S k d lt b) ∙ some)) in
+    rw (own, fam, eq-eqb f f refl, lt-ltb a (2 ^ width f) (omega arith), lt-ltb b (2 ^ width f) high, le-ltb b a le)
+
+-- "Ranges of an exported set, imported unrefused into an empty set and simplified, give the simplified list." Export set k of any sound words w; take the
+-- ranges that the rows now have, in any order, into an empty set x of any sound words z of the family, the same pool or another, each granted; simplify. Any
+-- other calls may stand between, granted on other sets or refused.
 pub history-round-trip : {w : List ℕ} {S : State} → decode w ≡ sound S → (k : ℕ) {v u : List ℕ} {n : ℕ} → Ranges w k v (Granted n) u
     → {z : List ℕ} {T : State} → decode z ≡ sound T → T .family ≡ S .family → (x : ℕ) → listAt T x ≡ []
     → {cs : List Call} {rs : List (ℕ × ℕ)} {y : List ℕ} → History z cs rs y → (ps : List Span) → grantedOn x cs rs ≡ simplify x ∷ map (addRange x) ps
