@@ -4,7 +4,6 @@ use mathlib.Core.Path.{_≡_, refl, sym, ap, _∙_}
 use mathlib.Core.Bool.{true, cond}
 use mathlib.Core.List.{List, [], _∷_}
 use Prim.Native.Nat.{ℕ, _+_, _≤_, _<_}
-use native.Mathlib.Omega.{arith}
 use lib.ListN.{length}
 use borrow.Author.Tests.{lt-ltb, le-ltb}
 use Rattle.nets.specs.Bits.{before, bits}
@@ -12,7 +11,7 @@ use Rattle.nets.specs.Lists.{nodesL, isList, addL}
 use Rattle.nets.specs.Networks.{width, netBits, inRange, refusalOf}
 use Rattle.nets.specs.declared.Net.{Net}
 use Rattle.pool_state.specs.Kept.{heldL}
-use Rattle.pool_state.specs.States.{SetState, State, held, used, claimed, claimedBut, freeOf, roomOf, admits, isState}
+use Rattle.pool_state.specs.States.{State, held, used, claimed, claimedBut, freeOf, roomOf, admits, isState}
 use Rattle.pool_state.specs.Decode.{leastOf, sound, decode}
 use Rattle.pool_state.specs.Rules.{answerOn, Setup, setup, emptyState, layoutNo, Laid, freeRule}
 use Rattle.pool_state.specs.Changes.{setAt, listAt, withSet, fits, changeRules, changeRule, wordsAfter, planRules, relistRules, relistSet, netRules}

@@ -46,11 +46,11 @@ module _ {z : List ℕ} {S : State} (d : decode z ≡ sound S) where
     number-is : callNo (stateFrom S cs) c ≡ r .0
     number-is = sym (ap (λ a. a .0) (history-answer d h c o))
 
-    refused-state : (r .0 ≡ 0 → ⊥) → stateFrom S (c ∷ cs) ≡ stateFrom S cs
+    pub refused-state : (r .0 ≡ 0 → ⊥) → stateFrom S (c ∷ cs) ≡ stateFrom S cs
     unfolding stateFrom stateAfter
     refused-state ne = rw (ne-eqb (callNo (stateFrom S cs) c) 0 (λ q. ne (sym number-is ∙ q)))
 
-  granted-list : {cs : List Call} {rs : List (ℕ × ℕ)} {w v : List ℕ} (c : Relist) → History z cs rs w → {r : ℕ × ℕ} → Outcome w (relist c) r v → r .0 ≡ 0
+  pub granted-list : {cs : List Call} {rs : List (ℕ × ℕ)} {w v : List ℕ} (c : Relist) → History z cs rs w → {r : ℕ × ℕ} → Outcome w (relist c) r v → r .0 ≡ 0
       → listAt (stateFrom S (relist c ∷ cs)) (writes c) ≡ resultOf c (stateFrom S cs)
   unfolding stateFrom
   granted-list {cs} c h o q =

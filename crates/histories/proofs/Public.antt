@@ -12,13 +12,13 @@ use Rattle.nets.specs.Bits.{Bits, before, bits}
 use Rattle.nets.specs.Tries.{levels, listOf, insertT, trieOf, simplifyT}
 use Rattle.nets.specs.Lists.{nodesL, covers, addL, removeL, simplifyL, mergeL, intersectL, differenceL, excludeL}
 use Rattle.nets.specs.Networks.{width, netBits, inRange, refusalOf}
-use Rattle.nets.specs.Refusals.{Rule, firstNo}
+use Rattle.nets.specs.Refusals.{firstNo}
 use Rattle.nets.specs.declared.Net.{Net}
 use Rattle.nets.specs.declared.Refusal.the-variants.{OverLimit, NoRoom, NotPublic}
 use Rattle.inner_nets.specs.Inner.{overlaps, innerNets4, innerNets, inner, isPublic}
 use Rattle.inner_nets.proofs.Addresses.{isPublic-apart}
 use Rattle.pool_state.specs.Kept.{heldL}
-use Rattle.pool_state.specs.States.{SetState, State, claimed, claimedBut, roomOf, admits, isState}
+use Rattle.pool_state.specs.States.{SetState, State, claimed, claimedBut, roomOf, admits}
 use Rattle.pool_state.specs.Decode.{sound, decode}
 use Rattle.pool_state.specs.Rules.{setup, emptyState}
 use Rattle.pool_state.specs.Changes.{setAt, listAt, withSet, fits, changeRules, planRules, markRules, relistRules, relistSet, netRules}

@@ -23,7 +23,7 @@ ghost use Rattle.nodes.specs.Words.{put};
 ghost use Rattle.setfile_format.specs.Files.{fileBytes};
 ghost use Rattle.setfile_range.specs.Edges.{opened, asideOf, asides, On, Fits, Lays, Both, Edges, Rangeable, rangeFile};
 
-pub mod edges;
+mod edges;
 
 // The bytes of the largest file of a range: 254 networks of IPv6.
 pub const BYTES: usize = 4334;

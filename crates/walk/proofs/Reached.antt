@@ -6,7 +6,7 @@ use mathlib.Core.Logic.{inl, inr}
 use Prim.Native.Nat.{ℕ, zero, suc, _-_, _≤_, _<_}
 use native.Mathlib.Omega.{arith}
 use denote.Ref.{RefT, now}
-use lib.Dec.{ltb}
+use lib.Dec.{leb}
 use lib.ListN.{length}
 use borrow.Author.Tests.{ne-eqb}
 use Rattle.nets.specs.Bits.{Bits}
@@ -16,6 +16,7 @@ use Rattle.nets.specs.Refusals.{answered}
 use Rattle.nets.specs.declared.Net.{Net}
 use Rattle.nets.specs.declared.Refusal.the-variants.{Damaged, NoSet}
 use Rattle.pool_state.specs.Decode.{Decoded, damaged, sound, decode}
+use Rattle.pool_state.specs.Rules.{answerOn}
 use Rattle.listing.specs.Calls.{nothing, foundAs, followerAs}
 use Rattle.listing.specs.declared.Follower.{Follower}
 use Rattle.listing.specs.declared.Follower.the-variants.{Network, End, Refused}
@@ -65,18 +66,18 @@ module _ (b : Bool) (n : Net) (x : ℕ) where
 is-no : (d : Decoded) (k : ℕ) → IsNo (walkNo d k)
 unfolding walkNo
 is-no damaged k = inr (inl refl)
-is-no (sound S) k = go (ltb k (length (S .sets)))
+is-no (sound S) k = go (leb (length (S .sets)) k)
   where
-    go : (b : Bool) → IsNo (cond b 0 3)
-    go true = inl refl
-    go false = inr (inr refl)
+    go : (b : Bool) → IsNo (cond b 3 0)
+    go true = inr (inr refl)
+    go false = inl refl
 
 rule-is : (f : List Bits → Found) (d : Decoded) (k : ℕ) → placeRule f d k ≡ answered (walkNo d k) nothing (foundAs (seatIn d k .family) (f (listIn d k)))
-unfolding placeRule walkNo seatIn listIn
+unfolding placeRule answerOn walkNo seatIn listIn
 rule-is f damaged k = refl
-rule-is f (sound S) k = go (ltb k (length (S .sets))) refl
+rule-is f (sound S) k = go (leb (length (S .sets)) k) refl
   where
-    go : (b : Bool) → ltb k (length (S .sets)) ≡ b → placeRule f (sound S) k ≡ answered (walkNo (sound S) k) nothing (foundAs (seatIn (sound S) k .family) (f (listIn (sound S) k)))
+    go : (b : Bool) → leb (length (S .sets)) k ≡ b → placeRule f (sound S) k ≡ answered (walkNo (sound S) k) nothing (foundAs (seatIn (sound S) k .family) (f (listIn (sound S) k)))
     go true e = rw e
     go false e = rw e
 

@@ -18,7 +18,8 @@ use Rattle.nets.specs.Bits.{Bits}
 use Rattle.nets.specs.Lists.{Found, found, missing}
 use Rattle.nets.specs.Refusals.{answered}
 use Rattle.nets.specs.declared.Net.{Net}
-use Rattle.pool_state.specs.Decode.{Decoded, damaged, sound}
+use Rattle.pool_state.specs.Decode.{Decoded}
+use Rattle.pool_state.specs.Rules.{answerOn, unknown}
 use Rattle.pool_state.specs.Changes.{listAt}
 use Rattle.listing.specs.Calls.{nothing, foundAs}
 use Rattle.trie_next.specs.Spots.{beforeAll, goneOn}
@@ -38,8 +39,7 @@ lastL (p ∷ []) = found p
 lastL (p ∷ q ∷ l) = lastL (q ∷ l)
 
 unfoldable pub placeRule : (List Bits → Found) → Decoded → ℕ → ℕ × (Bool × Net)
-placeRule f damaged k = (2, nothing)
-placeRule f (sound S) k = answered (walkNo (sound S) k) nothing (foundAs (S .family) (f (listAt S k)))
+placeRule f d k = answerOn d (λ S. unknown S k ∷ []) nothing (λ S. foundAs (S .family) (f (listAt S k)))
 
 abbrev pub nthRule : Decoded → ℕ → ℕ → ℕ × (Bool × Net)
 nthRule d k i = placeRule (λ l. nthL l i) d k
