@@ -17,7 +17,7 @@ use pool_check::RECORD;
 use pool_state::Answer;
 use pool_state::Survey;
 use pool_state::Verdict;
-use trie_emit::combining::emit;
+use trie_combine::combining::emit;
 use trie_emit::combining::op_size;
 use trie_emit::emitting::end_of;
 use trie_emit::emitting::settle;

@@ -1,0 +1,136 @@
+-- What was written of a trie, told by its nodes: the same as its answer, a block as it stands, and a node over one half or both. Assumes nothing.
+use mathlib.Core.Bool.{Bool, true, false, cond, true≢false}
+use mathlib.Core.List.{List, [], _∷_, append-nil}
+use mathlib.Core.Path.{_≡_, refl, sym, ap, _∙_}
+use Prim.Native.Nat.{ℕ, _+_, _-_, _≤_, _<_, _^_}
+use native.Mathlib.Omega.{arith}
+use lib.ListN.{length, take, drop}
+use Rattle.nets.specs.Tries.{Trie, none, node, leaf, size, isNone, bare, side, glue}
+use Rattle.nets.specs.TrieOps.{mixed, kindOf, rejoin}
+use Rattle.nodes.specs.Words.{put, place, word, link0, link1, enc}
+use Rattle.nodes.proofs.Chains.{word-only}
+use Rattle.nodes.proofs.Has.{has-seg}
+use Rattle.nodes.proofs.Put.{put-nil, put-before-at, length-put}
+use Rattle.nodes.proofs.Segments.{none-is}
+use Rattle.nodes.proofs.Tries.{length-enc, enc-node}
+use Rattle.trie_emit.specs.Answers.{answer, body, Emits, endOf, restOf, Both, Pending}
+use Rattle.trie_emit.specs.Combine.{Here, Gap}
+use Rattle.trie_emit.specs.declared.emitting.Emitted.{Emitted}
+use Rattle.trie_emit.specs.declared.emitting.Emitted.the-variants.{Empty, Full, Node}
+use Rattle.trie_emit.proofs.Answers.{end-is, full-size, settled}
+use Rattle.trie_blocks.proofs.Blocks.{size-one, size-more, answer-mixed, body-mixed}
+use Rattle.trie_combine.specs.Extents.{Span, Writes, Halves, Only}
+
+-- The answer by the nodes.
+module _ (o : ℕ) (t : Trie) where
+  pub answer-none : size t ≡ 0 → Empty ≡ answer o t
+  unfolding answer
+  answer-none e = rw (none-is t e)
+
+  pub answer-leaf : size t ≡ 1 → Full ≡ answer o t
+  unfolding answer
+  answer-leaf e = rw (size-one t e)
+
+  pub answer-more : (n : ℕ) → n ≡ size t → (n ≡ 0 → ⊥) → (n ≡ 1 → ⊥) → Node (o + n) ≡ answer o t
+  answer-more n e f h = rw e (sym (answer-mixed o t (size-more t (omega arith))))
+
+pub emits : {w v : List ℕ} {b o n : ℕ} {t : Trie} → Writes w v b o n t → Emits w v b o (answer o t) t
+emits h = record { answers = refl; wrote = h .wrote }
+
+pub writes : {w v : List ℕ} {b o n : ℕ} {x : Emitted} {t : Trie} → Emits w v b o x t → n ≡ size t → Writes w v b o n t
+writes h e = record { counts = e; wrote = h .wrote }
+
+-- Nothing is written of few nodes.
+body-few : (t : Trie) → size t < 2 → body t ≡ []
+unfolding body size
+body-few none h = refl
+body-few (node none none) h = refl
+body-few (node none (node x y)) h = absurd (omega arith)
+body-few (node (node x y) r) h = absurd (omega arith)
+
+pub writes-few : (w : List ℕ) (b o n : ℕ) (t : Trie) → n ≡ size t → n < 2 → Writes w w b o n t
+writes-few w b o n t e h = record { counts = e; wrote = sym (rw (body-few t (omega arith)) (put-nil w (place b o))) }
+
+-- A block.
+module _ {w : List ℕ} {b i e o g : ℕ} (t : Trie) (s : Span w b o g i e t) (p : Gap w b o g t) where
+  pub block-nodes : e - i ≡ size t
+  block-nodes = omega (arith, s .end)
+
+  module _ (n : ℕ) (q : n ≡ e - i) (more : 2 ≤ n) where
+    there : (t : Trie) → 2 ≤ size t → (isNone t ≡ false → Here w b o g i t) → Here w b o g i t
+    unfolding size
+    there none h f = absurd (omega arith)
+    there (node l r) h f = f refl
+
+    block-here : Here w b o g i t
+    block-here = there t (omega (arith, block-nodes)) (s .here)
+
+    block-kind : kindOf t ≡ mixed
+    block-kind = size-more t (omega (arith, block-nodes))
+
+    pub block-fits : (1 ≤ i) × (1 ≤ o) × (place b i + n ≤ length w) × (place b o + n ≤ length w)
+    block-fits =
+        let h = block-here in
+        let f = p .fits block-kind in
+        (h .one, p .one, omega (arith, h .has .fits, length-enc t, block-nodes), omega (arith, p .room, p .one, block-nodes))
+
+    pub block-put : (v : List ℕ) → v ≡ put w (place b o) (take n (drop (place b i) w)) → Writes w v b o n t
+    block-put v h =
+        let m : n ≡ length (enc t) = omega (arith, length-enc t, block-nodes) in
+        record { counts = omega (arith, block-nodes); wrote = h ∙ rw (body-mixed t block-kind) (rw m (rw (has-seg (block-here .has)))) }
+
+-- A node over one half.
+is-some : (t : Trie) → (size t ≡ 0 → ⊥) → isNone t ≡ false
+unfolding size
+is-some none f = absurd (f refl)
+is-some (node l r) f = refl
+
+pub only-node : (d : Bool) (t : Trie) → isNone t ≡ false → (size (rejoin d t none) ≡ 1 + size t) × (body (rejoin d t none) ≡ side d 1 2 ∷ enc t) × (kindOf (rejoin d t none) ≡ mixed)
+unfolding size body enc word link0 link1
+only-node d none e = absurd (true≢false e)
+only-node false (node x y) e = (omega arith, ap (λ z. 1 ∷ z) (append-nil (enc (node x y))), refl)
+only-node true (node x y) e = (omega arith, refl, refl)
+
+module _ {v w : List ℕ} {b o x n : ℕ} {d : Bool} {t : Trie} (h : Only v w b o x n d t) where
+  pub above-none : n ≡ 0 → Writes v w b o 0 (rejoin d t none)
+  unfolding body size
+  above-none e = go d (none-is t (omega (arith, h .counts))) (h .wrote)
+    where
+      go : (d : Bool) → t ≡ none → w ≡ put v (place b (o + 1)) (body t) → Writes v w b o 0 (rejoin d t none)
+      go false q p = rw q (record { counts = refl; wrote = rw q at p ∙ put-nil v (place b (o + 1)) ∙ sym (put-nil v (place b o)) })
+      go true q p = rw q (record { counts = refl; wrote = rw q at p ∙ put-nil v (place b (o + 1)) ∙ sym (put-nil v (place b o)) })
+
+  pub above-word : x < 4294967296
+  above-word = go d (h .word)
+    where
+      go : (d : Bool) → x ≡ side d 1 2 → x < 4294967296
+      go false e = omega arith
+      go true e = omega arith
+
+  module _ (f : n ≡ 0 → ⊥) where
+    some-t : isNone t ≡ false
+    some-t = is-some t (λ e. f (omega (arith, h .counts)))
+
+    pub above-fits : (place b (o + 1) < length w) × (place b o < length w)
+    above-fits = omega (arith, h .room some-t, h .one, h .counts)
+
+    pub above-stays : (w₁ xs : List ℕ) → w₁ ≡ put w (place b (o + 1)) xs → place b o < length w₁
+    above-stays w₁ xs e = rw (e, length-put w (place b (o + 1)) xs) (above-fits .1)
+
+    pub above-put : (y : Emitted) (w₁ w₂ : List ℕ) → y ≡ answer (o + 1) t → w₁ ≡ put w (place b (o + 1)) (restOf y) → w₂ ≡ put w₁ (place b o) (x ∷ []) → Writes v w₂ b o (n + 1) (rejoin d t none)
+    above-put y w₁ w₂ a e₁ e₂ =
+        let k = only-node d t some-t in
+        let all = settled (record { answers = a; wrote = h .wrote }) e₁ in
+        record {
+          counts = omega (arith, k .0, h .counts);
+          wrote = rw (k .1, e₂, all, h .word) (put-before-at v (place b o) (place b (o + 1)) (side d 1 2 ∷ []) (enc t) (omega (arith, h .one)));
+        }
+
+-- A node over both.
+module _ {v w : List ℕ} {b : ℕ} {j : Bool} {o l r : ℕ} {t u : Trie} (h : Halves v w b j o l r t u) (x y : Emitted) (first : (s : Trie) → l ≡ size s → x ≡ answer (o + 1) s)
+    (second : (s : Trie) → r ≡ size s → y ≡ answer (o + 1 + l) s) where
+  pub halves-pending : Pending v w b j o x y t u
+  halves-pending =
+      let q = second u (h .second) in
+      let p = h .pending in
+      rw (first t (h .first), rw (h .first) at q) p
