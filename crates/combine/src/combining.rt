@@ -18,7 +18,7 @@ use pool_state::Answer;
 use pool_state::Survey;
 use pool_state::Verdict;
 use trie_combine::combining::emit;
-use trie_emit::combining::op_size;
+use trie_combine::counting::op_size;
 use trie_emit::emitting::end_of;
 use trie_emit::emitting::settle;
 use trie_meets::combined::op_is_clear;

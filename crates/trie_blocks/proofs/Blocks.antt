@@ -24,7 +24,7 @@ segment-block : {w : List ℕ} {b i e u : ℕ} {t : Trie} {rest : List ℕ} → 
 segment-block {t = t} {rest = rest} g = record { has = has-front (enc t) rest (g .has); one = g .one; end = g .end }
 
 -- A trie by its nodes.
-some-child : (l r : Trie) → bare l r ≡ false → 1 ≤ size l + size r
+pub some-child : (l r : Trie) → bare l r ≡ false → 1 ≤ size l + size r
 unfolding size
 some-child none none e = absurd (true≢false e)
 some-child none (node c d) e = omega arith

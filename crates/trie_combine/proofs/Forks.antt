@@ -19,7 +19,7 @@ use Rattle.trie_emit.proofs.Combine.{rank-mixed}
 use Rattle.trie_combine.specs.Extents.{Span, Extents, Writes, Only}
 use Rattle.trie_combine.proofs.Spans.{number-span, Fork, fork-of, fork-fits, fork-word, fork-half, fork-left, fork-right}
 use Rattle.trie_combine.proofs.Answered.{only-node}
-use Rattle.trie_combine.proofs.Halving.{Parts, side-extents, step}
+use Rattle.trie_combine.proofs.Halving.{Parts, part-few, side-extents, step}
 
 pub record Forks (w : List ℕ) (b a ea c ec o g fuel : ℕ) (t u : Trie) : Type 0 where
   pub src : Extents w b a ea c ec o g fuel t u
@@ -93,11 +93,14 @@ module _ {w : List ℕ} {b a ea c ec o g fuel : ℕ} {t u : Trie} (f : Forks w b
     whole : Parts w b op a ea c ec o g fuel t u (a + 1) (a + 1 + size (f .first .l)) (c + 1) (c + 1 + size (f .second .l)) (a + 1 + size (f .first .l)) ea (c + 1 + size (f .second .l)) ec
     whole = forks-parts _ _ refl refl
 
-    pub only-extents : Extents w b (a + 1) ea (c + 1) ec (o + 1) g (fuel - 1) (half only t) (half only u)
-    only-extents = side-extents whole only (a + 1) ea (c + 1) ec (lone-span (f .first) only (first-lone .1)) (lone-span (f .second) only second-lone) (whole .low .0) (whole .low .1)
+    pub only-extents : (x : ℕ) → x ≤ 1 → Extents w b (a + 1) ea (c + 1) ec (o + x) g (fuel - 1) (half only t) (half only u)
+    only-extents x le = side-extents whole x le only (a + 1) ea (c + 1) ec (lone-span (f .first) only (first-lone .1)) (lone-span (f .second) only second-lone) (whole .low .0) (whole .low .1)
 
     abbrev result : Trie
     result = opOn op (fuel - 1) (half only t) (half only u)
+
+    pub only-few : size result ≤ 4294967297
+    only-few = part-few whole only
 
     pub only-step : opOn op fuel t u ≡ rejoin only result none
     only-step = step whole ∙ go only (fork-half (f .first) (not only) ∙ first-lone .1) (fork-half (f .second) (not only) ∙ second-lone)

@@ -9,7 +9,7 @@ use Rattle.nets.specs.TrieOps.{mixed, kindOf, verdict, half}
 use Rattle.trie_emit.specs.Answers.{answer, endOf}
 use Rattle.trie_emit.specs.Combine.{opOf, joined, opOn, Inputs, Gap}
 use Rattle.trie_emit.proofs.Answers.{end-is}
-use Rattle.trie_emit.proofs.Combine.{step-mixed, Split, half-inputs, left-inputs, left-gap, rest-inputs, rest-gap, pending}
+use Rattle.trie_emit.proofs.Combine.{step-mixed, Split, half-inputs, left-inputs, left-gap, part-size, rest-inputs, rest-gap, pending}
 use Rattle.trie_combine.specs.Extents.{Span, Extents, Writes, Halves}
 use Rattle.trie_combine.proofs.Spans.{span-means, means-span}
 use Rattle.trie_combine.proofs.Answered.{emits}
@@ -55,10 +55,21 @@ module _ {w : List ℕ} {b op a ea c ec o g fuel : ℕ} {t u : Trie} {al el cl f
   pub left-extents : Extents w b al el cl fl (o + 1) g (fuel - 1) (half false t) (half false u)
   left-extents = inputs-extents (half false t) (half false u) (left-inputs split) (d .low .0) (d .low .1) (d .left .0 .end) (d .left .1 .end)
 
-  -- one half by itself
-  pub side-extents : (s : Bool) (i e k h : ℕ) → Span w b o g i e (half s t) → Span w b o g k h (half s u) → Low i → Low k → Extents w b i e k h (o + 1) g (fuel - 1) (half s t) (half s u)
-  side-extents s i e k h p q li lk =
-      inputs-extents (half s t) (half s u) (half-inputs split w s _ _ (o + 1) (omega arith) (omega (arith, d .src .few, d .src .turn)) (span-means (half s t) p, span-means (half s u) q)) li lk (p .end) (q .end)
+  pub part-few : (s : Bool) → size (part s) ≤ 4294967297
+  part-few false = part-size split false _ _ (split .left)
+  part-few true = part-size split true _ _ (split .right)
+
+  -- one half by itself, before anything is written
+  pub side-extents : (x : ℕ) → x ≤ 1 → (s : Bool) (i e k h : ℕ) → Span w b o g i e (half s t) → Span w b o g k h (half s u) → Low i → Low k
+      → Extents w b i e k h (o + x) g (fuel - 1) (half s t) (half s u)
+  side-extents x le s i e k h p q li lk =
+      inputs-extents (half s t) (half s u) (half-inputs split w s _ _ (o + x) (omega arith) (omega (arith, d .src .few, d .src .turn)) (span-means (half s t) p, span-means (half s u) q)) li lk (p .end) (q .end)
+
+  pub first-extents : Extents w b al el cl fl (o + 0) g (fuel - 1) (half false t) (half false u)
+  first-extents = side-extents 0 (omega arith) false al el cl fl (d .left .0) (d .left .1) (d .low .0) (d .low .1)
+
+  pub second-extents : Extents w b ar er cr fr (o + 0) g (fuel - 1) (half true t) (half true u)
+  second-extents = side-extents 0 (omega arith) true ar er cr fr (d .right .0) (d .right .1) (d .low .2) (d .low .3)
 
   module _ (p : Gap w b o g (opOn op fuel t u)) where
     pub left-room : Gap w b (o + 1) g (part false)

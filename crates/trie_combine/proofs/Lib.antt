@@ -6,3 +6,4 @@ pub mod Halving
 pub mod Spread
 pub mod Flat
 pub mod Forks
+pub mod Counts

@@ -87,10 +87,11 @@ module _ {w : List ℕ} {b i e o g fuel : ℕ} (t : Trie) (s : Extents w b i e 0
       pub spread-right : {v : List ℕ} {x y : ℕ} → Span v b x y m e (half true t) → Apart v b m e next
       spread-right k = apart-span (half true t) (fork-right f m q) k (record { no = λ j le lt fit. a .no j (omega arith) lt fit })
 
-    pub spread-asks : {v : List ℕ} {x n : ℕ} {z : Trie} → Writes w v b x n z → (1 ≤ m) × (m ≤ 1073741824) × (place b e ≤ length v) × (e ≤ 1073741824)
-    spread-asks {x = x} {z = z} h =
-        let n = fork-fits f in
-        (omega arith, omega (arith, fork-right f m q .end), rw (h .wrote, length-put w (place b x) (body z)) (n .4), n .2)
+    pub spread-asks : (1 ≤ m) × (m ≤ 1073741824) × (place b e ≤ length w) × (e ≤ 1073741824)
+    spread-asks = let n = fork-fits f in (omega arith, omega (arith, fork-right f m q .end), n .4, n .2)
+
+    pub spread-still : {v : List ℕ} {x n : ℕ} {z : Trie} → Writes w v b x n z → (1 ≤ m) × (m ≤ 1073741824) × (place b e ≤ length v) × (e ≤ 1073741824)
+    spread-still {x = x} {z = z} h = let n = spread-asks in (n .0, n .1, rw (h .wrote, length-put w (place b x) (body z)) (n .2), n .3)
 
 -- As it stands, or simplified.
 pub tidy-apart : (op : ℕ) (t : Trie) → op ≡ 3 → tidy (joined op) t ≡ t

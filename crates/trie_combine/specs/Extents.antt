@@ -6,10 +6,10 @@
 --   tidy j t                            t, with the halves of each block joined or not
 --   Writes w v b o n t                  t has n nodes, and v is w with what is written of it from node o on: all, but for a single leaf
 use mathlib.Core.Bool.{Bool, false, cond}
-use mathlib.Core.List.{List}
+use mathlib.Core.List.{List, [], _∷_}
 use mathlib.Core.Path.{_≡_}
 use Prim.Native.Nat.{ℕ, _+_, _*_, _/_, _≤_, _<_, _^_}
-use lib.Dec.{ltb}
+use lib.Dec.{eqb, ltb}
 use lib.ListN.{length}
 use Rattle.nets.specs.Tries.{Trie, size, levels, isNone, side, simplifyT}
 use Rattle.nodes.specs.Words.{put, place}
@@ -35,6 +35,10 @@ lastAhead x = cond (ltb x 2) 1 (x / 2)
 
 abbrev pub tidy : Bool → Trie → Trie
 tidy j t = cond j (simplifyT t) t
+
+-- the words of a single leaf, where n nodes are one
+abbrev pub leafOf : ℕ → List ℕ
+leafOf n = cond (eqb n 1) (0 ∷ []) []
 
 pub record Writes (w v : List ℕ) (b o n : ℕ) (t : Trie) : Type 0 where
   pub counts : n ≡ size t

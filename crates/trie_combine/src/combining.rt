@@ -54,7 +54,7 @@ fn flat(
     nodes_of(z, o)
 }
 
-fn are_mixed(x: usize, y: usize) -> bool
+pub fn are_mixed(x: usize, y: usize) -> bool
     ensures { λ r. ⌜ (r ≡ true → (x ≡ 1) × (y ≡ 1)) × (r ≡ false → x ≡ 1 → y ≡ 1 → ⊥) ⌝ }
 {
     if x != MIXED {
@@ -64,7 +64,7 @@ fn are_mixed(x: usize, y: usize) -> bool
 }
 
 // Whether two nodes of the words p and q have each one child, on the same side: it follows its node.
-fn is_only(p: usize, q: usize) -> bool
+pub fn is_only(p: usize, q: usize) -> bool
     ensures { λ r. ⌜ (r ≡ true → (p ≤ 2) × (p ≡ q)) ⌝ }
 {
     if 2 < p {

@@ -159,7 +159,7 @@ module _ {w : List ℕ} {b op a c o g fuel : ℕ} {t u : Trie} {al cl ar cr : �
   step : opOn op fuel t u ≡ glue (joined op) (part false) (part true)
   step = step-mixed (joined op) (opOf op) t u fuel (d .src .turn) (d .mixes)
 
-  part-size : (s : Bool) (i k : ℕ) → Means w b o g i (half s t) × Means w b o g k (half s u) → size (part s) ≤ 4294967297
+  pub part-size : (s : Bool) (i k : ℕ) → Means w b o g i (half s t) × Means w b o g k (half s u) → size (part s) ≤ 4294967297
   part-size s i k m = omega (arith, size-op (joined op) (opOf op) (fuel - 1) (half s t) (half s u), means-body i (half s t) (m .0), means-body k (half s u) (m .1))
 
   pub half-inputs : (w₁ : List ℕ) (s : Bool) (i k o′ : ℕ) → o ≤ o′ → o′ + 2 ^ 33 * (fuel - 1) < 2 ^ 62 → Means w₁ b o g i (half s t) × Means w₁ b o g k (half s u)

@@ -90,7 +90,7 @@ module _ (n : ℕ) where
       let z = k .word2 .ensures .0 in
       let h = told i in
       let op = start (i .before) .args .op in
-      (_, _, only-half f op _ _ y z h p _ _ (c .combine .ensures g _ _ (only-extents f op _ _ y z h) (only-room f op _ _ y z h p)), only-step f op _ _ y z h)
+      (_, _, only-half f op _ _ y z h p _ _ (c .combine .ensures g _ _ (only-extents f op _ _ y z h 1 (omega arith)) (only-room f op _ _ y z h p)), only-step f op _ _ y z h)
 
   -- children on both sides
   abbrev Inside : Type 0
@@ -160,7 +160,7 @@ pub +combine-spec : {M : Type 1} → statement M
     let z = k .word2 .ensures .0 in
     let h = told n i in
     let op = start n (i .before) .args .op in
-    (omega (arith, start n (i .before) .pre .0, s .turn), (g, _, _, only-extents f op _ _ y z h, only-room f op _ _ y z h p)))
+    (omega (arith, start n (i .before) .pre .0, s .turn), (g, _, _, only-extents f op _ _ y z h 1 (omega arith), only-room f op _ _ y z h p)))
     (λ c κs.
     let k = c .before .before .before in
     let (g, t, u, s, p) = start n (k .before .before .before) .pre .1 in

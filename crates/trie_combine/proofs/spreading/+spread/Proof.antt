@@ -12,7 +12,7 @@ use Rattle.trie_emit.specs.Combine.{opOn, Gap}
 use Rattle.trie_combine.specs.Extents.{Extents, Writes}
 use Rattle.trie_combine.proofs.Spans.{Fork, fork-fits, fork-middle}
 use Rattle.trie_combine.proofs.Halving.{Parts, left-extents, left-room, right-extents, right-room, both, combined}
-use Rattle.trie_combine.proofs.Spread.{spread-plain, spread-flat, spread-fork, spread-parts, spread-left, spread-right, spread-asks}
+use Rattle.trie_combine.proofs.Spread.{spread-plain, spread-flat, spread-fork, spread-parts, spread-left, spread-right, spread-still}
 use Rattle.trie_combine.proofs.spreading.spread.Reads as spread
 use Rattle.trie_combine.proofs.spreading.spread.Kinds as spread-kinds
 use Rattle.trie_combine.proofs.spreading.+spread.Lts-spread as spread-lts
@@ -118,7 +118,7 @@ pub +spread-spec : {M : Type 1} → statement M
     let ((g, t, s, p), a) = start n i .pre .1 in
     let l = wrote n k g t s p in
     let f = fork n (i .before .before .before) g t s in
-    (spread-asks t s f _ (middle n i g t s) l, spread-right t s f _ (middle n i g t s) a (right-extents (parts n i g t s) p _ _ l .first)))
+    (spread-still t s f _ (middle n i g t s) l, spread-right t s f _ (middle n i g t s) a (right-extents (parts n i g t s) p _ _ l .first)))
     (λ c. let (g, t, s, p) = start n (c .before .before .before .before .before .before .before) .pre .1 .0 in omega (arith, s .few))
     (λ c.
     let k = c .before .before .before .before .before in
