@@ -1,21 +1,16 @@
 -- The nodes of a result by its halves, with nothing written. Assumes nothing.
-use mathlib.Core.Bool.{Bool, true, false}
+use mathlib.Core.Bool.{true, false}
 use mathlib.Core.List.{List}
-use mathlib.Core.Path.{_≡_, refl, sym, ap, _∙_}
+use mathlib.Core.Path.{_≡_}
 use Prim.Native.Nat.{ℕ, _+_, _-_, _≤_, _<_, _^_}
 use native.Mathlib.Omega.{arith}
-use Rattle.nets.specs.Tries.{Trie, none, node, leaf, size, isNone, glue}
-use Rattle.nets.specs.TrieOps.{half, rejoin}
-use Rattle.nodes.proofs.Segments.{none-is}
-use Rattle.nodes.proofs.Tries.{size-node, size-leaf}
+use Rattle.nets.specs.Tries.{Trie, none, size, glue}
+use Rattle.nets.specs.TrieOps.{half}
 use Rattle.trie_blocks.specs.Joins.{Apart}
 use Rattle.trie_emit.specs.Combine.{joined, opOn}
-use Rattle.trie_emit.proofs.Answers.{by-glue}
-use Rattle.trie_blocks.proofs.Blocks.{size-one}
-use Rattle.trie_combine.proofs.Answered.{is-some, only-node}
-use Rattle.trie_combine.specs.Extents.{Extents}
-use Rattle.trie_combine.proofs.Halving.{Parts, part-few, step}
-use Rattle.trie_combine.proofs.Spread.{spread-plain}
+use Rattle.trie_spans.specs.Extents.{Extents}
+use Rattle.trie_spans.proofs.Halving.{Parts, part-few, step}
+use Rattle.trie_spans.proofs.Spread.{spread-plain}
 
 -- the result of the halves
 module _ {w : List ℕ} {b op a ea c ec o g fuel : ℕ} {t u : Trie} {al el cl fl ar er cr fr : ℕ} (d : Parts w b op a ea c ec o g fuel t u al el cl fl ar er cr fr) (l r : ℕ)

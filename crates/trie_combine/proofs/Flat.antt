@@ -1,36 +1,34 @@
 -- An operation on two tries of which one is flat: it is settled, or the other one is left, or all but the second. Assumes nothing.
-use mathlib.Core.Bool.{Bool, true, false, cond}
+use mathlib.Core.Bool.{false}
 use mathlib.Core.List.{List}
-use mathlib.Core.Path.{_≡_, refl, sym, _∙_}
-use Prim.Native.Nat.{ℕ, zero, suc, _+_, _/_, _≤_, _<_}
+use mathlib.Core.Path.{_≡_, refl, _∙_}
+use Prim.Native.Nat.{ℕ, zero, suc, _/_, _≤_, _<_}
 use native.Mathlib.Omega.{arith}
-use Rattle.nets.specs.Tries.{Trie, none, node, size, isNone, levels}
+use Rattle.nets.specs.Tries.{Trie, none, node, isNone, levels}
 use Rattle.nets.specs.TrieOps.{Kind, flat, mixed, kindOf, verdict}
 use Rattle.nets.proofs.Operate.{flat≢mixed}
-use Rattle.trie_emit.specs.Answers.{Emits}
 use Rattle.trie_emit.specs.Combine.{opOf, joined, opOn, rank, Inputs}
-use Rattle.trie_emit.specs.declared.emitting.Emitted.{Emitted}
 use Rattle.trie_emit.specs.declared.emitting.Emitted.the-variants.{Empty, Full}
 use Rattle.trie_emit.proofs.Answers.{end-is}
 use Rattle.trie_emit.proofs.Combine.{op-none, op-full, rank-mixed}
 use Rattle.trie_emit.proofs.Sources.{rank-le}
-use Rattle.trie_combine.specs.Extents.{Extents, Writes, tidy}
-use Rattle.trie_combine.proofs.Alone.{alone-first, alone-second}
-use Rattle.trie_combine.proofs.Answered.{writes}
-use Rattle.trie_combine.proofs.Halving.{extents-inputs}
-use Rattle.trie_combine.proofs.Spread.{nowhere}
+use Rattle.trie_spans.specs.Extents.{Extents, Writes, tidy}
+use Rattle.trie_spans.proofs.Alone.{alone-first, alone-second}
+use Rattle.trie_spans.proofs.Answered.{writes}
+use Rattle.trie_spans.proofs.Halving.{extents-inputs}
+use Rattle.trie_spans.proofs.Spread.{nowhere}
 
 -- one source by itself
-levels-none : (k : ℕ) → levels none ≤ k
+levels-nothing : (k : ℕ) → levels none ≤ k
 unfolding levels
-levels-none k = omega arith
+levels-nothing k = omega arith
 
 module _ {w : List ℕ} {b a ea c ec o g fuel : ℕ} {t u : Trie} (s : Extents w b a ea c ec o g fuel t u) where
   pub first-alone : Extents w b a ea 0 0 o g fuel t none
-  first-alone = record { first = s .first; second = nowhere w b o g; deep-t = s .deep-t; deep-u = levels-none fuel; turn = s .turn; few = s .few }
+  first-alone = record { first = s .first; second = nowhere w b o g; deep-t = s .deep-t; deep-u = levels-nothing fuel; turn = s .turn; few = s .few }
 
   pub second-alone : Extents w b c ec 0 0 o g fuel u none
-  second-alone = record { first = s .second; second = nowhere w b o g; deep-t = s .deep-u; deep-u = levels-none fuel; turn = s .turn; few = s .few }
+  second-alone = record { first = s .second; second = nowhere w b o g; deep-t = s .deep-u; deep-u = levels-nothing fuel; turn = s .turn; few = s .few }
 
 -- sources that are not empty
 some-first : (op : ℕ) (t : Trie) (k : Kind) → 2 ≤ op → verdict (opOf op) (kindOf t) k ≡ mixed → isNone t ≡ false
@@ -41,7 +39,7 @@ some-first (suc zero) none k n e = absurd (omega arith)
 some-first (suc (suc i)) none (flat y) n e = absurd (flat≢mixed false e)
 some-first (suc (suc i)) none mixed n e = absurd (flat≢mixed false e)
 
-some-mixed : (u : Trie) → kindOf u ≡ mixed → isNone u ≡ false
+pub some-mixed : (u : Trie) → kindOf u ≡ mixed → isNone u ≡ false
 some-mixed none e = absurd (flat≢mixed false e)
 some-mixed (node l r) e = refl
 

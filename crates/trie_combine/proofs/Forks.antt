@@ -1,25 +1,25 @@
 -- Two tries that both have a child: their halves, and nodes that have one child each, on the same side. Assumes nothing.
-use mathlib.Core.Bool.{Bool, true, false, not, cond, true≢false}
+use mathlib.Core.Bool.{Bool, true, false, not, true≢false}
 use mathlib.Core.List.{List}
-use mathlib.Core.Path.{_≡_, refl, sym, ap, _∙_}
-use Prim.Native.Nat.{ℕ, zero, suc, _+_, _-_, _*_, _≤_, _<_, _^_, max}
+use mathlib.Core.Path.{_≡_, refl, ap, _∙_}
+use Prim.Native.Nat.{ℕ, zero, suc, _+_, _-_, _≤_, _<_, _^_, max}
 use native.Mathlib.Omega.{arith}
 use lib.Dec.{eqb}
-use lib.ListN.{length}
 use Rattle.nets.specs.Tries.{Trie, none, node, size, isNone, bare, side, glue}
-use Rattle.nets.specs.TrieOps.{mixed, kindOf, verdict, half, rejoin, opT}
-use Rattle.nets.proofs.Operate.{flat≢mixed, opT-flat}
-use Rattle.nodes.specs.Words.{put, place, wordAt, word, link0, link1}
+use Rattle.nets.specs.TrieOps.{mixed, kindOf, half, rejoin, opT}
+use Rattle.nets.proofs.Operate.{opT-flat}
+use Rattle.nodes.specs.Words.{place, wordAt, word, link0, link1}
 use Rattle.nodes.proofs.Put.{length-put}
 use Rattle.nodes.proofs.Tries.{size-node}
 use Rattle.trie_emit.specs.Answers.{body}
 use Rattle.trie_emit.specs.Combine.{opOf, joined, opOn, rank, Inputs, Gap}
 use Rattle.trie_emit.proofs.Answers.{by-kind}
 use Rattle.trie_emit.proofs.Combine.{rank-mixed}
-use Rattle.trie_combine.specs.Extents.{Span, Extents, Writes, Only}
-use Rattle.trie_combine.proofs.Spans.{number-span, Fork, fork-of, fork-fits, fork-word, fork-half, fork-left, fork-right}
-use Rattle.trie_combine.proofs.Answered.{only-node}
-use Rattle.trie_combine.proofs.Halving.{Parts, part-few, side-extents, step}
+use Rattle.trie_spans.specs.Extents.{Span, Extents, Writes, Only}
+use Rattle.trie_spans.proofs.Spans.{size-none, number-span, Fork, fork-of, fork-fits, fork-word, fork-half, fork-left, fork-right}
+use Rattle.trie_spans.proofs.Answered.{only-node}
+use Rattle.trie_combine.proofs.Flat.{some-mixed}
+use Rattle.trie_spans.proofs.Halving.{Parts, part-few, side-extents, step}
 
 pub record Forks (w : List ℕ) (b a ea c ec o g fuel : ℕ) (t u : Trie) : Type 0 where
   pub src : Extents w b a ea c ec o g fuel t u
@@ -40,10 +40,6 @@ lone none none b x e h = absurd (true≢false b)
 lone none (node y z) b x e h = let q : x ≡ 2 = omega arith in rw q (refl, refl)
 lone (node y z) none b x e h = let q : x ≡ 1 = omega arith in rw q (refl, refl)
 lone (node y z) (node v n) b x e h = absurd (omega arith)
-
-size-none : size none ≡ 0
-unfolding size
-size-none = refl
 
 lone-span : {w : List ℕ} {b o g i e : ℕ} {t : Trie} (f : Fork w b o g i e t) (d : Bool) → side (not d) (f .l) (f .r) ≡ none → Span w b o g (i + 1) e (half d t)
 lone-span f false q = fork-left f _ (omega (arith, f .end, size-node (f .l) (f .r), ap size q, size-none))
@@ -118,11 +114,7 @@ module _ {w : List ℕ} {b a ea c ec o g fuel : ℕ} {t u : Trie} (f : Forks w b
           omega (arith, k .0, ap size only-step)
 
       pub only-room : Gap w b (o + 1) g result
-      only-room = record { one = omega arith; fits = λ k. fits (some result k); room = z .room; low = z .low }
-        where
-          some : (v : Trie) → kindOf v ≡ mixed → isNone v ≡ false
-          some none k = absurd (flat≢mixed false k)
-          some (node x y) k = refl
+      only-room = record { one = omega arith; fits = λ k. fits (some-mixed result k); room = z .room; low = z .low }
 
       small : (v : Trie) → (isNone v ≡ false → o + 1 + size v ≤ g) → o + 1 + size v < 2 ^ 62
       unfolding size

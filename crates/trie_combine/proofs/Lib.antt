@@ -1,9 +1,4 @@
--- The laws of combining by extents, from the bottom up.
-pub mod Spans
-pub mod Alone
-pub mod Answered
-pub mod Halving
-pub mod Spread
+-- The laws of combining two tries by where they end.
 pub mod Flat
 pub mod Forks
 pub mod Counts

@@ -6,20 +6,20 @@ ghost use Rattle.nets.specs.Tries.{Trie};
 ghost use Rattle.nets.specs.TrieOps.{kindOf};
 ghost use Rattle.trie_emit.specs.Answers.{Emits};
 ghost use Rattle.trie_emit.specs.Combine.{opOn, rank, Inputs, Gap};
-ghost use Rattle.trie_combine.specs.Extents.{Extents, Writes};
-use crate::answering::above;
-use crate::answering::answer_of;
-use crate::answering::nodes_of;
-use crate::answering::over;
-use crate::extents::end_from;
-use crate::extents::kind;
-use crate::spreading::alone;
+ghost use Rattle.trie_spans.specs.Extents.{Extents, Writes};
 use nodes::steps;
 use trie_emit::combining;
 use trie_emit::combining::ALL;
 use trie_emit::combining::MIXED;
 use trie_emit::combining::most;
 use trie_emit::emitting::Emitted;
+use trie_spans::answering::above;
+use trie_spans::answering::answer_of;
+use trie_spans::answering::nodes_of;
+use trie_spans::answering::over;
+use trie_spans::extents::end_from;
+use trie_spans::extents::kind;
+use trie_spans::spreading::alone;
 
 // Writes what the operation makes of two tries of the kinds x and y, where one of them is flat: nothing, a leaf, the other one, or what it leaves of all.
 fn flat(

@@ -4,13 +4,9 @@ ghost use Rattle.nets.specs.Tries.{Trie, size};
 ghost use Rattle.nets.specs.TrieOps.{kindOf};
 ghost use Rattle.trie_blocks.specs.Joins.{Apart};
 ghost use Rattle.trie_emit.specs.Combine.{joined, opOn, rank, Inputs};
-ghost use Rattle.trie_combine.specs.Extents.{Extents, tidy};
-use crate::answering::above_nodes;
-use crate::answering::over_nodes;
+ghost use Rattle.trie_spans.specs.Extents.{Extents, tidy};
 use crate::combining::are_mixed;
 use crate::combining::is_only;
-use crate::extents::end_from;
-use crate::extents::kind;
 use nodes::steps;
 use trie_blocks::joining::join_from;
 use trie_blocks::joining::next_join;
@@ -18,6 +14,10 @@ use trie_emit::combining;
 use trie_emit::combining::ALL;
 use trie_emit::combining::MIXED;
 use trie_emit::combining::most;
+use trie_spans::answering::above_nodes;
+use trie_spans::answering::over_nodes;
+use trie_spans::extents::end_from;
+use trie_spans::extents::kind;
 
 // Of the trie from node i up to node e, simplified; before node `next` nothing joins.
 fn spread(w: &[u32], b: usize, i: usize, e: usize, next: usize, fuel: usize) -> usize

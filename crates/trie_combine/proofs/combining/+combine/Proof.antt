@@ -1,30 +1,30 @@
 -- `combining::combine` meets its contract, by the fuel. Assumes nothing.
 use mathlib.Core.Bool.{Bool, true, false}
-use mathlib.Core.Path.{_≡_, sym, _∙_}
+use mathlib.Core.Path.{_≡_}
 use native.Mathlib.Omega.{arith}
 use Prim.Native.Nat.{ℕ, _+_, _-_, _≤_, _<_}
 use borrow.Author.Needs.{needs}
 use borrow.Author.Tests.{not-true, not-false}
 use borrow.Fn.Kinds.{In}
 use borrow.Fn.PlainCycle.{Measures, is, falls, and}
-use Rattle.nets.specs.Tries.{Trie, none, size}
+use Rattle.nets.specs.Tries.{Trie, none}
 use Rattle.nets.specs.TrieOps.{half, rejoin}
 use Rattle.trie_emit.specs.Combine.{opOn, Gap}
-use Rattle.trie_combine.specs.Extents.{Extents, Writes, Only}
-use Rattle.trie_combine.proofs.Spans.{fork-fits, fork-middle}
-use Rattle.trie_combine.proofs.Halving.{Parts, left-extents, left-room, right-extents, right-room, both, combined}
+use Rattle.trie_spans.specs.Extents.{Extents, Writes, Only}
+use Rattle.trie_spans.proofs.Spans.{fork-fits, fork-middle}
+use Rattle.trie_spans.proofs.Halving.{Parts, left-extents, left-room, right-extents, right-room, both, combined}
 use Rattle.trie_combine.proofs.Forks.{Forks, forks-of, forks-parts, only-extents, only-step, only-room, only-half}
 use Rattle.trie_combine.proofs.combining.combine.Reads as combine
 use Rattle.trie_combine.proofs.combining.combine.Kinds as combine-kinds
 use Rattle.trie_combine.proofs.combining.+combine.Lts-combine as combine-lts
 use Rattle.nodes.proofs.steps.middle.Reads as middle-reads
 use Rattle.nodes.proofs.steps.word.Reads as word-reads
-use Rattle.trie_combine.proofs.answering.above.Reads as above-reads
-use Rattle.trie_combine.proofs.answering.over.Reads as over-reads
+use Rattle.trie_spans.proofs.answering.above.Reads as above-reads
+use Rattle.trie_spans.proofs.answering.over.Reads as over-reads
 use Rattle.trie_combine.proofs.combining.are_mixed.Reads as are-mixed-reads
 use Rattle.trie_combine.proofs.combining.flat.Reads as flat-reads
 use Rattle.trie_combine.proofs.combining.is_only.Reads as is-only-reads
-use Rattle.trie_combine.proofs.extents.kind.Reads as kind-reads
+use Rattle.trie_spans.proofs.extents.kind.Reads as kind-reads
 use Rattle.trie_combine.proofs.combining.+combine.{statement}
 use Rattle.trie_combine.proofs.combining.+combine.Tie.{close}
 

@@ -4,7 +4,7 @@ use native.Mathlib.Omega.{arith}
 use borrow.Author.Needs.{needs}
 use Rattle.nets.specs.Tries.{Trie}
 use Rattle.trie_emit.specs.Combine.{opOn, Inputs, Gap}
-use Rattle.trie_combine.specs.Extents.{Extents, Writes}
+use Rattle.trie_spans.specs.Extents.{Extents, Writes}
 use Rattle.trie_combine.proofs.Forks.{inputs-extents, gap-small}
 use Rattle.trie_combine.proofs.combining.emit.Statement.{statement}
 use Rattle.trie_combine.proofs.combining.emit.Tie as tie

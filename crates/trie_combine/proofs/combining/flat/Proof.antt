@@ -8,8 +8,8 @@ use Rattle.nets.specs.TrieOps.{kindOf, verdict}
 use Rattle.trie_emit.specs.Answers.{Emits}
 use Rattle.trie_emit.specs.Combine.{opOf, opOn, rank, Gap}
 use Rattle.trie_emit.proofs.Sources.{rank-le}
-use Rattle.trie_combine.specs.Extents.{Extents}
-use Rattle.trie_combine.proofs.Answered.{writes}
+use Rattle.trie_spans.specs.Extents.{Extents}
+use Rattle.trie_spans.proofs.Answered.{writes}
 use Rattle.trie_combine.proofs.Flat.{first-alone, second-alone, flat-settled, flat-first, flat-second, flat-rest}
 use Rattle.trie_combine.proofs.combining.flat.Statement.{statement}
 use Rattle.trie_combine.proofs.combining.flat.Tie as tie

@@ -11,9 +11,9 @@ use lib.Dec.{eqb}
 use Rattle.nets.specs.Tries.{Trie, none, size}
 use Rattle.nets.specs.TrieOps.{half, rejoin}
 use Rattle.trie_emit.specs.Combine.{opOn}
-use Rattle.trie_combine.specs.Extents.{Extents}
-use Rattle.trie_combine.proofs.Spans.{fork-fits, fork-middle}
-use Rattle.trie_combine.proofs.Halving.{Parts, first-extents, second-extents}
+use Rattle.trie_spans.specs.Extents.{Extents}
+use Rattle.trie_spans.proofs.Spans.{fork-fits, fork-middle}
+use Rattle.trie_spans.proofs.Halving.{Parts, first-extents, second-extents}
 use Rattle.trie_combine.proofs.Forks.{Forks, forks-of, forks-parts, only-extents, only-step, only-few}
 use Rattle.trie_combine.proofs.Counts.{counts-small, counted}
 use Rattle.trie_combine.proofs.counting.count.Reads as count
@@ -23,10 +23,10 @@ use Rattle.nodes.proofs.steps.middle.Reads as middle-reads
 use Rattle.nodes.proofs.steps.word.Reads as word-reads
 use Rattle.trie_combine.proofs.combining.are_mixed.Reads as are-mixed-reads
 use Rattle.trie_combine.proofs.combining.is_only.Reads as is-only-reads
-use Rattle.trie_combine.proofs.answering.above_nodes.Reads as above-nodes-reads
+use Rattle.trie_spans.proofs.answering.above_nodes.Reads as above-nodes-reads
 use Rattle.trie_combine.proofs.counting.flat.Reads as flat-reads
-use Rattle.trie_combine.proofs.answering.over_nodes.Reads as over-nodes-reads
-use Rattle.trie_combine.proofs.extents.kind.Reads as kind-reads
+use Rattle.trie_spans.proofs.answering.over_nodes.Reads as over-nodes-reads
+use Rattle.trie_spans.proofs.extents.kind.Reads as kind-reads
 use Rattle.trie_combine.proofs.counting.+count.{statement}
 use Rattle.trie_combine.proofs.counting.+count.Tie.{close}
 

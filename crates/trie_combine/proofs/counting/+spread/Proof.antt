@@ -8,10 +8,10 @@ use borrow.Fn.PlainCycle.{Measures, is, falls, and}
 use Rattle.nets.specs.Tries.{Trie, none, size}
 use Rattle.nets.specs.TrieOps.{half}
 use Rattle.trie_emit.specs.Combine.{opOn}
-use Rattle.trie_combine.specs.Extents.{Extents}
-use Rattle.trie_combine.proofs.Spans.{Fork, fork-fits, fork-middle, fork-right}
-use Rattle.trie_combine.proofs.Halving.{Parts, first-extents, second-extents}
-use Rattle.trie_combine.proofs.Spread.{spread-plain, spread-flat, spread-fork, spread-parts, spread-left, spread-right, spread-asks}
+use Rattle.trie_spans.specs.Extents.{Extents}
+use Rattle.trie_spans.proofs.Spans.{Fork, fork-fits, fork-middle, fork-right}
+use Rattle.trie_spans.proofs.Halving.{Parts, first-extents, second-extents}
+use Rattle.trie_spans.proofs.Spread.{spread-flat, spread-fork, spread-parts, spread-left, spread-right, spread-asks}
 use Rattle.trie_combine.proofs.Counts.{plain-count, counts-small, counted}
 use Rattle.trie_combine.proofs.counting.spread.Reads as spread
 use Rattle.trie_combine.proofs.counting.spread.Kinds as spread-kinds
@@ -19,8 +19,8 @@ use Rattle.trie_combine.proofs.counting.+spread.Lts-spread as spread-lt
 use Rattle.nodes.proofs.steps.middle.Reads as middle-reads
 use Rattle.nodes.proofs.steps.word.Reads as word-reads
 use Rattle.trie_blocks.proofs.joining.join_from.Reads as join-from-reads
-use Rattle.trie_combine.proofs.answering.over_nodes.Reads as over-nodes-reads
-use Rattle.trie_combine.proofs.extents.kind.Reads as kind-reads
+use Rattle.trie_spans.proofs.answering.over_nodes.Reads as over-nodes-reads
+use Rattle.trie_spans.proofs.extents.kind.Reads as kind-reads
 use Rattle.trie_combine.proofs.counting.+spread.{statement}
 use Rattle.trie_combine.proofs.counting.+spread.Tie.{close}
 

@@ -1,7 +1,6 @@
 -- `counting::alone` meets its contract, by its tests. Assumes nothing.
 use native.Mathlib.Omega.{arith}
-use borrow.Author.Needs.{needs}
-use Rattle.trie_combine.proofs.Spread.{tidy-apart, tidy-joined, tidy-none, tidy-asks}
+use Rattle.trie_spans.proofs.Spread.{tidy-apart, tidy-joined, tidy-none, tidy-asks}
 use Rattle.trie_combine.proofs.counting.alone.Statement.{statement}
 use Rattle.trie_combine.proofs.counting.alone.Tie as tie
 

@@ -1,7 +1,6 @@
 -- `counting::flat` meets its contract, by its tests. Assumes nothing.
 use mathlib.Core.Path.{_≡_}
 use native.Mathlib.Omega.{arith}
-use borrow.Author.Needs.{needs}
 use Rattle.nets.specs.Tries.{Trie}
 use Rattle.nets.specs.TrieOps.{kindOf, verdict}
 use Rattle.trie_emit.specs.Combine.{opOf, rank}

@@ -3,7 +3,7 @@ use native.Mathlib.Omega.{arith}
 use borrow.Author.Needs.{needs}
 use Rattle.nets.specs.Tries.{Trie}
 use Rattle.trie_emit.specs.Combine.{Inputs}
-use Rattle.trie_combine.specs.Extents.{Extents}
+use Rattle.trie_spans.specs.Extents.{Extents}
 use Rattle.trie_combine.proofs.Forks.{inputs-extents}
 use Rattle.trie_combine.proofs.counting.op_size.Statement.{statement}
 use Rattle.trie_combine.proofs.counting.op_size.Tie as tie
