@@ -6,10 +6,10 @@ use Prim.Native.Nat.{ℕ}
 use Prim.Native.String.{String}
 use Rattle.nets.specs.Networks.{bigEndian}
 use Rattle.inner_nets.specs.Inner.{innerNets4, innerNets6}
-use Rattle.text.specs.Spans.{allOf, startsOf, leadingOf, behindOf}
-use Rattle.text.specs.Decimal.{isDigit, decimalFrom, plain, isNumber, readNumber}
+use Rattle.text_decimal.specs.Spans.{allOf, startsOf, leadingOf, behindOf}
+use Rattle.text_decimal.specs.Decimal.{isDigit, decimalFrom, plain, isNumber, readNumber}
 use Rattle.text.specs.Ipv4.{readNext, readQuad, readLine}
-use Rattle.text.specs.Places.{startsByte}
+use Rattle.text_decimal.specs.Places.{startsByte}
 use Rattle.text_hex.specs.Hex.{isHexDigit, hexValue, hexNumberFrom}
 use Rattle.text_ipv6_read.specs.Ipv6.{isGroup}
 use Rattle.text_ipv6_read.specs.Reader.{readGroup, readDotted, readPiece, goesOn, runFrom, startsDouble, readAddress, isOutline, laid, readLine6}

@@ -11,10 +11,10 @@ use Rattle.nets.proofs.Strings.{and-left, and-right}
 use Rattle.nets.proofs.TwoWords.{netOf-value}
 use Rattle.nets.specs.Networks.{width, value, netWords, netOf, address, bigEndian, refusalOf}
 use Rattle.nets.specs.declared.Net.{Net}
-use Rattle.text.specs.Spans.{allOf}
-use Rattle.text.specs.Decimal.{decimal, digitsOf}
-use Rattle.text.proofs.Spans.{all-append}
-use Rattle.text.proofs.Writing.{isNumber-digitsOf, decimal-digitsOf}
+use Rattle.text_decimal.specs.Spans.{allOf}
+use Rattle.text_decimal.specs.Decimal.{decimal, digitsOf}
+use Rattle.text_decimal.proofs.Spans.{all-append}
+use Rattle.text_decimal.proofs.Writing.{isNumber-digitsOf, decimal-digitsOf}
 use Rattle.text_hex.specs.Hex.{hexNumber, hexDigitsOf}
 use Rattle.text_hex.proofs.Written.{length-hexDigitsOf, allHexDigits-hexDigitsOf, hexNumber-hexDigitsOf}
 use Rattle.text_ipv6_read.specs.Ipv6.{isGroup, Pieces, group, more, Side, empty, pieces, around, IsAddress, full, shortened, IsLine6}

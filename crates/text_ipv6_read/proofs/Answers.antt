@@ -17,10 +17,10 @@ use Rattle.nets.specs.declared.Taken.{Taken}
 use Rattle.nets.specs.declared.Taken.the-variants as taken
 use Rattle.nets.specs.declared.Entered.{Entered}
 use Rattle.addresses.proofs.Words.{bigEndian-groups}
-use Rattle.text.specs.Decimal.{decimal}
+use Rattle.text_decimal.specs.Decimal.{decimal}
 use Rattle.text.specs.DecOctet.{isDecOctet}
 use Rattle.text.specs.Ipv4.{slash, badText}
-use Rattle.text.proofs.Numbers.{isNumber-is}
+use Rattle.text_decimal.proofs.Numbers.{isNumber-is}
 use Rattle.text.proofs.Digits.{length-number}
 use Rattle.text.proofs.DecOctet.{octet-number}
 use Rattle.text.proofs.Answers.{takenIn-network, takenIn-refused}

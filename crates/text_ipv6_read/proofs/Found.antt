@@ -9,11 +9,11 @@ use lib.Dec.{leb}
 use lib.ListN.{length, drop}
 use lib.Seq.{drop-drop}
 use borrow.Author.Tests.{le-leb, lt-leb}
-use Rattle.text.specs.Spans.{startsOf}
-use Rattle.text.specs.Decimal.{Parsed, parsed, nothing, readNumber}
+use Rattle.text_decimal.specs.Spans.{startsOf}
+use Rattle.text_decimal.specs.Decimal.{Parsed, parsed, nothing, readNumber}
 use Rattle.text.specs.Ipv4.{dot, readNext}
-use Rattle.text.specs.Places.{startsByte}
-use Rattle.text.proofs.Places.{starts-within}
+use Rattle.text_decimal.specs.Places.{startsByte}
+use Rattle.text_decimal.proofs.Places.{starts-within}
 use Rattle.text_hex.specs.Hex.{isHexDigit, colon}
 use Rattle.text_ipv6_read.specs.Reader.{readGroup, readDotted, Piece, group, quad, none, pieceOf, readPiece, goesOn}
 

@@ -8,9 +8,9 @@ use lib.Dec.{leb}
 use lib.ListN.{length}
 use borrow.Author.Tests.{leb-true, le-leb}
 use Rattle.nets.proofs.Strings.{and-left, and-right}
-use Rattle.text.specs.Spans.{allOf, startsOf, leadingOf, behindOf}
-use Rattle.text.specs.Decimal.{parsed, nothing}
-use Rattle.text.proofs.Spans.{leading-behind, leading-append, behind-append}
+use Rattle.text_decimal.specs.Spans.{allOf, startsOf, leadingOf, behindOf}
+use Rattle.text_decimal.specs.Decimal.{parsed, nothing}
+use Rattle.text_decimal.proofs.Spans.{leading-behind, leading-append, behind-append}
 use Rattle.text_hex.specs.Hex.{isHexDigit, allHexDigits, hexNumber}
 use Rattle.text_hex.proofs.Digits.{hexNumber-most}
 use Rattle.text_ipv6_read.specs.Ipv6.{isGroup}

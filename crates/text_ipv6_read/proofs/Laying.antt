@@ -10,8 +10,8 @@ use lib.Seq.{length-take-le, getD-take, getD-drop, getD-append-add, drop-drop}
 use Rattle.nets.specs.Networks.{netWords, netOf, bigEndian}
 use Rattle.nets.specs.declared.Net.{Net}
 use Rattle.nets.proofs.Strings.{and-right}
-use Rattle.text.specs.Places.{startsByte}
-use Rattle.text.proofs.Places.{starts-within}
+use Rattle.text_decimal.specs.Places.{startsByte}
+use Rattle.text_decimal.proofs.Places.{starts-within}
 use Rattle.text_ipv6_read.specs.Ipv6.{ipv6}
 use Rattle.text_hex.specs.Hex.{colon}
 use Rattle.text_ipv6_read.specs.Reader.{Piece, group, quad, none, readPiece, goesOn, Ran, ran, runOn, runFrom, Outline, outline, startsDouble, behindRun, wholeRun, addressFrom, readAddress, isOutline, laid}

@@ -10,10 +10,10 @@ use lib.Dec.{leb}
 use lib.ListN.{length, drop, getD}
 use lib.Seq.{drop-cons}
 use borrow.Author.Tests.{le-leb, lt-leb}
-use Rattle.text.specs.Spans.{startsOf, leadingOf, behindOf}
-use Rattle.text.specs.Decimal.{Parsed, parsed, nothing}
-use Rattle.text.proofs.Spans.{all-leading, leading-none, behind-none}
-use Rattle.text.proofs.Places.{startsOf-at}
+use Rattle.text_decimal.specs.Spans.{startsOf, leadingOf, behindOf}
+use Rattle.text_decimal.specs.Decimal.{Parsed, parsed, nothing}
+use Rattle.text_decimal.proofs.Spans.{all-leading, leading-none, behind-none}
+use Rattle.text_decimal.proofs.Places.{startsOf-at}
 use Rattle.text_hex.specs.Hex.{isHexDigit, hexValue, allHexDigits, hexNumberFrom}
 use Rattle.text_hex.proofs.Digits.{hexValue-most}
 use Rattle.text_ipv6_read.specs.Ipv6.{isGroup}

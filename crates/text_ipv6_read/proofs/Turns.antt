@@ -9,7 +9,7 @@ use lib.Dec.{leb}
 use lib.ListN.{length, take, drop, set, length-set}
 use lib.Seq.{take-suc-set, drop-drop}
 use borrow.Author.Tests.{leb-true}
-use Rattle.text.specs.Decimal.{Parsed, parsed, nothing}
+use Rattle.text_decimal.specs.Decimal.{Parsed, parsed, nothing}
 use Rattle.text_ipv6_read.specs.Reader.{readGroup, readDotted, Piece, group, quad, none, pieceOf, readPiece, goesOn, Ran, ran, runOn, runFrom}
 use Rattle.text_ipv6_read.specs.Places.{runWords, groupsOf, ranAs, leftOf, Fits, turnsOf, Stepped}
 use Rattle.text_ipv6_read.specs.declared.runs.Run.{Run}

@@ -15,7 +15,7 @@ use lib.Dec.{leb}
 use lib.ListN.{length, replicate}
 use Rattle.nets.specs.Networks.{netOf, bigEndian}
 use Rattle.nets.specs.declared.Net.{Net}
-use Rattle.text.specs.Decimal.{decimal, isNumber}
+use Rattle.text_decimal.specs.Decimal.{decimal, isNumber}
 use Rattle.text.specs.DecOctet.{isDecOctet}
 use Rattle.text.specs.Ipv4.{dot, slash}
 use Rattle.text_hex.specs.Hex.{colon, allHexDigits, hexNumber}

@@ -18,10 +18,10 @@ use lib.Dec.{eqb, leb}
 use lib.ListN.{length, take, drop, replicate}
 use Rattle.nets.specs.Networks.{takenIn}
 use Rattle.nets.specs.declared.Net.{Net}
-use Rattle.text.specs.Spans.{startsOf, leadingOf, behindOf}
-use Rattle.text.specs.Decimal.{Parsed, parsed, nothing, andThen, readNumber}
+use Rattle.text_decimal.specs.Spans.{startsOf, leadingOf, behindOf}
+use Rattle.text_decimal.specs.Decimal.{Parsed, parsed, nothing, andThen, readNumber}
 use Rattle.text.specs.Ipv4.{dot, slash, readNext, badText}
-use Rattle.text.specs.Places.{startsByte}
+use Rattle.text_decimal.specs.Places.{startsByte}
 use Rattle.text_hex.specs.Hex.{isHexDigit, hexNumber, colon}
 use Rattle.text_ipv6_read.specs.Ipv6.{isGroup, ipv6}
 

@@ -11,7 +11,7 @@ use crate::runs;
 use crate::runs::Run;
 use addresses::groups_to_network;
 use nets::Net;
-use text::cursor::byte_at;
+use text_decimal::cursor::byte_at;
 
 // The groups and how many; whether a double colon stands among them, and behind how many; and the place behind the address.
 pub struct Outline {

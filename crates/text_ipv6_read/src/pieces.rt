@@ -4,17 +4,17 @@ ghost use mathlib.Core.Path.{_≡_};
 ghost use Prim.Native.Nat.{_-_, _≤_};
 ghost use lib.Dec.{leb};
 ghost use lib.ListN.{drop};
-ghost use Rattle.text.specs.Decimal.{nothing};
-ghost use Rattle.text.specs.Places.{readAs};
-ghost use Rattle.text.specs.Spans.{startsOf};
+ghost use Rattle.text_decimal.specs.Decimal.{nothing};
+ghost use Rattle.text_decimal.specs.Places.{readAs};
+ghost use Rattle.text_decimal.specs.Spans.{startsOf};
 ghost use Rattle.text_hex.specs.Hex.{isHexDigit};
 ghost use Rattle.text_ipv6_read.specs.Reader.{readGroup, readDotted, readPiece, goesOn};
 ghost use Rattle.text_ipv6_read.specs.Places.{pieceAs};
-use text::cursor;
-use text::cursor::Cursor;
-use text::cursor::Read;
-use text::decimal;
 use text::ipv4;
+use text_decimal::cursor;
+use text_decimal::cursor::Cursor;
+use text_decimal::cursor::Read;
+use text_decimal::decimal;
 
 // What stands at a place, and the place behind it.
 pub enum Found {

@@ -2,8 +2,8 @@
 use mathlib.Core.Path.{refl, sym, _∙_}
 use lib.Seq.{drop-cons}
 use borrow.Author.Needs.{needs}
-use Rattle.text.specs.Spans.{startsOf}
-use Rattle.text.proofs.Places.{starts-past}
+use Rattle.text_decimal.specs.Spans.{startsOf}
+use Rattle.text_decimal.proofs.Places.{starts-past}
 use Rattle.text_hex.specs.Hex.{isHexDigit}
 use Rattle.text_ipv6_read.proofs.pieces.digit_at.Statement.{statement}
 use Rattle.text_ipv6_read.proofs.pieces.digit_at.Tie as tie

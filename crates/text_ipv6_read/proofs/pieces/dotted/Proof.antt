@@ -4,10 +4,10 @@ use Prim.Native.Nat.{_^_, _≤_, _<_}
 use native.Mathlib.Omega.{arith}
 use lib.ListN.{drop}
 use borrow.Author.Needs.{needs}
-use Rattle.text.specs.Decimal.{parsed, readNumber}
+use Rattle.text_decimal.specs.Decimal.{parsed, readNumber}
 use Rattle.text.specs.Ipv4.{dot, readNext}
-use Rattle.text.specs.Places.{readAs, valueOf}
-use Rattle.text.proofs.Numbers.{readNumber-most}
+use Rattle.text_decimal.specs.Places.{readAs, valueOf}
+use Rattle.text_decimal.proofs.Numbers.{readNumber-most}
 use Rattle.text.proofs.Reading.{readAs-is}
 use Rattle.text_ipv6_read.proofs.Found.{three, readDotted-nothing, readDotted-unread, readDotted-read}
 use Rattle.text_ipv6_read.proofs.pieces.dotted.Statement.{statement}

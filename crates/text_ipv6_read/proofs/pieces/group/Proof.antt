@@ -5,8 +5,8 @@ use Prim.Native.Nat.{_-_, _<_}
 use native.Mathlib.Omega.{arith}
 use lib.ListN.{length, drop}
 use borrow.Author.Needs.{needs}
-use Rattle.text.specs.Spans.{startsOf}
-use Rattle.text.proofs.Places.{startsOf-at}
+use Rattle.text_decimal.specs.Spans.{startsOf}
+use Rattle.text_decimal.proofs.Places.{startsOf-at}
 use Rattle.text_hex.specs.Hex.{isHexDigit}
 use Rattle.text_ipv6_read.proofs.Loop.{Reading, reading-start, reading-small, reading-over, reading-again, reading-none, reading-end}
 use Rattle.text_ipv6_read.proofs.pieces.group.Statement.{statement}

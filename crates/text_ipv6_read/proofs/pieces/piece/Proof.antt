@@ -6,7 +6,7 @@ use native.Mathlib.Omega.{arith}
 use lib.Dec.{leb}
 use lib.ListN.{drop}
 use borrow.Author.Needs.{needs}
-use Rattle.text.specs.Decimal.{parsed, nothing}
+use Rattle.text_decimal.specs.Decimal.{parsed, nothing}
 use Rattle.text.proofs.Reading.{readAs-is}
 use Rattle.text_ipv6_read.specs.Reader.{readGroup, readDotted}
 use Rattle.text_ipv6_read.proofs.Groups.{readGroup-most}

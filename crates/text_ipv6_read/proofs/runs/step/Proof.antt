@@ -4,8 +4,8 @@ use Prim.Native.Nat.{_-_, _<_}
 use native.Mathlib.Omega.{arith}
 use lib.ListN.{drop}
 use borrow.Author.Needs.{needs}
-use Rattle.text.specs.Places.{startsByte}
-use Rattle.text.proofs.Places.{starts-within}
+use Rattle.text_decimal.specs.Places.{startsByte}
+use Rattle.text_decimal.proofs.Places.{starts-within}
 use Rattle.text_ipv6_read.specs.Reader.{Piece, readPiece}
 use Rattle.text_ipv6_read.specs.Places.{pieceAs}
 use Rattle.text_ipv6_read.specs.declared.pieces.Found.{Found}
