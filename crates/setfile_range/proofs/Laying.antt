@@ -21,7 +21,7 @@ use Rattle.trie_paths.proofs.Paths.{path-is, length-snoc}
 use Rattle.trie_paths.proofs.Levels.{below-listOf}
 use Rattle.setfile_format.specs.Files.{fileBytes, mostEntries, entryBytes, entryOf, entriesOf}
 use Rattle.setfile_format.proofs.Written.{length-entriesOf, fileBytes-mono, entryAt-next}
-use Rattle.setfile_write.specs.Saving.{Entry, EntryPut}
+use Rattle.setfile_put.specs.Putting.{Entry, EntryPut}
 use Rattle.setfile_range.specs.Edges.{opened, aside, asideOf, asides, parted, On, Fits, Lays, Both, Edges}
 use Rattle.setfile_range.specs.declared.edges.Edge.{Edge}
 use Rattle.setfile_range.proofs.OfRange.{level-opened, level-start, levels-opened}

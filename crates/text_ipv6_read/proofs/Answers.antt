@@ -26,9 +26,10 @@ use Rattle.text.proofs.DecOctet.{octet-number}
 use Rattle.text.proofs.Answers.{takenIn-network, takenIn-refused}
 use Rattle.text_hex.specs.Hex.{hexNumber, colon}
 use Rattle.text_hex.proofs.Digits.{hexNumber-most}
-use Rattle.text_ipv6_read.specs.Ipv6.{isGroup, dotted, Pieces, group, quad, more, Side, empty, pieces, around, IsAddress, full, shortened, ipv6, IsLine6}
+use Rattle.text_ipv6_runs.specs.Runs.{isGroup}
+use Rattle.text_ipv6_read.specs.Ipv6.{dotted, Pieces, group, quad, more, Side, empty, pieces, around, IsAddress, full, shortened, ipv6, IsLine6}
 use Rattle.text_ipv6_read.specs.Reader.{readLine6, enteredLine6}
-use Rattle.text_ipv6_read.proofs.Groups.{isGroup-is}
+use Rattle.text_ipv6_runs.proofs.Groups.{isGroup-is}
 use Rattle.text_ipv6_read.proofs.Dotted.{octet-most}
 use Rattle.text_ipv6_read.proofs.Grammar.{readLine6-accepts, readLine6-refuses}
 

@@ -22,8 +22,8 @@ use Rattle.text.proofs.Grammar.{readNext-append, readNext-is, parsed-one, parse
 use Rattle.text_hex.specs.Hex.{isHexDigit, within}
 use Rattle.text_hex.proofs.Digits.{within-le, isHexDigit-is}
 use Rattle.text_ipv6_read.specs.Ipv6.{dotted, pair}
-use Rattle.text_ipv6_read.specs.Reader.{readDotted}
-use Rattle.text_ipv6_read.proofs.Found.{three}
+use Rattle.text_ipv6_runs.specs.Runs.{readDotted}
+use Rattle.text_ipv6_runs.proofs.Found.{three}
 
 -- A quad is read.
 pub octet-most : (s : List ℕ) → isDecOctet s ≡ true → decimal s ≤ 255

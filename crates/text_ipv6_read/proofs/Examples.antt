@@ -12,8 +12,10 @@ use Rattle.text_decimal.specs.Decimal.{isDigit, decimalFrom, plain, isNumber, r
 use Rattle.text.specs.Ipv4.{readNext, badText}
 use Rattle.text_decimal.specs.Places.{startsByte}
 use Rattle.text_hex.specs.Hex.{isHexDigit, hexValue, hexNumberFrom}
-use Rattle.text_ipv6_read.specs.Ipv6.{isGroup, ipv6}
-use Rattle.text_ipv6_read.specs.Reader.{readGroup, readDotted, readPiece, goesOn, runFrom, startsDouble, readAddress, isOutline, laid, readLine6}
+use Rattle.text_ipv6_runs.specs.Runs.{isGroup}
+use Rattle.text_ipv6_read.specs.Ipv6.{ipv6}
+use Rattle.text_ipv6_runs.specs.Runs.{readGroup, readDotted, readPiece, goesOn, runFrom}
+use Rattle.text_ipv6_read.specs.Reader.{startsDouble, readAddress, isOutline, laid, readLine6}
 
 abbrev bytes : String → List ℕ
 bytes String.[] = []

@@ -20,7 +20,8 @@ use Rattle.text_decimal.proofs.Numbers.{readNumber-is}
 use Rattle.text.proofs.Grammar.{readNumber-all, badText-some, readLine-accepts}
 use Rattle.text_hex.specs.Hex.{isHexDigit, colon}
 use Rattle.text_ipv6_read.specs.Ipv6.{dotted, Pieces, quad, Side, empty, pieces, around, IsAddress, full, shortened, ipv6, IsLine6}
-use Rattle.text_ipv6_read.specs.Reader.{Ran, ran, runFrom, Outline, outline, startsDouble, behindRun, wholeRun, addressFrom, readAddress, isOutline, laid, withLength6, lineFrom, readLine6}
+use Rattle.text_ipv6_runs.specs.Runs.{Ran, ran, runFrom}
+use Rattle.text_ipv6_read.specs.Reader.{Outline, outline, startsDouble, behindRun, wholeRun, addressFrom, readAddress, isOutline, laid, withLength6, lineFrom, readLine6}
 use Rattle.text_ipv6_read.proofs.Joined.{stops-slash, stops-double, run-pieces, run-side, Went, run-went}
 
 -- Groups laid out.
