@@ -1,9 +1,9 @@
 -- `spots::go_on` meets its contract, each return by the tests on the way to it. Assumes nothing.
 use borrow.Author.Needs.{needs}
 use Rattle.nets.specs.Tries.{listOf}
-use Rattle.trie_next.proofs.Onward.{gone-network, gone-end}
-use Rattle.trie_next.proofs.spots.go_on.Statement.{statement}
-use Rattle.trie_next.proofs.spots.go_on.Tie as tie
+use Rattle.trie_spots.proofs.Onward.{gone-network, gone-end}
+use Rattle.trie_spots.proofs.spots.go_on.Statement.{statement}
+use Rattle.trie_spots.proofs.spots.go_on.Tie as tie
 
 pub go-on-spec : {M : Type 1} → statement M
 go-on-spec =

@@ -21,14 +21,14 @@ use Rattle.nets.proofs.Listing.{from-listOf, member-listOf, memberT-length}
 use Rattle.nets.proofs.Lookups.{keep-start, nextL-step, nextL-end, nextL-found}
 use Rattle.nets.proofs.Numbers.{bitsLeft-start, startOf-few, netBits-netFrom, refusalOf-netFrom}
 use Rattle.nets.proofs.Answers.{number-some, prefix-bits, prefix-refused}
 use Rattle.trie_next.specs.Following.{placeOf, lenOf, nextAs}
 use Rattle.trie_next.specs.declared.following.Place.{Place}
 use Rattle.trie_next.specs.declared.following.Place.the-variants.{Start, Past}
 use Rattle.trie_next.specs.declared.following.Next.{Next}
 use Rattle.trie_next.specs.declared.following.Next.the-variants.{Network, End}
 use Rattle.nodes.specs.declared.seats.Seat.{Seat}
-use Rattle.trie_next.specs.Spots.{nowhere, beforeAll, placeIn, Right, landed, goneOn, StandsIn}
-use Rattle.trie_next.specs.declared.spots.Spot.{Spot}
+use Rattle.trie_spots.specs.Spots.{nowhere, beforeAll, placeIn, Right, landed, goneOn, StandsIn}
+use Rattle.trie_spots.specs.declared.spots.Spot.{Spot}
 
 -- The returns of `place_in`.
 pub place-start : (s : Spot) → s .begun ≡ false → (placeOf Start ≡ placeIn s) × (lenOf Start ≤ 128)

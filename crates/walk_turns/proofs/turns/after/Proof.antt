@@ -1,8 +1,8 @@
 -- `turns::after` meets its contract, each return by the tests on the way to it. Assumes nothing.
 use borrow.Author.Needs.{needs}
-use Rattle.walk.proofs.Reached.{after-here, after-on, after-end}
-use Rattle.walk.proofs.turns.after.Statement.{statement}
-use Rattle.walk.proofs.turns.after.Tie as tie
+use Rattle.walk_turns.proofs.Returns.{after-here, after-on, after-end}
+use Rattle.walk_turns.proofs.turns.after.Statement.{statement}
+use Rattle.walk_turns.proofs.turns.after.Tie as tie
 
 pub after-spec : {M : Type 1} → statement M
 after-spec =

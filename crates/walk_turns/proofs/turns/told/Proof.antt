@@ -1,7 +1,7 @@
 -- `turns::told` meets its contract, each return by the tests on the way to it. Assumes nothing.
-use Rattle.walk.proofs.Reached.{told-damaged, told-noset, told-network, told-end}
-use Rattle.walk.proofs.turns.told.Statement.{statement}
-use Rattle.walk.proofs.turns.told.Tie as tie
+use Rattle.walk_turns.proofs.Returns.{told-damaged, told-noset, told-network, told-end}
+use Rattle.walk_turns.proofs.turns.told.Statement.{statement}
+use Rattle.walk_turns.proofs.turns.told.Tie as tie
 
 pub told-spec : {M : Type 1} → statement M
 told-spec =

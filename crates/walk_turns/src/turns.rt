@@ -1,11 +1,11 @@
 // The turns of going to a place of a list, and what is told there.
 ghost use mathlib.Core.Path.{_≡_};
 ghost use Rattle.listing.specs.Calls.{followerAs};
-ghost use Rattle.walk.specs.Places.{firstTurn, turnAfter, IsNo, toldOf};
+ghost use Rattle.walk_turns.specs.Turns.{firstTurn, turnAfter, IsNo, toldOf};
 use listing::Follower;
 use nets::Net;
 use nets::Refusal;
-use trie_next::spots::Spot;
+use trie_spots::spots::Spot;
 
 // Whether to go on, and how many networks are still to be passed.
 pub struct Turn {

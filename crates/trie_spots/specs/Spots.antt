@@ -17,7 +17,7 @@ use Rattle.nets.specs.Lists.{Place, start, past, Found, found, missing, nextL}
 use Rattle.nets.specs.Networks.{netBits, netFrom, refusalOf, noNet}
 use Rattle.trie_paths.specs.Spans.{Holds}
 use Rattle.nodes.specs.declared.seats.Seat.{Seat}
-use Rattle.trie_next.specs.declared.spots.Spot.{Spot}
+use Rattle.trie_spots.specs.declared.spots.Spot.{Spot}
 
 abbrev pub nowhere : Seat
 nowhere = record { family = 4; base = 0; first = 1; end = 1 }

@@ -2,15 +2,15 @@
 ghost use mathlib.Core.Path.{_≡_};
 ghost use Prim.Native.Nat.{_≤_};
 ghost use Rattle.nets.specs.Tries.{Trie, listOf};
 ghost use Rattle.trie_next.specs.Following.{placeOf, lenOf};
-ghost use Rattle.trie_next.specs.Spots.{nowhere, beforeAll, placeIn, Right, StandsIn, goneOn, Goes};
-use crate::following::Next;
-use crate::following::Place;
-use crate::following::next_after;
+ghost use Rattle.trie_spots.specs.Spots.{nowhere, beforeAll, placeIn, Right, StandsIn, goneOn, Goes};
 use nets::IPV4;
 use nets::Net;
 use nets::Prefix;
 use nodes::seats::Seat;
+use trie_next::following::Next;
+use trie_next::following::Place;
+use trie_next::following::next_after;
 
 // Before the first network, at one, or behind the last: `more` says whether it is at a network, `begun` whether it has been at any, and `net` is the last one.
 pub struct Spot {

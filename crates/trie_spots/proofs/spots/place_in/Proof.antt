@@ -1,9 +1,9 @@
 -- `spots::place_in` meets its contract, each return by the tests on the way to it. Assumes nothing.
 use borrow.Author.Needs.{needs}
 use borrow.Author.Tests.{not-true, not-false}
-use Rattle.trie_next.proofs.Onward.{place-start, place-past, place-never}
-use Rattle.trie_next.proofs.spots.place_in.Statement.{statement}
-use Rattle.trie_next.proofs.spots.place_in.Tie as tie
+use Rattle.trie_spots.proofs.Onward.{place-start, place-past, place-never}
+use Rattle.trie_spots.proofs.spots.place_in.Statement.{statement}
+use Rattle.trie_spots.proofs.spots.place_in.Tie as tie
 
 pub place-in-spec : {M : Type 1} → statement M
 place-in-spec =
