@@ -44,7 +44,7 @@ fn load_file(pool: &mut [u32], bytes: &mut [u8]) -> u8 {
 
 // Prints the networks of the set, by way of lent rows.
 fn print(pool: &[u32], family: u8, rows: &mut [u64]) {
-    if !tool_io::print_set(pool, family, 0, rows) {
+    if !tool_print::print_set(pool, family, 0, rows) {
         tool_files::say_failed(b"set-to-lines", b"standard output");
     }
 }

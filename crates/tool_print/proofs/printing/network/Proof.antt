@@ -5,9 +5,9 @@ use native.Mathlib.Omega.{arith}
 use borrow.Author.Needs.{needs}
 use lib.ListN.{length}
 use lib.Seq.{length-take-le}
-use Rattle.tool_io.proofs.Fits.{wrote-fits}
-use Rattle.tool_io.proofs.printing.network.Statement.{statement}
-use Rattle.tool_io.proofs.printing.network.Tie as tie
+use Rattle.tool_print.proofs.Fits.{wrote-fits}
+use Rattle.tool_print.proofs.printing.network.Statement.{statement}
+use Rattle.tool_print.proofs.printing.network.Tie as tie
 
 fits : (c : tie.After-known-told) → c .before .written .given .0 .0 ≤ length (c .before .before .before .before .before .write-line .last .1 .0)
 fits c =

@@ -2,8 +2,8 @@
 use Prim.Native.Nat.{_-_, _*_, _≤_}
 use borrow.Author.Needs.{needs}
 use lib.ListN.{length}
-use Rattle.tool_io.proofs.printing.networks.Statement.{statement}
-use Rattle.tool_io.proofs.printing.networks.Tie as tie
+use Rattle.tool_print.proofs.printing.networks.Statement.{statement}
+use Rattle.tool_print.proofs.printing.networks.Tie as tie
 
 abbrev Inv-loop : tie.InvT-loop
 Inv-loop family rows count i₀ i = (i ≤ count) × (3 * count ≤ length rows)

@@ -1,9 +1,9 @@
 -- `printing::print_set` is safe and ends: the rows that `list` says that it wrote lie within those lent. Assumes nothing.
 use native.Mathlib.Omega.{arith}
 use borrow.Author.Needs.{needs}
-use Rattle.tool_io.proofs.Fits.{listed-fits}
-use Rattle.tool_io.proofs.printing.print_set.Statement.{statement}
-use Rattle.tool_io.proofs.printing.print_set.Tie as tie
+use Rattle.tool_print.proofs.Fits.{listed-fits}
+use Rattle.tool_print.proofs.printing.print_set.Statement.{statement}
+use Rattle.tool_print.proofs.printing.print_set.Tie as tie
 
 networks-requires : tie.Need-networks-requires
 networks-requires c κs =
