@@ -1,4 +1,5 @@
-// Runs the examples of RFC 4291, sections 2.2 and 2.3, and of RFC 5952, sections 2, 4 and 5, through reading and writing: the rows of its input, each against what it must answer.
+// Runs the examples of RFC 4291, sections 2.2 and 2.3, and of RFC 5952, sections 2, 4 and 5, through reading and writing: the rows of its input, each
+// against what it must answer.
 mod expect;
 
 ghost use Prim.Native.Nat.{_≤_};

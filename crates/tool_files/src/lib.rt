@@ -1,5 +1,5 @@
-// What the programs share of files: by name, read and written whole, and messages on standard error. What is read and written no contract can say: each function is
-// proved safe and ending.
+// What the programs share of files: by name, read and written whole, and messages on standard error. What is read and written no contract can say: each
+// function is proved safe and ending.
 mod opening;
 mod room;
 mod saying;
