@@ -22,9 +22,9 @@ use Rattle.nodes.specs.declared.seats.Seat.{Seat}
 use Rattle.trie_paths.proofs.Reading.{spans-small}
 use Rattle.trie_paths.proofs.Counting.{listOf-size}
 use Rattle.listing.proofs.Seats.{Sits, sits-at}
-use Rattle.trie_next.specs.Spots.{nowhere, beforeAll, goneOn, Right, StandsIn, Goes}
-use Rattle.trie_next.specs.declared.spots.Spot.{Spot}
-use Rattle.trie_next.proofs.Onward.{stands-nowhere, seat-gone, Lists, lists-trie, ahead, ahead-all, gone-more, gone-last, right-gone}
+use Rattle.trie_spots.specs.Spots.{nowhere, beforeAll, goneOn, Right, StandsIn, Goes}
+use Rattle.trie_spots.specs.declared.spots.Spot.{Spot}
+use Rattle.trie_spots.proofs.Onward.{stands-nowhere, seat-gone, Lists, lists-trie, ahead, ahead-all, gone-more, gone-last, right-gone}
 use Rattle.walk.specs.Walks.{walkNo, listIn, seatIn, beginIn, walkStart, walkOn, Walking, pass, through}
 use Rattle.walk.specs.declared.walking.Walk.{Walk}
 

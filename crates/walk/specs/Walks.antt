@@ -21,7 +21,7 @@ use Rattle.pool_state.specs.Decode.{Decoded, damaged, sound, decode}
 use Rattle.pool_state.specs.Changes.{listAt}
 use Rattle.pool_state.specs.Rules.{unknown, seatAt}
 use Rattle.nodes.specs.declared.seats.Seat.{Seat}
-use Rattle.trie_next.specs.Spots.{nowhere, beforeAll, goneOn, Right}
+use Rattle.trie_spots.specs.Spots.{nowhere, beforeAll, goneOn, Right}
 use Rattle.walk.specs.declared.beginning.Stage.{Stage}
 use Rattle.walk.specs.declared.walking.Walk.{Walk}
 

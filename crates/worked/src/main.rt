@@ -1,5 +1,5 @@
 // Runs the scope document's worked networks that are not proved as a table through the public calls, with cases at full pools, at the ends of the
-// address words and at refusals: the rows of its input, each against what it must answer.
+// address words, at refusals and of public-only sets: the rows of its input, each against what it must answer.
 use pool_state::Told;
 use test_counts::Tally;
 use test_counts::calls;
@@ -8,7 +8,7 @@ use test_counts::calls::taken;
 use test_counts::table;
 use test_counts::table::Place;
 
-// The words of the largest pool here: one set, 256 nodes.
+// The words of the largest pools here: one set of 256 nodes, three of 250.
 const WORDS: usize = 2120;
 
 fn told(a: Told) -> Got {
@@ -37,6 +37,7 @@ fn on_sets(pool: &mut [u32], row: &[u8], letter: u8) -> Got {
 fn call(pool: &mut [u32], row: &[u8]) -> Got {
     let letter = calls::letter(row);
     match letter {
+        b'p' => calls::answer(make_public::make_public(pool, taken(row, 1))),
         b'm' | b'i' | b'e' | b'k' | b'g' | b'c' => on_sets(pool, row, letter),
         _ => calls::call(pool, row),
     }
