@@ -8,6 +8,7 @@ use crate::wire::*;
 extern "C" {
     fn marlbrace_words(sets: u32, nodes: u32) -> u64;
     fn marlbrace_layout(pool: *mut u32, pool_len: usize, family: u8, sets: u32, nodes: u32, shares: *const u32, shares_len: usize, limits: *const u32, limits_len: usize) -> u64;
+    fn marlbrace_layout_indexed(pool: *mut u32, pool_len: usize, family: u8, sets: u32, nodes: u32, shares: *const u32, shares_len: usize, limits: *const u32, limits_len: usize, indexed: u64) -> u64;
     fn marlbrace_free(pool: *const u32, pool_len: usize) -> u64;
     fn marlbrace_held(pool: *const u32, pool_len: usize, set: u32) -> u64;
     fn marlbrace_networks(pool: *const u32, pool_len: usize, set: u32) -> u64;
@@ -156,7 +157,11 @@ fn answered(pool: &mut [u32], c: &Call) -> Option<(u64, Vec<u8>)> {
                 let (words, more) = (c.net.len as usize, (c.c % 256) as usize);
                 let at = |k: usize| (0..4).map(|j| (*c.tail.get(4 * k + j).unwrap_or(&0) as u32) << (8 * j)).sum::<u32>();
                 let (shares, limits): (Vec<u32>, Vec<u32>) = ((0..words).map(at).collect(), (words..words + more).map(at).collect());
-                marlbrace_layout(w, m, n.family, c.a, c.b, shares.as_ptr(), shares.len(), limits.as_ptr(), limits.len())
+                if n.hi == 0 {
+                    marlbrace_layout(w, m, n.family, c.a, c.b, shares.as_ptr(), shares.len(), limits.as_ptr(), limits.len())
+                } else {
+                    marlbrace_layout_indexed(w, m, n.family, c.a, c.b, shares.as_ptr(), shares.len(), limits.as_ptr(), limits.len(), n.hi)
+                }
             }
             FREE => marlbrace_free(w, m),
             HELD => marlbrace_held(w, m, c.a),

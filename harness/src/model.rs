@@ -82,7 +82,8 @@ fn layout(w: &mut [u32], c: &Call) -> Answer {
     let right = is_family(family)
         && (1..=64).contains(&sets)
         && (1..=4_194_304).contains(&nodes)
-        && 64 + 8 * sets + 8 * nodes <= w.len() as u64
+        && (sets == 64 || c.net.hi >> sets == 0)
+        && crate::layout::least(sets, nodes, c.net.hi.count_ones() as u64) <= w.len() as u64
         && shares.len() as u64 == sets
         && limits.len() as u64 == sets
         && shares.iter().zip(&limits).all(|(s, l)| s <= l)
@@ -90,11 +91,17 @@ fn layout(w: &mut [u32], c: &Call) -> Answer {
     if !right {
         return Answer::refused(1);
     }
-    w[..(64 + 8 * sets + 8 * nodes) as usize].fill(0);
-    w[..4].copy_from_slice(&[crate::layout::MARK, family as u32, c.a, c.b]);
+    w[..crate::layout::least(sets, nodes, c.net.hi.count_ones() as u64) as usize].fill(0);
+    w[..5].copy_from_slice(&[crate::layout::MARK, family as u32, c.a, c.b, c.net.hi.count_ones()]);
     for k in 0..sets as usize {
         w[65 + 8 * k] = shares[k];
         w[66 + 8 * k] = limits[k];
+        if c.net.hi >> k & 1 == 1 {
+            let j = (c.net.hi & ((1 << k) - 1)).count_ones();
+            w[68 + 8 * k] = j + 1;
+            let at = crate::layout::least(sets, nodes, j as u64) as usize;
+            w[at..at + 256].fill(16);
+        }
     }
     number(0)
 }
@@ -189,14 +196,35 @@ fn path(w: &[u32], set: u32, n: &Net) -> Result<(Option<u8>, u32), u8> {
         0 => {}
         no => return Err(no),
     }
-    if root > nodes {
-        return Err(2);
-    }
-    if root == 0 {
-        return Ok((None, 0));
-    }
-    let (mut i, wide, a) = (root, width(family), address(n));
-    for depth in 0.. {
+    let (wide, a) = (width(family), address(n));
+    let tag = w[68 + 8 * set as usize] as u64;
+    let (mut i, from) = if tag == 0 || n.len < 8 {
+        if root > nodes {
+            return Err(2);
+        }
+        if root == 0 {
+            return Ok((None, 0));
+        }
+        (root, 0)
+    } else {
+        // the path begins at the index word
+        if tag > w[4] as u64 {
+            return Err(2);
+        }
+        let x = w[crate::layout::least(w[2] as u64, nodes, tag - 1) as usize + (a >> (wide - 8)) as usize] as u64;
+        if (16..=24).contains(&x) {
+            return Ok((None, x as u32 - 16));
+        }
+        let (d, i) = (x % 32, root + x / 32);
+        if d > 8 || i == 0 || i > nodes {
+            return Err(2);
+        }
+        if d < 8 {
+            return if w[base + (i - 1) as usize] == 0 { Ok((Some(d as u8), d as u32 + 1)) } else { Err(2) };
+        }
+        (i, 8)
+    };
+    for depth in from.. {
         let x = w[base + (i - 1) as usize] as u64;
         if x == 0 {
             return Ok((Some(depth), depth as u32 + 1));

@@ -86,6 +86,8 @@ pub struct Plan {
     pub family: u8,
     pub universe: Universe,
     pub sets: u32,
+    /// bit s: set s is indexed
+    pub indexed: u64,
     pub nodes: u32,
     pub shares: Vec<u32>,
     pub limits: Vec<u32>,
@@ -112,16 +114,18 @@ impl Plan {
             shares.push(share);
             limits.push(if d.one_in(8) { u32::MAX } else { share + d.below(nodes as u64 + 2) as u32 });
         }
-        Plan { family, universe, sets, nodes, shares, limits }
+        // one plan in three has indexed sets
+        let indexed = if d.one_in(3) { d.below(1 << sets) } else { 0 };
+        Plan { family, universe, sets, nodes, shares, limits, indexed }
     }
 
     pub fn words(&self) -> usize {
-        (64 + 8 * self.sets + 8 * self.nodes) as usize
+        crate::layout::least(self.sets as u64, self.nodes as u64, self.indexed.count_ones() as u64) as usize
     }
 
     pub fn layout(&self) -> Call {
         let tail = self.shares.iter().chain(&self.limits).flat_map(|n| n.to_le_bytes()).collect();
-        Call { a: self.sets, b: self.nodes, c: self.sets, net: Net { family: self.family, len: self.sets as u8, ..Net::default() }, tail, ..Call::new(LAYOUT) }
+        Call { a: self.sets, b: self.nodes, c: self.sets, net: Net { family: self.family, hi: self.indexed, len: self.sets as u8, ..Net::default() }, tail, ..Call::new(LAYOUT) }
     }
 
     fn member(&self, d: &mut Dice) -> Member {
