@@ -75,7 +75,7 @@ length-keptEnc f p none = omega arith
 length-keptEnc f p (node l r) =
     let x : ℕ = cond (kept l r) 1 0 in
     let a = length-own (kept l r) f p (distance l r) in
-    let e = length-append (ownWords (kept l r) f p (distance l r)) (keptEnc f (snoc p false) l ++ keptEnc f (snoc p true) r) in
-    let g = length-append (keptEnc f (snoc p false) l) (keptEnc f (snoc p true) r) in
+    let e = length-append (ownWords (kept l r) f p (distance l r)) (keptEnc f (snoc p true) r ++ keptEnc f (snoc p false) l) in
+    let g = length-append (keptEnc f (snoc p true) r) (keptEnc f (snoc p false) l) in
     rw (mul-add (stride f) (x + keptSize l) (keptSize r), mul-add (stride f) x (keptSize l))
     (omega (arith, length-keptEnc f (snoc p false) l, length-keptEnc f (snoc p true) r))

@@ -1,4 +1,4 @@
-// Writing a node of the second form: its string and the distance to its second child.
+// Writing a node of the second form: its string and the distance to its first child.
 ghost use mathlib.Core.Path.{_≡_};
 ghost use mathlib.Core.List.{[], _∷_};
 ghost use Prim.Native.Nat.{_+_, _*_, _%_, _^_, _≤_, _<_};
@@ -30,7 +30,7 @@ fn write_long(w: &mut [u32], p: usize, s: Net, d: usize)
     w[p + 4] = (s.lo % 4294967296) as u32;
 }
 
-// Writes node i: its string s, and the distance d to its second child, 0 for a member.
+// Writes node i: its string s, and the distance d to its first child, 0 for a member.
 pub fn write_node(w: &mut [u32], family: u8, b: usize, i: usize, s: Net, d: usize)
     requires { ⌜ Writable family (now w) b i d ⌝ }
     ensures { λ _. ⌜ Writes family (now (w .entry)) (now (w .exit)) b i s d ⌝ }
