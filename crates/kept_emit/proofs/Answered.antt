@@ -23,24 +23,12 @@ use Rattle.trie_emit.proofs.Answers.{by-kind, by-glue}
 use Rattle.trie_paths.specs.Spans.{snoc}
 use Rattle.trie_paths.proofs.Paths.{path-is, length-snoc}
 use Rattle.branch_points.specs.KeptTries.{kept, keptSize}
-use Rattle.branch_points.proofs.Sizes.{keptSize-some}
+use Rattle.branch_points.proofs.Sizes.{keptSize-some, keptSize-none, keptSize-halves, keptSize-second, keptSize-first, keptSize-both}
 use Rattle.kept_nodes.specs.Words.{stride, nodeWords, distance, ownWords, keptEnc, spot}
-use Rattle.kept_nodes.proofs.Places.{spot-on, spot-next, length-nodeWords, length-keptEnc}
+use Rattle.kept_nodes.proofs.Places.{spot-on, spot-next, spot-before, length-nodeWords, length-keptEnc, keptEnc-leaf, keptEnc-none}
 use Rattle.kept_emit.specs.Answers.{said, answer, body, Emits, sizeOf, restOf, isFull, Both, Pending, topWords}
 use Rattle.kept_emit.specs.declared.emitting.Emitted.{Emitted}
 use Rattle.kept_emit.specs.declared.emitting.Emitted.the-variants.{Empty, Full, Node}
-
--- a node stands before all later ones
-pub spot-le : (f b i j : ℕ) → i ≤ j → spot f b i ≤ spot f b j
-unfolding spot
-spot-le f b i j le = let h : i - 1 ≤ j - 1 = omega arith in omega (arith, mul-le-mul-left (stride f) h)
-
-pub spot-end : (f b n e : ℕ) → e ≤ suc n → spot f b e ≤ b + stride f * n
-unfolding spot
-spot-end f b n e le = let q : e - 1 ≤ n = omega arith in omega (arith, mul-le-mul-left (stride f) q)
-
-pub spot-before : (f b i e : ℕ) → 1 ≤ i → i < e → spot f b i + stride f ≤ spot f b e
-spot-before f b i e pos lt = rw (spot-next f b i pos) (spot-le f b (i + 1) e (omega arith))
 
 answer-node : (l r : Trie) → bare l r ≡ false → answer (node l r) ≡ Node (keptSize (node l r))
 unfolding answer
@@ -57,37 +45,6 @@ full-answer = by-kind (λ t. isFull (answer t) ≡ isLeaf t) refl refl (λ l r e
 pub size-is : (x : Emitted) (t : Trie) → x ≡ answer t → sizeOf x ≡ keptSize t
 size-is x t e = rw e (size-answer t)
 
-none-is : (t : Trie) → keptSize t ≡ 0 → t ≡ none
-none-is none e = refl
-none-is (node l r) e = absurd (omega (arith, keptSize-some (node l r) (some l r)))
-
-pub halves-le : (l r : Trie) → keptSize l + keptSize r ≤ keptSize (node l r)
-unfolding keptSize
-halves-le l r = go (kept l r)
-  where
-    go : (c : Bool) → keptSize l + keptSize r ≤ cond c 1 0 + keptSize l + keptSize r
-    go true = omega arith
-    go false = omega arith
-
--- the size of a node by those of its children
-size-second : (l r : Trie) → keptSize l ≡ 0 → (keptSize r ≡ 0 → ⊥) → keptSize (node l r) ≡ keptSize r
-unfolding keptSize
-size-second none none e f = absurd (f refl)
-size-second none (node x y) e f = omega arith
-size-second (node x y) r e f = absurd (omega (arith, keptSize-some (node x y) (some x y)))
-
-size-first : (l r : Trie) → keptSize r ≡ 0 → (keptSize l ≡ 0 → ⊥) → keptSize (node l r) ≡ keptSize l
-unfolding keptSize
-size-first none none e f = absurd (f refl)
-size-first (node x y) none e f = omega arith
-size-first l (node x y) e f = absurd (omega (arith, keptSize-some (node x y) (some x y)))
-
-size-both : (l r : Trie) → (keptSize l ≡ 0 → ⊥) → (keptSize r ≡ 0 → ⊥) → keptSize (node l r) ≡ 1 + keptSize l + keptSize r
-unfolding keptSize
-size-both none r e f = absurd (e refl)
-size-both (node x y) none e f = absurd (f refl)
-size-both (node x y) (node z u) e f = omega arith
-
 -- over two answers
 module _ (j : Bool) {x y : Emitted} {l r : Trie} (d : Both x y l r) (a c : ℕ) (ea : a ≡ sizeOf x) (ec : c ≡ sizeOf y) where
   pub sizes : (a ≡ keptSize l) × (c ≡ keptSize r)
@@ -95,7 +52,7 @@ module _ (j : Bool) {x y : Emitted} {l r : Trie} (d : Both x y l r) (a c : ℕ) 
 
   pub over-none : a + c ≡ 0 → Empty ≡ answer (glue j l r)
   unfolding answer
-  over-none h = rw (none-is l (omega (arith, sizes)), none-is r (omega (arith, sizes)))
+  over-none h = rw (keptSize-none l (omega (arith, sizes)), keptSize-none r (omega (arith, sizes)))
 
   module _ (z : Bool) (full : z ≡ (j && (isFull x && isFull y))) where
     leaves : z ≡ (j && (isLeaf l && isLeaf r))
@@ -118,30 +75,22 @@ module _ (j : Bool) {x y : Emitted} {l r : Trie} (d : Both x y l r) (a c : ℕ) 
       over-is = glue-node l r (λ e. nz (omega (arith, sizes))) (sym leaves ∙ apart)
 
       pub over-second : a ≡ 0 → Node (c) ≡ answer (glue j l r)
-      over-second e = sym (over-is ∙ ap Node (size-second l r (omega (arith, sizes)) (λ h. nz (omega (arith, sizes))) ∙ sym (sizes .1)))
+      over-second e = sym (over-is ∙ ap Node (keptSize-second l r (omega (arith, sizes)) (λ h. nz (omega (arith, sizes))) ∙ sym (sizes .1)))
 
       pub over-first : c ≡ 0 → Node (a) ≡ answer (glue j l r)
-      over-first e = sym (over-is ∙ ap Node (size-first l r (omega (arith, sizes)) (λ h. nz (omega (arith, sizes))) ∙ sym (sizes .0)))
+      over-first e = sym (over-is ∙ ap Node (keptSize-first l r (omega (arith, sizes)) (λ h. nz (omega (arith, sizes))) ∙ sym (sizes .0)))
 
       pub over-both : (a ≡ 0 → ⊥) → (c ≡ 0 → ⊥) → Node (1 + a + c) ≡ answer (glue j l r)
-      over-both f g = sym (over-is ∙ ap Node (size-both l r (λ h. f (omega (arith, sizes))) (λ h. g (omega (arith, sizes))) ∙ rw (sizes .0, sizes .1)))
+      over-both f g = sym (over-is ∙ ap Node (keptSize-both l r (λ h. f (omega (arith, sizes))) (λ h. g (omega (arith, sizes))) ∙ rw (sizes .0, sizes .1)))
 
 -- What was written, with what the answer left to write, is the whole.
-enc-leaf : (f : ℕ) (p : Bits) → keptEnc f p leaf ≡ nodeWords f p 0
-unfolding keptEnc distance
-enc-leaf f p = append-nil (nodeWords f p 0)
-
-enc-none : (f : ℕ) (p : Bits) → keptEnc f p none ≡ []
-unfolding keptEnc
-enc-none f p = refl
-
 rest-put : (f : ℕ) (p : Bits) (t : Trie) (w : List ℕ) (q : ℕ) → put (put w q (body f p t)) q (restOf f p (answer t)) ≡ put w q (keptEnc f p t)
 unfolding answer body
 rest-put f p t w q = by-kind (λ t. put (put w q (body f p t)) q (restOf f p (answer t)) ≡ put w q (keptEnc f p t))
-    (rest-none f p w q) (rw (put-nil w q, enc-leaf f p)) (λ l r e. rw (answer-node l r e, e) (put-nil (put w q (keptEnc f p (node l r))) q)) t
+    (rest-none f p w q) (rw (put-nil w q, keptEnc-leaf f p)) (λ l r e. rw (answer-node l r e, e) (put-nil (put w q (keptEnc f p (node l r))) q)) t
   where
     rest-none : (f : ℕ) (p : Bits) (w : List ℕ) (q : ℕ) → put (put w q []) q [] ≡ put w q (keptEnc f p none)
-    rest-none f p w q = rw (put-nil w q) (ap (put w q) (sym (enc-none f p)))
+    rest-none f p w q = rw (put-nil w q) (ap (put w q) (sym (keptEnc-none f p)))
 
 length-body : (f : ℕ) (p : Bits) (t : Trie) → length (body f p t) ≤ stride f * keptSize t
 unfolding body
@@ -245,13 +194,13 @@ module _ {f : ℕ} {v w : List ℕ} {b : ℕ} {j : Bool} {p : Bits} {e : ℕ} {x
     enough = let q = whole in rw (q .0) at (h .room (rw (q .0) (bare-mixed l r (q .1))))
 
     ends : (m + keptSize l ≡ e) × (o + keptSize r ≡ m) × (1 ≤ o)
-    ends = omega (arith, em, eo, size-is x l (h .both .first), size-is y r (h .both .second), halves-le l r, enough)
+    ends = omega (arith, em, eo, size-is x l (h .both .first), size-is y r (h .both .second), keptSize-halves l r, enough)
 
     full-one : (z : Emitted) (t : Trie) → z ≡ answer t → z ≡ Full → 1 ≤ keptSize t
     full-one z t q full = let g : sizeOf z ≡ 1 = rw full in omega (arith, size-is z t q)
 
     two : (l r : Trie) → keptSize (node l r) < e → (keptSize l ≡ 0 → ⊥) → (keptSize r ≡ 0 → ⊥) → 1 + keptSize l + keptSize r < e
-    two l r lt nl nr = omega (arith, size-both l r nl nr)
+    two l r lt nl nr = omega (arith, keptSize-both l r nl nr)
 
     pub numbers : Numbers f (length w) b o m e x y
     numbers =

@@ -4,58 +4,36 @@ use mathlib.Core.Bool.{Bool, true, false, cond}
 use mathlib.Core.List.{List, []}
 use mathlib.Core.Logic.{_⊎_, inl, inr, ⊎-elim}
 use Prim.Native.Nat.{ℕ, zero, suc, _+_, _-_, _*_, _≤_, _<_, _^_, max}
-use native.Mathlib.Nat.{mul-add, suc-mul, mul-le-mul-left}
 use native.Mathlib.Omega.{arith}
 use lib.ListN.{length}
 use Rattle.nets.specs.Bits.{Bits}
-use Rattle.nets.specs.Tries.{Trie, none, node, leaf, size, levels, glue, bare, listOf}
+use Rattle.nets.specs.Tries.{Trie, none, node, leaf, size, levels, glue, bare}
 use Rattle.nets.specs.TrieOps.{Kind, flat, mixed, kindOf, verdict, opT, half}
 use Rattle.nets.specs.Networks.{width, netFrom}
 use Rattle.nets.specs.declared.Net.{Net}
 use Rattle.nets.proofs.Glue.{levels-half}
-use Rattle.nets.proofs.Nodes.{nodesL-listOf}
 use Rattle.nets.proofs.Numbers.{width-le}
 use Rattle.nets.proofs.Operate.{flat≢mixed, verdict-levels, opHalf, opT-flat, opT-mixed}
 use Rattle.nodes.specs.Words.{put, Has, Apart}
 use Rattle.nodes.proofs.Put.{length-put, put-nil}
 use Rattle.nodes.proofs.Has.{has-put}
-use Rattle.nodes.proofs.Tries.{some}
 use Rattle.trie_emit.specs.Combine.{opOf, joined, opOn, rank}
 use Rattle.trie_emit.proofs.Answers.{by-kind, by-glue, length-body}
 use Rattle.trie_emit.proofs.Combine.{size-op}
 use Rattle.trie_paths.specs.Spans.{snoc}
 use Rattle.trie_paths.proofs.Paths.{length-snoc}
 use Rattle.branch_points.specs.KeptTries.{kept, keptSize}
-use Rattle.branch_points.proofs.Sizes.{keptSize-some}
-use Rattle.branch_points.proofs.Counts.{keptNodesL-listOf, keptNodesL-le}
+use Rattle.branch_points.proofs.Sizes.{keptSize-halves, size-deep}
+use Rattle.branch_points.proofs.Counts.{keptSize-le}
 use Rattle.kept_nodes.specs.Words.{stride, keptEnc, spot}
 use Rattle.kept_nodes.specs.Parse.{KeptRoom, KeptStands}
-use Rattle.kept_nodes.proofs.Places.{spot-on, length-keptEnc}
+use Rattle.kept_nodes.proofs.Places.{spot-on, spot-le, spot-end, length-keptEnc, room-put}
 use Rattle.kept_sources.specs.Sources.{KeptHere, KeptMeans, nothing, everything, standing}
 use Rattle.kept_emit.specs.Answers.{said, answer, body, Emits, sizeOf, Both, Pending}
 use Rattle.kept_emit.specs.Combine.{Inputs, Gap}
 use Rattle.kept_emit.specs.declared.emitting.Emitted.{Emitted}
 use Rattle.kept_emit.specs.declared.emitting.Emitted.the-variants.{Empty, Full}
-use Rattle.kept_emit.proofs.Answered.{spot-le, spot-end, halves-le, size-is}
-
--- All nodes of a trie of at most k levels are at most k times the kept ones.
-grown : (k s l r x y : ℕ) → x ≤ k * l → y ≤ k * r → l + r ≤ s → 1 ≤ s → k * (l + r) ≤ k * s → 1 + x + y ≤ suc k * s
-grown k s l r x y p q le one m = rw (suc-mul k s) (omega (arith, mul-add k l r))
-
-size-deep : (t : Trie) (k : ℕ) → levels t ≤ k → size t ≤ k * keptSize t
-unfolding size levels
-size-deep none k h = omega arith
-size-deep (node l r) zero h = absurd (omega arith)
-size-deep (node l r) (suc k) h =
-    grown k (keptSize (node l r)) (keptSize l) (keptSize r) (size l) (size r) (size-deep l k (omega arith)) (size-deep r k (omega arith)) (halves-le l r)
-    (keptSize-some (node l r) (some l r))
-    (mul-le-mul-left k (halves-le l r))
-
-pub keptSize-le : (t : Trie) → keptSize t ≤ size t
-keptSize-le t = omega (arith, keptNodesL-listOf t, nodesL-listOf t, keptNodesL-le (listOf t))
-
-room-put : {f : ℕ} {w : List ℕ} {b n : ℕ} (q : ℕ) (ys : List ℕ) → KeptRoom f w b n → KeptRoom f (put w q ys) b n
-room-put {f} {w} q ys r = record { family = r .family; low = r .low; few = r .few; long = rw (length-put w q ys) (r .long) }
+use Rattle.kept_emit.proofs.Answered.{size-is}
 
 module _ {f : ℕ} {w : List ℕ} {b n o e : ℕ} {p : Bits} where
   means-size : n ≤ 4194304 → (i : ℕ) (t : Trie) → KeptMeans f w b n o e p i t → size t ≤ 541065216
@@ -114,7 +92,7 @@ fits-glue j o e one = by-glue (λ l r t. (kindOf t ≡ mixed → o + keptSize t 
     → o + keptSize r ≤ e - keptSize l) × (kindOf t ≡ mixed → keptSize t < e)) j
     (λ f. (λ h. absurd (flat≢mixed false h), λ h. absurd (flat≢mixed false h), λ h. absurd (flat≢mixed false h)))
     (λ q f. (λ h. absurd (flat≢mixed true h), λ h. absurd (flat≢mixed true h), λ h. absurd (flat≢mixed true h)))
-    (λ l r h f. let n = f (rw h) in (λ q. omega (arith, halves-le l r), λ q. omega (arith, halves-le l r), λ q. omega arith))
+    (λ l r h f. let n = f (rw h) in (λ q. omega (arith, keptSize-halves l r), λ q. omega (arith, keptSize-halves l r), λ q. omega arith))
 
 -- One step.
 rank-flat : (k : Kind) (x : Bool) → rank k ≡ rank (flat x) → k ≡ flat x
