@@ -83,7 +83,7 @@ length-nodeWords f s d = go (eqb f 4)
     go true = refl
     go false = refl
 
-length-own : (k : Bool) (f : ℕ) (s : Bits) (d : ℕ) → length (ownWords k f s d) ≡ stride f * cond k 1 0
+pub length-own : (k : Bool) (f : ℕ) (s : Bits) (d : ℕ) → length (ownWords k f s d) ≡ stride f * cond k 1 0
 length-own true f s d = length-nodeWords f s d ∙ omega arith
 length-own false f s d = omega arith
 
