@@ -25,9 +25,9 @@ use Rattle.kept_nodes.proofs.Places.{spot-on, spot-next, length-nodeWords, leng
 use Rattle.kept_nodes.proofs.Hung.{keptEnc-fork, keptSize-fork}
 use Rattle.kept_steps.specs.Segments.{KeptSegment, KeptSpliced, ownSize, KeptBranch}
 use Rattle.kept_steps.proofs.Halves.{inward, beside, behind, half-segment, size-is, words-are}
-use Rattle.kept_change.specs.Change.{changeT, Way, Inside, Forks, Drops, Downs, halfIn, Changes}
-use Rattle.kept_change.specs.Acts.{Acts, Halves, Became, forkWords, dropWords, dropSize, linkable, relinkEnd, relinked, Relinks}
-use Rattle.kept_change.proofs.Changed.{insert-some, chain-words, chain-size, change-inner, one-words, one-size, other-words, other-size, both-words, rejoin-words}
+use Rattle.kept_plan.specs.Change.{changeT, Way, Inside, Forks, Drops, Downs, halfIn, Changes}
+use Rattle.kept_acts.specs.Acts.{Acts, Halves, Became, forkWords, dropWords, dropSize, linkable, relinkEnd, relinked, Relinks}
+use Rattle.kept_plan.proofs.Changed.{insert-some, chain-words, chain-size, change-inner, one-words, one-size, other-words, other-size, both-words, rejoin-words}
 
 -- The halves of a trie that is no leaf: one of them, or both.
 data Kinds (l r : Trie) : Type 0 where

@@ -26,12 +26,12 @@ use Rattle.kept_nodes.specs.Words.{stride, keptEnc, spot}
 use Rattle.kept_nodes.proofs.Places.{spot-within}
 use Rattle.kept_steps.specs.Segments.{KeptSegment, KeptSpliced, ownSize}
 use Rattle.kept_steps.proofs.Halves.{behind, size-is}
-use Rattle.kept_change.specs.Change.{changeT, Way, flatWords, Flattened, Forks, Drops, Downs, Changes}
-use Rattle.kept_change.specs.Acts.{Acts, Halves, Became, forkWords, dropWords, dropSize, flatSize, linkable, relinkEnd, relinked, Relinks}
-use Rattle.kept_change.proofs.Changed.{both-words}
-use Rattle.kept_change.proofs.Plans.{way-len}
+use Rattle.kept_plan.specs.Change.{changeT, Way, flatWords, Flattened, Forks, Drops, Downs, Changes}
+use Rattle.kept_acts.specs.Acts.{Acts, Halves, Became, forkWords, dropWords, dropSize, flatSize, linkable, relinkEnd, relinked, Relinks}
+use Rattle.kept_plan.proofs.Changed.{both-words}
+use Rattle.kept_plan.proofs.Plans.{way-len}
 use Rattle.kept_change.proofs.Results.{fork-size, fork-words, drop-both, drop-size, drop-words, half, made, half-here, down-size, down-spliced}
-use Rattle.kept_change.proofs.Remaining.{remain-size}
+use Rattle.kept_blocks.proofs.Remaining.{remain-size}
 
 -- What was written is the trie.
 pub became-spliced : {f : ℕ} {w v : List ℕ} {b i r : ℕ} {ws : List ℕ} {m : ℕ} {rest : List ℕ} (p : Bits) (t : Trie) → keptEnc f p t ≡ ws → keptSize t ≡ m → Became f w v b i r ws m rest
