@@ -70,6 +70,13 @@ remain-size (c ∷ d ∷ r) ne =
     let n : d ∷ r ≡ [] → ⊥ = λ e. let z : _≡_ {A = ℕ} 0 1 = cc in omega arith in
     rw (removeT-leaf c (d ∷ r)) (omega (arith, fork-size c (removeT (d ∷ r) leaf) (remain-some (d ∷ r) n), remain-size (d ∷ r) n))
 
+-- all addresses without one: of IPv4, of IPv6
+pub remain-one : (r : Bits) → (length r ≡ 32 → keptSize (removeT r leaf) ≡ 63) × (length r ≡ 128 → keptSize (removeT r leaf) ≡ 255)
+remain-one [] = ((λ e. absurd (omega arith)), λ e. absurd (omega arith))
+remain-one (c ∷ r) =
+    let n : c ∷ r ≡ [] → ⊥ = λ e. let z : _≡_ {A = ℕ} 0 1 = cc in omega arith in
+    ((λ e. omega (arith, remain-size (c ∷ r) n)), λ e. omega (arith, remain-size (c ∷ r) n))
+
 -- A branch point with a member beside what is still to be written.
 module _ {f : ℕ} {w : List ℕ} {b n i : ℕ} {p : Bits} {m : ℕ} (g : Beside f w b n i p m) where
   pub beside-fits : (1 ≤ i) × (i + m + 1 ≤ n) × (1 ≤ m) × (n ≤ 4194304)

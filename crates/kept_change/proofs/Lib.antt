@@ -1,3 +1,4 @@
--- What a plan makes of the whole; the way down and back.
+-- What a plan makes of the whole; the way down and back; what that is of lists.
 pub mod Results
 pub mod Whole
+pub mod Lists
