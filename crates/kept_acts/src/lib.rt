@@ -1,5 +1,5 @@
-// What a change writes in the place of the trie from node i up to node e, where the words up to node u are in use: what stands behind the trie is moved with it. Each function answers where the
-// trie now ends.
+// What a change writes in the place of the trie from node i up to node e, where the words up to node u are in use: what stands behind the trie is moved with
+// it. Each function answers where the trie now ends.
 ghost use mathlib.Core.Bool.{true, false};
 ghost use mathlib.Core.List.{List, []};
 ghost use mathlib.Core.Path.{_≡_};
@@ -26,7 +26,8 @@ pub fn flat(
     q: Net,
     into: bool,
 ) -> usize
-    requires { ⌜ ((n : ℕ) × (p : Bits) × (s : Bits) × (t : Trie) × (rest : List ℕ) × (q ≡ netFrom family s) × Acts family (now w) b n i e u p s t rest (flatSize into)) ⌝ }
+    requires { ⌜ ((n : ℕ) × (p : Bits) × (s : Bits) × (t : Trie) × (rest : List ℕ) × (q ≡ netFrom family s)
+        × Acts family (now w) b n i e u p s t rest (flatSize into)) ⌝ }
     ensures { λ r. ⌜ ((n : ℕ) (p s : Bits) (t : Trie) (rest : List ℕ) → q ≡ netFrom family s → Acts family (now (w .entry)) b n i e u p s t rest (flatSize into)
         → Became family (now (w .entry)) (now (w .exit)) b i r (flatWords into family s) (flatSize into) rest) ⌝ }
 {
@@ -50,8 +51,10 @@ fn fork_second(
     path: Net,
     q: Net,
 ) -> usize
-    requires { ⌜ ((n : ℕ) × (p : Bits) × (s : Bits) × (t : Trie) × (rest : List ℕ) × (path ≡ netFrom family p) × (q ≡ netFrom family s) × Acts family (now w) b n i e u p s t rest (keptSize t + 2)) ⌝ }
-    ensures { λ r. ⌜ ((n : ℕ) (p s : Bits) (t : Trie) (rest : List ℕ) → path ≡ netFrom family p → q ≡ netFrom family s → Acts family (now (w .entry)) b n i e u p s t rest (keptSize t + 2)
+    requires { ⌜ ((n : ℕ) × (p : Bits) × (s : Bits) × (t : Trie) × (rest : List ℕ) × (path ≡ netFrom family p) × (q ≡ netFrom family s)
+        × Acts family (now w) b n i e u p s t rest (keptSize t + 2)) ⌝ }
+    ensures { λ r. ⌜ ((n : ℕ) (p s : Bits) (t : Trie) (rest : List ℕ) → path ≡ netFrom family p → q ≡ netFrom family s
+        → Acts family (now (w .entry)) b n i e u p s t rest (keptSize t + 2)
         → Became family (now (w .entry)) (now (w .exit)) b i r (forkWords true family p s t) (keptSize t + 2) rest) ⌝ }
 {
     move_nodes(w, family, b, i, i + 2, u - i);
@@ -71,8 +74,10 @@ fn fork_first(
     path: Net,
     q: Net,
 ) -> usize
-    requires { ⌜ ((n : ℕ) × (p : Bits) × (s : Bits) × (t : Trie) × (rest : List ℕ) × (path ≡ netFrom family p) × (q ≡ netFrom family s) × Acts family (now w) b n i e u p s t rest (keptSize t + 2)) ⌝ }
-    ensures { λ r. ⌜ ((n : ℕ) (p s : Bits) (t : Trie) (rest : List ℕ) → path ≡ netFrom family p → q ≡ netFrom family s → Acts family (now (w .entry)) b n i e u p s t rest (keptSize t + 2)
+    requires { ⌜ ((n : ℕ) × (p : Bits) × (s : Bits) × (t : Trie) × (rest : List ℕ) × (path ≡ netFrom family p) × (q ≡ netFrom family s)
+        × Acts family (now w) b n i e u p s t rest (keptSize t + 2)) ⌝ }
+    ensures { λ r. ⌜ ((n : ℕ) (p s : Bits) (t : Trie) (rest : List ℕ) → path ≡ netFrom family p → q ≡ netFrom family s
+        → Acts family (now (w .entry)) b n i e u p s t rest (keptSize t + 2)
         → Became family (now (w .entry)) (now (w .exit)) b i r (forkWords false family p s t) (keptSize t + 2) rest) ⌝ }
 {
     move_nodes(w, family, b, e, e + 2, u - e);
@@ -94,8 +99,10 @@ pub fn fork(
     q: Net,
     bit: bool,
 ) -> usize
-    requires { ⌜ ((n : ℕ) × (p : Bits) × (s : Bits) × (t : Trie) × (rest : List ℕ) × (path ≡ netFrom family p) × (q ≡ netFrom family s) × Acts family (now w) b n i e u p s t rest (keptSize t + 2)) ⌝ }
-    ensures { λ r. ⌜ ((n : ℕ) (p s : Bits) (t : Trie) (rest : List ℕ) → path ≡ netFrom family p → q ≡ netFrom family s → Acts family (now (w .entry)) b n i e u p s t rest (keptSize t + 2)
+    requires { ⌜ ((n : ℕ) × (p : Bits) × (s : Bits) × (t : Trie) × (rest : List ℕ) × (path ≡ netFrom family p) × (q ≡ netFrom family s)
+        × Acts family (now w) b n i e u p s t rest (keptSize t + 2)) ⌝ }
+    ensures { λ r. ⌜ ((n : ℕ) (p s : Bits) (t : Trie) (rest : List ℕ) → path ≡ netFrom family p → q ≡ netFrom family s
+        → Acts family (now (w .entry)) b n i e u p s t rest (keptSize t + 2)
         → Became family (now (w .entry)) (now (w .exit)) b i r (forkWords bit family p s t) (keptSize t + 2) rest) ⌝ }
 {
     if bit {
@@ -128,8 +135,8 @@ pub fn drop_half(
     m - 1
 }
 
-// Leads node i, a branch point with the string of the network path, to its first half anew, where a half on the side of the bit now ends at z and the trie ended at node e. Where the trie has one
-// half only (its second half begins at node i, or would) there is no such node.
+// Leads node i, a branch point with the string of the network path, to its first half anew, where a half on the side of the bit now ends at z and the trie
+// ended at node e. Where the trie has one half only (its second half begins at node i, or would) there is no such node.
 pub fn relink(
     w: &mut [u32],
     family: u8,
@@ -143,7 +150,8 @@ pub fn relink(
     path: Net,
 ) -> usize
     requires { ⌜ Relinks family (now w) b i a m e z bit ⌝ }
-    ensures { λ x. ⌜ (x ≡ relinkEnd bit a i m e z) × ((p : Bits) → path ≡ netFrom family p → length p ≤ width family → now (w .exit) ≡ relinked family (now (w .entry)) b i a z bit p) ⌝ }
+    ensures { λ x. ⌜ (x ≡ relinkEnd bit a i m e z) × ((p : Bits) → path ≡ netFrom family p → length p ≤ width family
+        → now (w .exit) ≡ relinked family (now (w .entry)) b i a z bit p) ⌝ }
 {
     if !bit {
         return z;

@@ -21,10 +21,12 @@ use kept_writing::move_nodes;
 use kept_writing::write_node;
 use nets::Net;
 
-// Writes a branch point with the string of the network path at node i, and the half of it that is not on the side of the bit; answers where the m nodes of the other half are still to be written.
+// Writes a branch point with the string of the network path at node i, and the half of it that is not on the side of the bit; answers where the m nodes of
+// the other half are still to be written.
 fn beside(w: &mut [u32], family: u8, b: usize, i: usize, path: Net, bit: bool, m: usize) -> usize
     requires { ⌜ ((n : ℕ) × (p : Bits) × (path ≡ netFrom family p) × Beside family (now w) b n i p m) ⌝ }
-    ensures { λ r. ⌜ ((i < r) × (r ≤ i + 2)) × ((n : ℕ) (p : Bits) (x : Trie) → path ≡ netFrom family p → Beside family (now (w .entry)) b n i p m → keptSize x ≡ m
+    ensures { λ r. ⌜ ((i < r) × (r ≤ i + 2)) × ((n : ℕ) (p : Bits) (x : Trie) → path ≡ netFrom family p → Beside family (now (w .entry)) b n i p m
+        → keptSize x ≡ m
         → put (now (w .exit)) (spot family b r) (keptEnc family (snoc p bit) x) ≡ put (now (w .entry)) (spot family b i) (keptEnc family p (fork bit x leaf))) ⌝ }
 {
     let other = child(path, !bit);
@@ -67,7 +69,8 @@ pub fn halve(
     path: Net,
     q: Net,
 ) -> usize
-    requires { ⌜ ((n : ℕ) × (p : Bits) × (r : Bits) × (s : Bits) × (t : Trie) × (rest : List ℕ) × (path ≡ netFrom family p) × Way family p r q × (r ≡ [] → ⊥) × Acts family (now w) b n i e u p s t rest (keptSize (removeT r leaf))) ⌝ }
+    requires { ⌜ ((n : ℕ) × (p : Bits) × (r : Bits) × (s : Bits) × (t : Trie) × (rest : List ℕ) × (path ≡ netFrom family p) × Way family p r q × (r ≡ []
+        → ⊥) × Acts family (now w) b n i e u p s t rest (keptSize (removeT r leaf))) ⌝ }
     ensures { λ x. ⌜ ((n : ℕ) (p r s : Bits) (t : Trie) (rest : List ℕ) → path ≡ netFrom family p → Way family p r q → (r ≡ [] → ⊥)
         → Acts family (now (w .entry)) b n i e u p s t rest (keptSize (removeT r leaf))
         → Became family (now (w .entry)) (now (w .exit)) b i x (keptEnc family p (removeT r leaf)) (keptSize (removeT r leaf)) rest) ⌝ }

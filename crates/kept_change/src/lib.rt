@@ -1,4 +1,5 @@
-// One network put into a trie of the second form in place, or taken out: down its bits to the part that changes, which is planned, counted and written; then back over the branch points on the way.
+// One network put into a trie of the second form in place, or taken out: down its bits to the part that changes, which is planned, counted and written; then
+// back over the branch points on the way.
 ghost use mathlib.Core.List.{List};
 ghost use mathlib.Core.Path.{_≡_};
 ghost use Prim.Native.Nat.{ℕ, _+_, _-_, _≤_};
@@ -51,7 +52,8 @@ pub fn change_size(
     q: Net,
     into: bool,
 ) -> usize
-    requires { ⌜ ((u : ℕ) × (p : Bits) × (r : Bits) × (t : Trie) × (rest : List ℕ) × KeptSegment family (now w) b n i e u p t rest × Way family p r q × (length p ≡ d)) ⌝ }
+    requires { ⌜ ((u : ℕ) × (p : Bits) × (r : Bits) × (t : Trie) × (rest : List ℕ) × KeptSegment family (now w) b n i e u p t rest × Way family p r q
+        × (length p ≡ d)) ⌝ }
     ensures { λ x. ⌜ ((u : ℕ) (p r : Bits) (t : Trie) (rest : List ℕ) → KeptSegment family (now (w .entry)) b n i e u p t rest → Way family p r q → length p ≡ d
         → x ≡ keptSize (changeT into r t)) ⌝ }
 {
@@ -70,7 +72,8 @@ pub fn change_size(
     }
 }
 
-// Puts the network q into the trie from node i up to node e, below the string of the network path, or takes it out; the words up to node u are in use. Answers where the trie now ends.
+// Puts the network q into the trie from node i up to node e, below the string of the network path, or takes it out; the words up to node u are in use.
+// Answers where the trie now ends.
 pub fn change(
     w: &mut [u32],
     family: u8,

@@ -1,4 +1,5 @@
-// The network that follows a place in the list of a trie in the second form: one loop over its nodes, which keeps the first in list order of the members behind the place.
+// The network that follows a place in the list of a trie in the second form: one loop over its nodes, which keeps the first in list order of the members
+// behind the place.
 ghost use mathlib.Core.Bool.{true, not, _||_};
 ghost use mathlib.Core.List.{List, _++_};
 ghost use mathlib.Core.Path.{_≡_};
@@ -70,7 +71,8 @@ fn nearest(
     best: Best,
 ) -> Best
     requires { ⌜ Looks family (now w) b n k begun last × ((ms : List Bits) × Nearest family (placeAt begun last) ms best) ⌝ }
-    ensures { λ r. ⌜ ((ms : List Bits) → Nearest family (placeAt begun last) ms best → Nearest family (placeAt begun last) (ownOf family (now (w .entry)) b k ++ ms) r) ⌝ }
+    ensures { λ r. ⌜ ((ms : List Bits) → Nearest family (placeAt begun last) ms best
+        → Nearest family (placeAt begun last) (ownOf family (now (w .entry)) b k ++ ms) r) ⌝ }
 {
     if distance(w, family, b, n, k) != 0 {
         return best;

@@ -14,8 +14,9 @@ use kept_steps::View;
 use kept_steps::look;
 use nets::Net;
 
-// All stays. All becomes the network or nothing. A member gives way to the blocks beside the network. The network comes to stand beside what is there, on the side of the bit. The half on that
-// side goes, with the branch point over it, whose first half begins at that node. Or that half is gone into: where the second begins, or would, and where the first.
+// All stays. All becomes the network or nothing. A member gives way to the blocks beside the network. The network comes to stand beside what is there, on the
+// side of the bit. The half on that side goes, with the branch point over it, whose first half begins at that node. Or that half is gone into: where the
+// second begins, or would, and where the first.
 pub enum Plan {
     Stay,
     Flat,
@@ -55,8 +56,10 @@ fn inward(
     q: Net,
     into: bool,
 ) -> Plan
-    requires { ⌜ ((u : ℕ) × (p : Bits) × (r : Bits) × (t : Trie) × (rest : List ℕ) × KeptSegment family (now w) b n i e u p t rest × KeptBranch i a m t × Steps family p r q bit) ⌝ }
-    ensures { λ x. ⌜ ((u : ℕ) (p r : Bits) (t : Trie) (rest : List ℕ) → KeptSegment family (now (w .entry)) b n i e u p t rest → KeptBranch i a m t → Steps family p r q bit
+    requires { ⌜ ((u : ℕ) × (p : Bits) × (r : Bits) × (t : Trie) × (rest : List ℕ) × KeptSegment family (now w) b n i e u p t rest × KeptBranch i a m t
+        × Steps family p r q bit) ⌝ }
+    ensures { λ x. ⌜ ((u : ℕ) (p r : Bits) (t : Trie) (rest : List ℕ) → KeptSegment family (now (w .entry)) b n i e u p t rest → KeptBranch i a m t
+        → Steps family p r q bit
         → Planned family i p r into t x) ⌝ }
 {
     let h = half_of(bit, a, m, e);
@@ -90,7 +93,8 @@ pub fn plan_for(
     q: Net,
     into: bool,
 ) -> Plan
-    requires { ⌜ ((u : ℕ) × (p : Bits) × (r : Bits) × (t : Trie) × (rest : List ℕ) × KeptSegment family (now w) b n i e u p t rest × Way family p r q × (length p ≡ d)) ⌝ }
+    requires { ⌜ ((u : ℕ) × (p : Bits) × (r : Bits) × (t : Trie) × (rest : List ℕ) × KeptSegment family (now w) b n i e u p t rest × Way family p r q
+        × (length p ≡ d)) ⌝ }
     ensures { λ x. ⌜ ((u : ℕ) (p r : Bits) (t : Trie) (rest : List ℕ) → KeptSegment family (now (w .entry)) b n i e u p t rest → Way family p r q → length p ≡ d
         → Planned family i p r into t x) ⌝ }
 {

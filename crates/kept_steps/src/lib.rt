@@ -1,4 +1,5 @@
-// A step down a trie of the second form, bit by bit: what is seen of the trie from one node up to another below a string of d bits, which may end in the middle of the first node's edge.
+// A step down a trie of the second form, bit by bit: what is seen of the trie from one node up to another below a string of d bits, which may end in the
+// middle of the first node's edge.
 ghost use mathlib.Core.List.{List};
 ghost use mathlib.Core.Path.{_≡_};
 ghost use Prim.Native.Nat.{ℕ};
@@ -20,7 +21,8 @@ pub enum View {
 // What is seen of the trie from node i up to node e.
 pub fn look(w: &[u32], family: u8, b: usize, n: u32, i: usize, e: usize, d: u8) -> View
     requires { ⌜ ((u : ℕ) × (p : Bits) × (t : Trie) × (rest : List ℕ) × KeptSegment family (now w) b n i e u p t rest × (length p ≡ d)) ⌝ }
-    ensures { λ v. ⌜ ((u : ℕ) (p : Bits) (t : Trie) (rest : List ℕ) → KeptSegment family (now (w .entry)) b n i e u p t rest → length p ≡ d → v ≡ keptView i t) ⌝ }
+    ensures { λ v. ⌜ ((u : ℕ) (p : Bits) (t : Trie) (rest : List ℕ) → KeptSegment family (now (w .entry)) b n i e u p t rest → length p ≡ d
+        → v ≡ keptView i t) ⌝ }
 {
     if i == e {
         return View::Nothing;
