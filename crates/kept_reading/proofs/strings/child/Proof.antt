@@ -1,9 +1,9 @@
--- `emitting::child` meets its contract, by its test. Assumes nothing.
+-- `strings::child` meets its contract, by its test. Assumes nothing.
 use borrow.Author.Needs.{needs}
 use native.Mathlib.Omega.{arith}
-use Rattle.kept_emit.proofs.Answered.{path-short}
-use Rattle.kept_emit.proofs.emitting.child.Statement.{statement}
-use Rattle.kept_emit.proofs.emitting.child.Tie as tie
+use Rattle.kept_reading.proofs.ByWords.{path-short}
+use Rattle.kept_reading.proofs.strings.child.Statement.{statement}
+use Rattle.kept_reading.proofs.strings.child.Tie as tie
 
 pub child-spec : {M : Type 1} → statement M
 child-spec =
