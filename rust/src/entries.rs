@@ -58,7 +58,7 @@ fn push(file: &mut Vec<u8>, n: &Row) {
 
 /// The right file of entries in any order. Beyond what any set can have it is refused as the set would be.
 fn right(file: &[u8]) -> Result<Vec<u8>, Refusal> {
-    let out = ffi::salvage(file)?;
+    let (out, _) = ffi::salvage(file)?;
     if count(file[3], &out) > MOST {
         return Err(Refusal::OverLimit);
     }
