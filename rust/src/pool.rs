@@ -330,7 +330,7 @@ impl SetMut<'_> {
     /// The set file of networks in any order, of the pool's family; whether there is such a set is asked first.
     fn file_of(&self, nets: impl IntoIterator<Item = IpNet>) -> Result<Vec<u8>, Refusal> {
         self.as_set().nodes()?;
-        entries::with_others(entries::none(ffi::family(self.words)), nets.into_iter())
+        entries::file_of(ffi::family(self.words), nets)
     }
 
     /// Adds the addresses from the first to the last: the fewest networks that have exactly these, as one change. Refused BadRange where the first is above the

@@ -128,10 +128,10 @@ impl IpRange {
 
     /// What either set has, simplified.
     pub fn merge(&self, other: &IpRange) -> Result<IpRange, Refusal> {
-        let mut both = self.clone();
-        both.try_extend(other)?;
-        both.simplify();
-        Ok(both)
+        if self.is_empty() || other.is_empty() {
+            return Ok(if self.is_empty() { other } else { self }.clone().simplified());
+        }
+        self.combine_parts(other, IpNet::all(self.family()), |pool| pool.merge(0, 1, 2))
     }
 
     /// What both sets have, simplified.
@@ -198,8 +198,7 @@ impl IpRange {
     pub fn try_from_iter(nets: impl IntoIterator<Item = IpNet>) -> Result<IpRange, Refusal> {
         let mut set = IpRange::new();
         set.try_extend(nets)?;
-        set.simplify();
-        Ok(set)
+        Ok(set.simplified())
     }
 
     /// Adds networks in any order, all or none: the list that adding them one by one gives, built at once.
@@ -207,12 +206,7 @@ impl IpRange {
         let mut nets = nets.into_iter().peekable();
         let Some(first) = nets.peek() else { return Ok(()) };
         let family = if self.is_empty() { first.family() } else { self.family() };
-        let file = entries::with_others(entries::none(family), nets)?;
-        if self.is_empty() {
-            *self = IpRange::from_bytes(&file)?;
-            return Ok(());
-        }
-        self.change(usual_nodes(family, entries::count(family, &file)), |pool| pool.set_mut(0).add_file(&file))
+        self.add_file(&entries::file_of(family, nets)?)
     }
 
     /// Removes networks in any order, all or none: the list that removing them one by one gives, made at once.
@@ -230,8 +224,29 @@ impl IpRange {
         if self.is_empty() {
             return Ok(());
         }
-        let file = entries::with_others(entries::none(self.family()), nets.into_iter())?;
-        self.change(usual_nodes(self.family(), entries::count(self.family(), &file)), |pool| pool.set_mut(0).remove_file(&file))
+        self.remove_file(&entries::file_of(self.family(), nets)?)
+    }
+
+    /// Adds the networks of a set file, all or none.
+    pub fn add_file(&mut self, file: &[u8]) -> Result<(), Refusal> {
+        if self.is_empty() {
+            *self = IpRange::from_bytes(file)?;
+            return Ok(());
+        }
+        self.change(usual_nodes(self.family(), entries::count(self.family(), file)), |pool| pool.set_mut(0).add_file(file))
+    }
+
+    /// Removes the networks of a set file, all or none.
+    pub fn remove_file(&mut self, file: &[u8]) -> Result<(), Refusal> {
+        if self.is_empty() {
+            return IpRange::from_bytes(file).map(|_| ());
+        }
+        self.change(usual_nodes(self.family(), entries::count(self.family(), file)), |pool| pool.set_mut(0).remove_file(file))
+    }
+
+    fn simplified(mut self) -> IpRange {
+        self.simplify();
+        self
     }
 
     /// Does a change, in a larger pool where it is refused for its nodes: with twice as many, or as many more as are asked for.
@@ -260,7 +275,7 @@ impl IpRange {
                 for half in halves {
                     nets.extend(&self.inside(half)?.combine_parts(&other.inside(half)?, half, call)?);
                 }
-                IpRange::try_from_iter(nets)
+                Ok(IpRange::from_bytes(&entries::apart(block.family(), nets))?.simplified())
             }
             (done, _) => done,
         }
@@ -269,15 +284,13 @@ impl IpRange {
     /// What it has in a block.
     fn inside(&self, block: IpNet) -> Result<IpRange, Refusal> {
         let part = |net: IpNet| if net.contains(block) { Some(block) } else { block.contains(net).then_some(net) };
-        let mut set = IpRange::new();
-        set.try_extend(self.iter().filter_map(part))?;
-        Ok(set)
+        IpRange::from_bytes(&entries::apart(block.family(), self.iter().filter_map(part).collect()))
     }
 
     /// Combines this set, number 1 of a pool, and the other, number 2, into number 0.
     fn combine(&self, other: &IpRange, call: Call) -> Result<IpRange, Refusal> {
         let family = if self.is_empty() { other.family() } else { self.family() };
-        let files = [self, other].map(|set| if set.is_empty() { entries::none(family) } else { set.to_vec() });
+        let files = [self, other].map(|set| if set.is_empty() { entries::apart(family, vec![]) } else { set.to_vec() });
         let nodes = 2 * self.nodes() as u64 + 3 * other.nodes() as u64;
         let result = with_room(nodes, |nodes| {
             let mut pool = Pool::new(family, nodes, &[Plan::new(0, nodes); 3])?;
@@ -359,6 +372,9 @@ mod tests {
         let (x, y) = (some(3), some(17));
         let (a, b) = (set(&x), set(&y));
         assert!(a.nodes() + b.nodes() > MOST && a.exclude_apart(&b).is_err());
+        let both = a.merge(&b).unwrap();
+        assert_eq!((0..4096).map(|k| 0xc0a8_0000 + k).filter(|&k| both.contains(Ipv4Addr::from(k).into())).collect::<BTreeSet<u32>>(), &x | &y);
+        assert_eq!((both.clone().simplified(), both.exclude(&a).unwrap().exclude(&b)), (both, Ok(IpRange::new())));
         assert_eq!(a.intersect(&b), Ok(set(&(&x & &y)).iter().collect()));
         assert_eq!(a.exclude(&b), Ok(set(&(&x - &y)).iter().collect()));
         let mut all = IpRange::new();

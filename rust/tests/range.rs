@@ -133,7 +133,16 @@ fn an_empty_set_takes_either_family() -> Done {
     assert_eq!(set, IpRange::new());
     set.add(net("10.0.0.0/8"))?;
     assert_eq!(set.intersect(&IpRange::new())?, IpRange::new());
-    assert_eq!(IpRange::new().merge(&set)?, set);
+    assert_eq!((IpRange::new().merge(&set)?, set.merge(&IpRange::new())?), (set.clone(), set.clone()));
+    let six = IpRange::try_from_iter([Ipv6Addr::LOCALHOST.into()])?;
+    assert_eq!((IpRange::new().merge(&six)?, six.merge(&IpRange::new())?, six.merge(&set)), (six.clone(), six.clone(), Err(Refusal::WrongFamily)));
+    let mut filled = IpRange::new();
+    filled.remove_file(&six.to_vec())?;
+    filled.add_file(&six.to_vec())?;
+    assert_eq!((filled.add_file(&set.to_vec()), filled.add_file(&[])), (Err(Refusal::WrongFamily), Err(Refusal::BadFile)));
+    assert_eq!(filled, six);
+    filled.remove_file(&six.to_vec())?;
+    assert_eq!((filled.is_empty(), filled.remove_file(&[])), (true, Err(Refusal::BadFile)));
     assert_eq!(IpRange::try_from_iter([net("10.0.0.0/8"), Ipv6Addr::LOCALHOST.into()]).err(), Some(Refusal::WrongFamily));
     Ok(())
 }
