@@ -5,6 +5,7 @@ use marlbrace::{IpNet, IpRange, Refusal};
 use std::ffi::OsStr;
 use std::fs::File;
 use std::io::{stdin, BufRead, BufReader, Error, Read};
+use std::net::IpAddr;
 use std::os::fd::AsFd;
 
 /// The bytes of the longest set file, 4,194,304 entries of IPv6, and one more.
@@ -88,7 +89,7 @@ impl Reader<'_> {
             Err(no) => return Err(Failure::refused(&format!("{name}:"), no)),
         }
         self.progress.say(|| format!("{name}: reading"));
-        let mut bytes = BufReader::with_capacity(1 << 16, open(word).map_err(|e| Failure::system(&name, e))?);
+        let mut bytes = BufReader::with_capacity(1 << 16, open(word).map_err(|e| unopened(&name, e))?);
         let first = bytes.fill_buf().map_err(|e| Failure::system(&name, e))?.first().copied();
         let content = if first == Some(0) { self.set_file(&name, bytes)? } else { self.lines(&name, bytes)? };
         Ok(Input { name, content })
@@ -150,6 +151,14 @@ impl Reader<'_> {
             Some(other) if other != family => Err(Refusal::WrongFamily),
             _ => Ok(()),
         }
+    }
+}
+
+/// What to say of an input that cannot be opened: an address is most likely meant for a network.
+fn unopened(name: &str, error: Error) -> Failure {
+    match name.parse::<IpAddr>() {
+        Ok(address) => Failure::Wrong(format!("{name}: {error}; a network has its length behind it, as {}", IpNet::from(address))),
+        Err(_) => Failure::system(name, error),
     }
 }
 
