@@ -291,6 +291,18 @@ module _ (S : State) (c : Call) where
       at (yes e) = rw (e, stateAfter-own) (own (eqb (callNo S c) 0) (rw e at p))
       at (no ne) = rw (stateAfter-other j ne) p
 
+  -- and what is indexed stays so, with no other
+  pub stateAfter-indexed : (j : ℕ) → setAt (stateAfter S c) j .indexed ≡ setAt S j .indexed
+  stateAfter-indexed j = at (ℕ-discrete j (target c))
+    where
+      own : (b : Bool) → (cond b (nextOf c S) (setAt S (target c))) .indexed ≡ setAt S (target c) .indexed
+      own true = next-indexed S c
+      own false = refl
+
+      at : Dec (j ≡ target c) → setAt (stateAfter S c) j .indexed ≡ setAt S j .indexed
+      at (yes e) = rw (e, stateAfter-own) (own (eqb (callNo S c) 0))
+      at (no ne) = rw (stateAfter-other j ne)
+
   -- it keeps the rules, and the words hold it; no word past the smallest buffer is touched
   pub isState-after : isState S ≡ true → isState (stateAfter S c) ≡ true
   isState-after e =

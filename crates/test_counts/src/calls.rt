@@ -83,7 +83,7 @@ pub fn letter(row: &[u8]) -> u8 {
 }
 
 // The network whose address stands behind the call and the set.
-fn net(row: &[u8]) -> Net {
+pub fn net(row: &[u8]) -> Net {
     let w = word_at(row, 2);
     Net {
         family: w.form,
