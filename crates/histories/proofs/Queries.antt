@@ -13,13 +13,14 @@ use Rattle.nets.specs.Refusals.{answered, Rule, firstNo}
 use Rattle.nets.specs.declared.Net.{Net}
 use Rattle.nets.specs.declared.Refusal.the-variants.{WrongFamily}
 use Rattle.nodes.specs.Words.{put}
+use Rattle.trie_index.specs.Index.{fill}
 use Rattle.pool_state.specs.States.{State}
 use Rattle.pool_state.specs.Decode.{sound, decode}
 use Rattle.pool_state.specs.Rules.{unknown, short}
 use Rattle.pool_state.specs.Changes.{listAt}
 use Rattle.pool_state.proofs.Decoded.{decode-header}
 use Rattle.lookup.specs.Rules.{onRoot, Held, containsRule, lookupNo, unheld}
-use Rattle.lookup_many.specs.Rules.{queryAt, inOne, fill, answersOf, allNo, answersAfter}
+use Rattle.lookup_many.specs.Rules.{queryAt, inOne, answersOf, allNo, answersAfter}
 use Rattle.histories.specs.Calls.{Call}
 use Rattle.histories.specs.Histories.{stateFrom, History, callsOn, AllAlone, SameAt}
 use Rattle.histories.proofs.Histories.{history-sound}
