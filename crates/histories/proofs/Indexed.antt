@@ -38,7 +38,7 @@ index-right {S = S} d {cs} {v = v} h k lt e =
     rw (zero-add (indexedOf (take k (T .sets))), g) at i
 
 -- "Answers equal those without the index on every sound pool": they are the same wherever two sound pools agree on the family, on whether there is the set, and on its list.
-module _ {w v : List ℕ} {S T : State} (d : decode w ≡ sound S) (e : decode v ≡ sound T) (k : ℕ) (family : S .family ≡ T .family)
+module _ (w v : List ℕ) {S T : State} (d : decode w ≡ sound S) (e : decode v ≡ sound T) (k : ℕ) (family : S .family ≡ T .family)
     (known : leb (length (S .sets)) k ≡ leb (length (T .sets)) k) (list : listAt S k ≡ listAt T k) where
   net-rules : (n : Net) → netRules n S ≡ netRules n T
   unfolding netRules
