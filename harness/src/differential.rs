@@ -241,7 +241,7 @@ fn halfway() -> Case {
 
 /// Damaged files, salvaged beside a small pool.
 fn wrecks(d: &mut Dice) -> Case {
-    let plan = Plan { family: 4, universe: Universe::Wide, sets: 1, nodes: 2, shares: vec![0], limits: vec![2] };
+    let plan = Plan { family: 4, universe: Universe::Wide, sets: 1, nodes: 2, shares: vec![0], limits: vec![2], indexed: 0 };
     Case { words: plan.words(), calls: salvage::damaged(d, &plan) }
 }
 

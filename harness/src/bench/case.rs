@@ -30,7 +30,7 @@ impl Pool {
         let used: usize = lists.iter().map(|l| nodes(width(family), l)).sum();
         let mut w = vec![0u32; FIRST_NODE + used];
         w[..4].copy_from_slice(&[MARK, family as u32, 4, NODES]);
-        let set = |k: usize| Set { share: 0, limit: NODES, public, list: lists.get(k).map_or(List::new(), |&l| l.clone()) };
+        let set = |k: usize| Set { share: 0, limit: NODES, public, indexed: false, list: lists.get(k).map_or(List::new(), |&l| l.clone()) };
         encode(&mut w, &State { family, nodes: NODES, sets: (0..4).map(set).collect() });
         Pool(w)
     }
