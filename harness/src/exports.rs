@@ -298,7 +298,8 @@ fn words_of(sets: u32, nodes: u32, indexed: u32) -> Option<String> {
     let expected = if right { packed(0, least(sets as u64, nodes as u64, indexed as u64) as u32, false, false) } else { packed(1, 0, false, false) };
     let number = unsafe { marlbrace_words_indexed(sets, nodes, indexed) };
     let plain = if indexed == 0 { unsafe { marlbrace_words(sets, nodes) } } else { expected };
-    (number != expected || plain != expected).then(|| format!("words of {sets} sets, {indexed} indexed, and {nodes} nodes: {number:x}, {plain:x}, expected {expected:x}"))
+    let wrong = number != expected || plain != expected;
+    wrong.then(|| format!("words of {sets} sets, {indexed} indexed, and {nodes} nodes: {number:x}, {plain:x}, expected {expected:x}"))
 }
 
 /// The most entries that a salvage reads, all of them too long, and one more.

@@ -1,6 +1,6 @@
 //! Seeded sequences of calls: several sets, both families, dense small universes and wide ones, networks around the ends of the words, and arguments that are wrong.
 use crate::files::{file, file_of};
-use crate::layout::{room, State};
+use crate::layout::{least, room, State};
 use crate::lists::{self, cleared, width, List, Member};
 use crate::many;
 use crate::model::net;
@@ -121,7 +121,7 @@ impl Plan {
     }
 
     pub fn words(&self) -> usize {
-        crate::layout::least(self.sets as u64, self.nodes as u64, self.indexed.count_ones() as u64) as usize
+        least(self.sets as u64, self.nodes as u64, self.indexed.count_ones() as u64) as usize
     }
 
     pub fn layout(&self) -> Call {
