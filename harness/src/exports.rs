@@ -49,6 +49,13 @@ extern "C" {
     fn marlbrace_write_line(family: u8, hi: u64, lo: u64, len: u8, out: *mut u8, out_len: usize) -> u64;
 }
 
+/// Lays a pool out with empty sets that have no share and the limit, indexed where their bit is set.
+pub fn layout_indexed(pool: &mut [u32], family: u8, sets: usize, nodes: u32, limit: u32, indexed: u64) -> u64 {
+    let (shares, limits) = (vec![0; sets], vec![limit; sets]);
+    let (s, l) = (shares.as_ptr(), limits.as_ptr());
+    unsafe { marlbrace_layout_indexed(pool.as_mut_ptr(), pool.len(), family, sets as u32, nodes, s, sets, l, sets, indexed) }
+}
+
 /// Whether a member contains the network, where the call is granted.
 pub fn contains(pool: &[u32], set: u32, n: &Net) -> bool {
     unsafe { marlbrace_contains(pool.as_ptr(), pool.len(), set, n.family, n.hi, n.lo, n.len) >> 48 & 1 == 1 }
