@@ -46,6 +46,11 @@ static inline int marlbrace_trimmed(uint64_t answer) { return (int)(answer >> 49
 uint64_t marlbrace_words(uint32_t sets, uint32_t nodes);   /* value: the words that a pool needs */
 uint64_t marlbrace_layout(uint32_t *pool, size_t pool_len, uint8_t family, uint32_t sets, uint32_t nodes, const uint32_t *shares, size_t shares_len,
                           const uint32_t *limits, size_t limits_len);
+/* The same of a pool with indexed sets: words is told how many they are, layout which, set s by bit s. An indexed set takes 256 words more, by the first eight
+ * bits of a network: its lookups of eight bits or more begin there, and answer as they do without. */
+uint64_t marlbrace_words_indexed(uint32_t sets, uint32_t nodes, uint32_t indexed);
+uint64_t marlbrace_layout_indexed(uint32_t *pool, size_t pool_len, uint8_t family, uint32_t sets, uint32_t nodes, const uint32_t *shares, size_t shares_len,
+                                  const uint32_t *limits, size_t limits_len, uint64_t indexed);
 uint64_t marlbrace_free(const uint32_t *pool, size_t pool_len);                      /* value: free nodes */
 uint64_t marlbrace_held(const uint32_t *pool, size_t pool_len, uint32_t set);        /* value: nodes of the set */
 uint64_t marlbrace_networks(const uint32_t *pool, size_t pool_len, uint32_t set);    /* value: networks of the set */

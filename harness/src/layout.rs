@@ -1,5 +1,6 @@
 //! The words of a pool, by docs/LAYOUT.md alone: what they hold, and what a state is written as.
-use crate::lists::{meets_inner, nodes, width, List};
+use crate::lists::{cleared, meets_inner, nodes, width, List};
+use std::collections::{BTreeMap, BTreeSet};
 
 pub const MARK: u32 = 1296126540;
 
@@ -71,6 +72,15 @@ impl Reading<'_> {
     }
 }
 
+/// Whether set s, which has this list, is indexed, where so many before it are: its tag is then one more than these, and its index is right.
+fn is_indexed(w: &[u32], s: usize, before: u64, list: &List) -> Option<bool> {
+    let (tag, at) = (w[68 + 8 * s] as u64, least(w[2] as u64, w[3] as u64, before) as usize);
+    if tag == 0 {
+        return Some(false);
+    }
+    (tag == before + 1 && w.get(at..at + 256)? == index(width(w[1] as u8), list)).then_some(true)
+}
+
 pub fn decode(w: &[u32]) -> Option<State> {
     let (family, sets, nodes_) = header(w)?;
     let r = Reading { words: w, base: 64 + 8 * sets, nodes: nodes_ as u64, width: width(family) };
@@ -91,15 +101,9 @@ pub fn decode(w: &[u32]) -> Option<State> {
             return None;
         }
         claimed += held.max(share as u64);
-        let tag = w[68 + 8 * s] as u64;
-        if tag != 0 {
-            let at = least(sets as u64, nodes_ as u64, indexes) as usize;
-            indexes += 1;
-            if tag != indexes || at + 256 > w.len() || w[at..at + 256] != index(width(family), &list)[..] {
-                return None;
-            }
-        }
-        state.sets.push(Set { share, limit, public: mark == 1, indexed: tag != 0, list });
+        let indexed = is_indexed(w, s, indexes, &list)?;
+        indexes += indexed as u64;
+        state.sets.push(Set { share, limit, public: mark == 1, indexed, list });
     }
     if claimed > nodes_ as u64 || w[4] as u64 != indexes {
         return None;
@@ -107,26 +111,24 @@ pub fn decode(w: &[u32]) -> Option<State> {
     Some(state)
 }
 
-/// The index of a list: for each byte where a walk stands after its eight bits. It is 16 more than the depth at which there is nothing, or the depth of a node (eight, or less where it is
-/// a member) and 32 times how many nodes stand before it in preorder.
+/// The index of a list: for each byte where a walk stands after its eight bits. It is 16 more than the depth at which there is nothing, or the depth of a node
+/// (eight, or less where it is a member) and 32 times how many nodes stand before it in preorder.
 pub fn index(w: u8, list: &List) -> Vec<u32> {
-    // every leading string of a member, as (its bits from the highest of the width on, its length), which is preorder
-    let strings: std::collections::BTreeSet<(u128, u8)> = list.iter().flat_map(|m| (0..=m.0).map(move |n| (crate::lists::cleared(w, n, m.1), n))).collect();
-    let place: std::collections::BTreeMap<_, _> = strings.iter().enumerate().map(|(k, s)| (*s, k as u32)).collect();
-    (0..256u128)
-        .map(|byte| {
-            let at = byte << (w - 8);
-            for n in 0..=8 {
-                let here = (crate::lists::cleared(w, n, at), n);
-                match place.get(&here) {
-                    None => return 16 + n as u32,
-                    Some(k) if n == 8 || list.contains(&(n, here.0)) => return 32 * k + n as u32,
-                    Some(_) => {}
-                }
+    // the leading strings of all members, by address and then by length, which is preorder
+    let strings: BTreeSet<(u128, u8)> = list.iter().flat_map(|m| (0..=m.0).map(move |n| (cleared(w, n, m.1), n))).collect();
+    let place: BTreeMap<_, _> = strings.iter().enumerate().map(|(k, s)| (*s, k as u32)).collect();
+    let word = |byte: u128| {
+        for n in 0..=8 {
+            let at = cleared(w, n, byte << (w - 8));
+            match place.get(&(at, n)) {
+                None => return 16 + n as u32,
+                Some(k) if n == 8 || list.contains(&(n, at)) => return 32 * k + n as u32,
+                Some(_) => {}
             }
-            unreachable!()
-        })
-        .collect()
+        }
+        unreachable!()
+    };
+    (0..256).map(word).collect()
 }
 
 /// The members below a path, in address order, as words in preorder.

@@ -17,6 +17,19 @@ extern "C" {
         limits: *const u32,
         limits_len: usize,
     ) -> u64;
+    fn marlbrace_words_indexed(sets: u32, nodes: u32, indexed: u32) -> u64;
+    fn marlbrace_layout_indexed(
+        pool: *mut u32,
+        pool_len: usize,
+        family: u8,
+        sets: u32,
+        nodes: u32,
+        shares: *const u32,
+        shares_len: usize,
+        limits: *const u32,
+        limits_len: usize,
+        indexed: u64,
+    ) -> u64;
     fn marlbrace_free(pool: *const u32, pool_len: usize) -> u64;
     fn marlbrace_held(pool: *const u32, pool_len: usize, set: u32) -> u64;
     fn marlbrace_networks(pool: *const u32, pool_len: usize, set: u32) -> u64;
@@ -97,6 +110,17 @@ pub(crate) fn words(sets: u32, nodes: u32) -> Result<usize, Refusal> {
 pub(crate) fn layout(pool: &mut [u32], family: u8, nodes: u32, shares: &[u32], limits: &[u32]) -> Answer {
     let sets = u32::try_from(shares.len()).unwrap_or(u32::MAX);
     granted(unsafe { marlbrace_layout(pool.as_mut_ptr(), pool.len(), family, sets, nodes, shares.as_ptr(), shares.len(), limits.as_ptr(), limits.len()) })
+}
+
+pub(crate) fn words_indexed(sets: u32, nodes: u32, indexed: u32) -> Result<usize, Refusal> {
+    granted(unsafe { marlbrace_words_indexed(sets, nodes, indexed) }).map(|a| a.value() as usize)
+}
+
+/// As `layout`, with set s indexed where bit s is set.
+pub(crate) fn layout_indexed(pool: &mut [u32], family: u8, nodes: u32, shares: &[u32], limits: &[u32], indexed: u64) -> Answer {
+    let sets = u32::try_from(shares.len()).unwrap_or(u32::MAX);
+    let (s, l) = (shares.as_ptr(), limits.as_ptr());
+    granted(unsafe { marlbrace_layout_indexed(pool.as_mut_ptr(), pool.len(), family, sets, nodes, s, shares.len(), l, limits.len(), indexed) })
 }
 
 macro_rules! reads {

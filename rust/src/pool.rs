@@ -35,25 +35,68 @@ pub struct Pool<W = Vec<u32>> {
     words: W,
 }
 
+/// How many sets these are the plans of, as a layout takes it.
+fn sets_of(plans: &[Plan]) -> Result<u32, Refusal> {
+    u32::try_from(plans.len()).map_err(|_| Refusal::BadSetup)
+}
+
+fn shares_and_limits(plans: &[Plan]) -> (Vec<u32>, Vec<u32>) {
+    plans.iter().map(|plan| (plan.share, plan.limit)).unzip()
+}
+
+/// Bit s for set s. Whether there are these sets the layout says.
+fn marks_of(sets: &[u32]) -> Result<u64, Refusal> {
+    sets.iter().try_fold(0, |marks, &set| Ok(marks | 1u64.checked_shl(set).ok_or(Refusal::BadSetup)?))
+}
+
 impl Pool<Vec<u32>> {
     /// A pool of empty sets in words of its own.
     pub fn new(family: u8, nodes: u32, plans: &[Plan]) -> Result<Pool, Refusal> {
-        let sets = u32::try_from(plans.len()).map_err(|_| Refusal::BadSetup)?;
-        Pool::layout(vec![0; ffi::words(sets, nodes)?], family, nodes, plans)
+        Pool::layout(vec![0; ffi::words(sets_of(plans)?, nodes)?], family, nodes, plans)
+    }
+
+    /// The same, with the sets of these numbers indexed for good. An indexed set takes 256 words more, one for each way that the first eight bits of a network
+    /// can be: its lookups of networks of eight bits or more begin there and not at the root. They answer what they answer without an index.
+    ///
+    /// ```
+    /// # use marlbrace::{Plan, Pool, Refusal};
+    /// # fn main() -> Result<(), Refusal> {
+    /// let mut pool = Pool::new_indexed(4, 100, &[Plan::new(60, 100), Plan::new(20, 40)], &[0])?; // the first of two
+    /// pool.set_mut(0).add("10.0.0.0/12".parse()?)?;
+    /// assert!(pool.set(0).contains("10.1.2.3/32".parse()?)?);
+    /// assert!(!pool.set(0).contains("11.0.0.0/8".parse()?)?);
+    /// assert_eq!(pool.into_words().len(), Pool::words_needed(2, 100)? + 256);
+    /// # Ok(())
+    /// # }
+    /// ```
+    pub fn new_indexed(family: u8, nodes: u32, plans: &[Plan], indexed: &[u32]) -> Result<Pool, Refusal> {
+        let words = Pool::words_needed_indexed(sets_of(plans)?, nodes, marks_of(indexed)?.count_ones())?;
+        Pool::layout_indexed(vec![0; words], family, nodes, plans, indexed)
     }
 
     /// How many words a pool of so many sets and nodes needs.
     pub fn words_needed(sets: u32, nodes: u32) -> Result<usize, Refusal> {
         ffi::words(sets, nodes)
     }
+
+    /// The same where so many of the sets are indexed.
+    pub fn words_needed_indexed(sets: u32, nodes: u32, indexed: u32) -> Result<usize, Refusal> {
+        ffi::words_indexed(sets, nodes, indexed)
+    }
 }
 
 impl<W: AsMut<[u32]> + AsRef<[u32]>> Pool<W> {
     /// Lays out a pool of empty sets in these words; those that it does not need stay as they are.
     pub fn layout(mut words: W, family: u8, nodes: u32, plans: &[Plan]) -> Result<Pool<W>, Refusal> {
-        let shares: Vec<u32> = plans.iter().map(|p| p.share).collect();
-        let limits: Vec<u32> = plans.iter().map(|p| p.limit).collect();
+        let (shares, limits) = shares_and_limits(plans);
         ffi::layout(words.as_mut(), family, nodes, &shares, &limits)?;
+        Ok(Pool { words })
+    }
+
+    /// The same, with the sets of these numbers indexed, as [`Pool::new_indexed`] says.
+    pub fn layout_indexed(mut words: W, family: u8, nodes: u32, plans: &[Plan], indexed: &[u32]) -> Result<Pool<W>, Refusal> {
+        let (shares, limits) = shares_and_limits(plans);
+        ffi::layout_indexed(words.as_mut(), family, nodes, &shares, &limits, marks_of(indexed)?)?;
         Ok(Pool { words })
     }
 

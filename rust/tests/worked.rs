@@ -117,6 +117,45 @@ fn shares_and_limits() -> Done {
     Ok(())
 }
 
+/// Lookups and changes answer the same, and an indexed set has 256 words more.
+#[test]
+fn indexed_sets() -> Done {
+    let plans = [Plan::new(300, 1000); 3];
+    let mut indexed = Pool::new_indexed(4, 1000, &plans, &[2, 0])?;
+    let mut plain = Pool::new(4, 1000, &plans)?;
+    let queries = nets(&["0.0.0.0/0", "0.0.0.0/7", "10.0.0.0/8", "10.9.8.7/32", "11.0.0.0/8", "192.168.1.0/24", "192.168.0.0/23", "193.0.0.0/9"]);
+    for line in ["10.0.0.0/8", "192.168.0.0/24", "192.168.1.0/24", "192.0.0.0/7", "0.0.0.0/0"] {
+        assert_eq!(indexed.set_mut(0).add(net(line)), plain.set_mut(0).add(net(line)));
+        for &query in &queries {
+            assert_eq!(indexed.set(0).supernet(query), plain.set(0).supernet(query));
+        }
+        assert_eq!(indexed.set(0).contains_all(&queries), plain.set(0).contains_all(&queries));
+    }
+    assert_eq!(indexed.exclude(2, 0, 1), plain.exclude(2, 0, 1));
+    assert_eq!(indexed.set(2).supernet(queries[3]), plain.set(2).supernet(queries[3]));
+    assert_eq!(indexed.into_words().len(), plain.into_words().len() + 512);
+    Ok(())
+}
+
+#[test]
+fn which_sets_may_be_indexed() -> Done {
+    let plans = [Plan::new(1, 10); 2];
+    for indexed in [&[2][..], &[0, 63], &[64], &[u32::MAX]] {
+        assert_eq!(Pool::new_indexed(4, 100, &plans, indexed).err(), Some(Refusal::BadSetup));
+    }
+    assert_eq!(Pool::new_indexed(4, 100, &plans, &[])?.into_words(), Pool::new(4, 100, &plans)?.into_words());
+    assert_eq!(Pool::words_needed_indexed(2, 100, 2), Ok(Pool::words_needed(2, 100)? + 512));
+    assert_eq!(Pool::words_needed_indexed(2, 100, 3), Err(Refusal::BadSetup));
+    let mut words = vec![7; 880 + 256];
+    assert_eq!(Pool::layout_indexed(&mut words[..1135], 4, 100, &plans, &[1]).err(), Some(Refusal::BadSetup));
+    assert_eq!(words, [7; 880 + 256]);
+    Pool::layout_indexed(&mut words[..], 4, 100, &plans, &[1, 1])?;
+    assert!(Pool::open(&mut words[..]).is_ok());
+    words[880 + 10] ^= 1; // where a walk by the byte 10 stands
+    assert_eq!(Pool::open(&mut words[..]).err(), Some(Refusal::Damaged));
+    Ok(())
+}
+
 #[test]
 fn every_refusal() -> Done {
     let mut pool = pool_of(&HALVES);

@@ -67,7 +67,7 @@ impl Line {
 
     /// What stands beside it is a call of ours, not iprange's.
     fn beside_ours(&self) -> bool {
-        self.what.ends_with("not marked") || self.what.contains("/ a loop of our ")
+        self.what.ends_with("not marked") || self.what.ends_with("not indexed") || self.what.contains("/ a loop of our ")
     }
 
     /// The part of a call that goes into the check of its pool.

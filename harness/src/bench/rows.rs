@@ -44,6 +44,8 @@ macro_rules! rows {
 pub const ROWS: &[Row] = rows! {
     contains_hit, "contains, hit / contains", "lookup", One;
     contains_miss, "contains, miss / contains", "lookup", One;
+    contains_indexed, "contains of an indexed set, hit / contains", "lookup", One;
+    contains_indexed_plain, "contains of an indexed set, hit / not indexed", "lookup", One;
     contains_all_hit, "contains_all, hit / contains", "lookup", One;
     contains_all_miss, "contains_all, miss / contains", "lookup", One;
     contains_all_loop, "contains_all, hit / a loop of our contains", "lookup", One;
@@ -97,6 +99,18 @@ fn many<N: Numbers + Clone>(c: &Case<N>, hit: bool, one: impl Fn(&Net, &N) -> bo
         })
     };
     c.beside(QUERIES, a, || seconds(|| right(nets.iter().zip(&same).filter(|(n, same)| one(n, same)).count()))).checked(0)
+}
+
+fn contains_indexed<N: Numbers + Clone>(c: &Case<N>) -> Took {
+    let w = Pool::indexed(c.family, &c.list);
+    lookups(c, true, |n| call::contains(&w, 0, n), |n| c.range.contains(n))
+}
+
+fn contains_indexed_plain<N: Numbers + Clone>(c: &Case<N>) -> Took {
+    let w = Pool::indexed(c.family, &c.list);
+    let nets: Vec<Net> = queries(c.family, &c.list, true).iter().map(|&m| net(c.family, m)).collect();
+    let asked = |w: &[u32]| seconds(|| assert_eq!(nets.iter().filter(|n| call::contains(w, 0, n)).count(), QUERIES));
+    c.beside(QUERIES, || asked(&w), || asked(&c.words)).checked(0)
 }
 
 fn contains_all_hit<N: Numbers + Clone>(c: &Case<N>) -> Took {
