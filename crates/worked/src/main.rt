@@ -27,11 +27,11 @@ fn looked(a: Contained) -> Got {
 }
 
 // The word of the pool at a number.
-fn viewed(pool: &[u32], at: usize) -> Got {
+fn viewed(pool: &[u32], at: usize) -> u32 {
     if at < pool.len() {
-        return calls::numbers(pool[at] as u64, 0);
+        return pool[at];
     }
-    calls::numbers(0, 0)
+    0
 }
 
 // The call with three numbers that the row begins with; compare takes two.
@@ -55,7 +55,7 @@ fn call(pool: &mut [u32], row: &[u8]) -> Got {
     match letter {
         b'p' => calls::answer(make_public::make_public(pool, taken(row, 1))),
         b'q' => looked(lookup::contains(pool, taken(row, 1), calls::net(row))),
-        b'v' => viewed(pool, taken(row, 1) as usize),
+        b'v' => calls::numbers(viewed(pool, taken(row, 1) as usize) as u64, 0),
         b'm' | b'i' | b'e' | b'k' | b'g' | b'c' => on_sets(pool, row, letter),
         _ => calls::call(pool, row),
     }
