@@ -173,7 +173,7 @@ fn others(d: &mut Dice, s: &State, words: &[u32], at: usize) -> Vec<u32> {
     let mut x = vec![0, 1, beside, u32::MAX, d.roll() as u32, old.wrapping_add(1), old.wrapping_sub(1), old ^ 2];
     if at >= indexes(s) {
         let node = 32 * d.below(s.nodes as u64 + 2) as u32;
-        x.extend([node + 8, node + d.below(10) as u32, old.wrapping_add(32), 16 + d.below(9) as u32, d.pick(&[9, 15, 25, 31, 48])]);
+        x.extend([node + 8, node + 9, node + d.below(8) as u32, old.wrapping_add(32), 16 + d.below(9) as u32, d.pick(&[9, 15, 25, 31, 48])]);
     }
     x.retain(|_| d.one_in(3));
     x
@@ -212,7 +212,8 @@ pub fn damage(d: &mut Dice) -> Case {
         let old = words[at];
         for x in others(d, &state, &words, at) {
             let write = |x: u32| Call { a: at as u32, tail: x.to_le_bytes().to_vec(), ..Call::new(WRITE_WORDS) };
-            case.calls.extend([write(x), lookup_at(d, &state, at)]);
+            // free says whether the words are sound
+            case.calls.extend([write(x), lookup_at(d, &state, at), Call::new(FREE)]);
             for _ in 0..2 {
                 let mut c = plan.call(d, &state_of(&plan));
                 if c.code == LAYOUT {

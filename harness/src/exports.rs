@@ -165,7 +165,8 @@ fn answered(pool: &mut [u32], c: &Call) -> Option<(u64, Vec<u8>)> {
                 let (words, more) = (c.net.len as usize, (c.c % 256) as usize);
                 let at = |k: usize| (0..4).map(|j| (*c.tail.get(4 * k + j).unwrap_or(&0) as u32) << (8 * j)).sum::<u32>();
                 let (shares, limits): (Vec<u32>, Vec<u32>) = ((0..words).map(at).collect(), (words..words + more).map(at).collect());
-                if n.hi == 0 {
+                // where no set is marked either does
+                if n.hi == 0 && c.b % 2 == 0 {
                     marlbrace_layout(w, m, n.family, c.a, c.b, shares.as_ptr(), shares.len(), limits.as_ptr(), limits.len())
                 } else {
                     marlbrace_layout_indexed(w, m, n.family, c.a, c.b, shares.as_ptr(), shares.len(), limits.as_ptr(), limits.len(), n.hi)

@@ -115,8 +115,8 @@ impl Plan {
             shares.push(share);
             limits.push(if d.one_in(8) { u32::MAX } else { share + d.below(nodes as u64 + 2) as u32 });
         }
-        // one plan in three has indexed sets
-        let indexed = if d.one_in(3) { d.below(1 << sets) } else { 0 };
+        // up to one plan in two has indexed sets
+        let indexed = if d.one_in(2) { d.below(1 << sets) } else { 0 };
         Plan { family, universe, sets, nodes, shares, limits, indexed }
     }
 
