@@ -341,9 +341,10 @@ fn tamper(d: &mut Dice, case: &mut Case) {
     case.calls.iter().for_each(|c| {
         apply(&mut words, c);
     });
-    // of the header, of records, the first node's, and the first of an index
-    let index = (least(words[2] as u64, words[3] as u64, 0) as usize).min(WORDS - 2);
-    let at = d.pick(&[0, 1, 2, 3, 4, 64, 65, 66, 68, 72, 64 + 8 * words[2] as usize, index]);
+    // of the header, of records, the first node's, and the first of an index; where there is none, stands what an earlier pool of the frame has left
+    let first = 64 + 8 * words[2] as usize;
+    let index = if words[4] == 0 { first } else { (least(words[2] as u64, words[3] as u64, 0) as usize).min(WORDS - 6) };
+    let at = d.pick(&[0, 1, 2, 3, 4, 64, 65, 66, 68, 72, first, index]);
     let write = |x: u32| Call { a: at as u32, tail: x.to_le_bytes().to_vec(), ..Call::new(WRITE_WORDS) };
     let x = d.pick(&[0, 1, words[at + 1], u32::MAX, words[at] ^ 2]);
     let net = Net { family: words[1] as u8, ..Net::default() };
