@@ -44,8 +44,10 @@ macro_rules! rows {
 pub const ROWS: &[Row] = rows! {
     contains_hit, "contains, hit / contains", "lookup", One;
     contains_miss, "contains, miss / contains", "lookup", One;
-    contains_indexed, "contains of an indexed set, hit / contains", "lookup", One;
-    contains_indexed_plain, "contains of an indexed set, hit / not indexed", "lookup", One;
+    contains_indexed_hit, "contains of an indexed set, hit / contains", "lookup", One;
+    contains_indexed_miss, "contains of an indexed set, miss / contains", "lookup", One;
+    indexed_hit, "contains of an indexed set, hit / not indexed", "lookup", One;
+    indexed_miss, "contains of an indexed set, miss / not indexed", "lookup", One;
     contains_all_hit, "contains_all, hit / contains", "lookup", One;
     contains_all_miss, "contains_all, miss / contains", "lookup", One;
     contains_all_loop, "contains_all, hit / a loop of our contains", "lookup", One;
@@ -101,16 +103,31 @@ fn many<N: Numbers + Clone>(c: &Case<N>, hit: bool, one: impl Fn(&Net, &N) -> bo
     c.beside(QUERIES, a, || seconds(|| right(nets.iter().zip(&same).filter(|(n, same)| one(n, same)).count()))).checked(0)
 }
 
-fn contains_indexed<N: Numbers + Clone>(c: &Case<N>) -> Took {
+fn contains_indexed_hit<N: Numbers + Clone>(c: &Case<N>) -> Took {
     let w = Pool::indexed(c.family, &c.list);
     lookups(c, true, |n| call::contains(&w, 0, n), |n| c.range.contains(n))
 }
 
-fn contains_indexed_plain<N: Numbers + Clone>(c: &Case<N>) -> Took {
+fn contains_indexed_miss<N: Numbers + Clone>(c: &Case<N>) -> Took {
     let w = Pool::indexed(c.family, &c.list);
-    let nets: Vec<Net> = queries(c.family, &c.list, true).iter().map(|&m| net(c.family, m)).collect();
-    let asked = |w: &[u32]| seconds(|| assert_eq!(nets.iter().filter(|n| call::contains(w, 0, n)).count(), QUERIES));
+    lookups(c, false, |n| call::contains(&w, 0, n), |n| c.range.contains(n))
+}
+
+/// An indexed set beside one that is not, of the same list.
+fn indexed<N: Numbers + Clone>(c: &Case<N>, hit: bool) -> Took {
+    let w = Pool::indexed(c.family, &c.list);
+    let nets: Vec<Net> = queries(c.family, &c.list, hit).iter().map(|&m| net(c.family, m)).collect();
+    let right = if hit { QUERIES } else { 0 };
+    let asked = |w: &[u32]| seconds(|| assert_eq!(nets.iter().filter(|n| call::contains(w, 0, n)).count(), right));
     c.beside(QUERIES, || asked(&w), || asked(&c.words)).checked(0)
+}
+
+fn indexed_hit<N: Numbers + Clone>(c: &Case<N>) -> Took {
+    indexed(c, true)
+}
+
+fn indexed_miss<N: Numbers + Clone>(c: &Case<N>) -> Took {
+    indexed(c, false)
 }
 
 fn contains_all_hit<N: Numbers + Clone>(c: &Case<N>) -> Took {
