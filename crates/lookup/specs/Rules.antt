@@ -1,6 +1,7 @@
 -- The rules of the lookups, as functions of the words: the header first, then the arguments, then the path and nothing else.
 --
 --   onRoot w k refuse f     2 no header of a pool, 3 no such set; else what f says of the number of the set's root
+--   fromRoot, fromIndex     what the path of the bits q shows in set k from the root on, and from their word of the index at place p on
 --   pathOf w k q            what the path of the bits q shows in set k: from the root on, or where the set is indexed and there are eight bits, from their word of the index on
 --   query, lookup           6 another family than the pool's, 7 no network; else what the path shows
 --   supernetRule, containsRule, emptyRule      the number and the values of each answer;  Sought, Held: those values, of supernet and of contains
@@ -33,13 +34,15 @@ use Rattle.lookup.specs.declared.Contained.the-variants as contained
 unfoldable pub onRoot : {A : Type 0} → List ℕ → ℕ → (Refusal → A) → (ℕ → A) → A
 onRoot w k refuse f = cond (isHeader w) (cond (ltb k (getD w 2 0)) (f (getD w (recordAt k) 0)) (refuse NoSet)) (refuse Damaged)
 
+abbrev pub fromRoot : List ℕ → ℕ → Bits → Shown
+fromRoot w k q = walkFrom w (base (getD w 2 0)) (getD w 3 0) q (getD w (recordAt k) 0)
+
+abbrev pub fromIndex : List ℕ → ℕ → ℕ → Bits → Shown
+fromIndex w k p q = standsOn w (base (getD w 2 0)) (getD w 3 0) (getD w (recordAt k) 0) (getD w (p + val (take 8 q)) 0) (drop 8 q)
+
 unfoldable pub pathOf : List ℕ → ℕ → Bits → Shown
 pathOf w k q =
-    cond (eqb (tagIn w k) 0 || ltb (length q) 8)
-    (walkFrom w (base (getD w 2 0)) (getD w 3 0) q (getD w (recordAt k) 0))
-    (cond (leb (tagIn w k) (getD w 4 0))
-    (standsOn w (base (getD w 2 0)) (getD w 3 0) (getD w (recordAt k) 0) (getD w (indexIn w k + val (take 8 q)) 0) (drop 8 q))
-    (Refused Damaged))
+    cond (eqb (tagIn w k) 0 || ltb (length q) 8) (fromRoot w k q) (cond (leb (tagIn w k) (getD w 4 0)) (fromIndex w k (indexIn w k) q) (Refused Damaged))
 
 unfoldable pub query : List ℕ → ℕ → Net → Shown
 query w k n =

@@ -16,9 +16,9 @@ ghost use lib.ListN.{getD, take, drop};
 ghost use Rattle.nets.specs.Bits.{digit, val};
 ghost use Rattle.nets.specs.Networks.{bitsLeft};
 ghost use Rattle.nodes.specs.Parse.{Room};
-ghost use Rattle.pool_state.specs.Decode.{recordAt, base, leastWords, isHeader};
-ghost use Rattle.lookup.specs.Walks.{walkFrom, nodeShows, standsOn};
-ghost use Rattle.lookup.specs.Rules.{pathOf};
+ghost use Rattle.pool_state.specs.Decode.{leastWords, isHeader};
+ghost use Rattle.lookup.specs.Walks.{nodeShows, standsOn};
+ghost use Rattle.lookup.specs.Rules.{fromRoot, fromIndex, pathOf};
 
 // The first eight bits of a query as a number, and the bits behind them.
 pub struct Opening {
@@ -100,7 +100,7 @@ pub fn stand_on(w: &[u32], b: usize, n: u32, root: u32, x: u32, len: u8, bits: P
 // What the path of these bits shows in a set from the root on.
 fn from_root(w: &[u32], set: u32, bits: PrefixBits) -> Shown
     requires { ⌜ (isHeader (now w) ≡ true) × (set < getD (now w) 2 0) × (bits .len ≤ 128) ⌝ }
-    ensures { λ r. ⌜ r ≡ walkFrom (now (w .entry)) (base (getD (now (w .entry)) 2 0)) (getD (now (w .entry)) 3 0) (bitsLeft bits) (getD (now (w .entry)) (recordAt set) 0) ⌝ }
+    ensures { λ r. ⌜ r ≡ fromRoot (now (w .entry)) set (bitsLeft bits) ⌝ }
 {
     let root = w[HEAD + RECORD * (set as usize)];
     let b = HEAD + RECORD * (w[2] as usize);
@@ -110,7 +110,7 @@ fn from_root(w: &[u32], set: u32, bits: PrefixBits) -> Shown
 // What it shows from the word of the index on.
 fn from_index(w: &[u32], set: u32, tag: u32, bits: PrefixBits) -> Shown
     requires { ⌜ (isHeader (now w) ≡ true) × (set < getD (now w) 2 0) × (8 ≤ bits .len) × (bits .len ≤ 128) × (1 ≤ tag) × (tag ≤ getD (now w) 4 0) ⌝ }
-    ensures { λ r. ⌜ r ≡ standsOn (now (w .entry)) (base (getD (now (w .entry)) 2 0)) (getD (now (w .entry)) 3 0) (getD (now (w .entry)) (recordAt set) 0) (getD (now (w .entry)) (leastWords (getD (now (w .entry)) 2 0) (getD (now (w .entry)) 3 0) (tag - 1) + val (take 8 (bitsLeft bits))) 0) (drop 8 (bitsLeft bits)) ⌝ }
+    ensures { λ r. ⌜ r ≡ fromIndex (now (w .entry)) set (leastWords (getD (now (w .entry)) 2 0) (getD (now (w .entry)) 3 0) (tag - 1)) (bitsLeft bits) ⌝ }
 {
     let root = w[HEAD + RECORD * (set as usize)];
     let b = HEAD + RECORD * (w[2] as usize);

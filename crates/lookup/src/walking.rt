@@ -98,9 +98,9 @@ fn child(bit: bool, p: usize, q: usize) -> usize
     p + 1
 }
 
-// What the path down from node root shows, where of a query of len bits these are still to come. One test at a node says that both its children are nodes: the second, at q, stands before the last. Where that is not
-// so, where a word is of no node, and where the query ends, every test is made. Nodes with one child have a branch of their own, so that a processor goes on
-// before it has their words: the child stands right behind.
+// What the path down from node root shows, where of a query of len bits these are still to come. One test at a node says that both its children are nodes: the
+// second, at q, stands before the last. Where that is not so, where a word is of no node, and where the query ends, every test is made. Nodes with one child
+// have a branch of their own, so that a processor goes on before it has their words: the child stands right behind.
 pub fn walk_down(w: &[u32], b: usize, n: u32, root: u32, len: u8, bits: PrefixBits) -> Shown
     requires { ⌜ Room (now w) b n × (1 ≤ root) × (root ≤ n) × (bits .len ≤ len) × (len ≤ 128) ⌝ }
     ensures { λ r. ⌜ r ≡ walk (now (w .entry)) b n (len - bits .len) root (bitsLeft bits) ⌝ }
