@@ -27,7 +27,8 @@ int main(void) {
     printf("%u nodes\n", (unsigned)marlbrace_value(marlbrace_simplify(pool, words, 0)));      /* 24 nodes */
 
     answer = marlbrace_supernet(pool, words, 0, 4, 0, 0xc0a80107, 32, row);                   /* 192.168.1.7 */
-    printf("inside: %s, a /%u, %u nodes read\n", marlbrace_yes(answer) ? "yes" : "no", (unsigned)row[2], (unsigned)marlbrace_value(answer));   /* inside: yes, a /23, 24 nodes read */
+    k = marlbrace_value(answer);
+    printf("inside: %s, a /%u, %u nodes read\n", marlbrace_yes(answer) ? "yes" : "no", (unsigned)row[2], (unsigned)k);   /* inside: yes, a /23, 24 nodes read */
 
     answer = marlbrace_list(pool, words, 0, rows, 3 * 8);
     for (k = 0; k < marlbrace_value(answer); k++) {

@@ -1,8 +1,8 @@
 //! Runs the same calls through the library, the model and iprange, and compares every answer, every list and every word after every step.
 use crate::exports::{exported, many_along, most, words};
 use crate::files::{file, file_of, read_lines};
-use crate::layout::decode;
-use crate::lists::{List, Member};
+use crate::layout::{decode, least, State};
+use crate::lists::{past, width, List, Member};
 use crate::many::tail as tail_of;
 use crate::model::{apply, net, read_line};
 use crate::oracle::{left, reading, sides, Oracle};
@@ -153,6 +153,52 @@ pub fn sequence(d: &mut Dice, steps: usize) -> Case {
     Case { words: plan.words(), calls }
 }
 
+/// Where the first index of a pool stands, behind its nodes.
+fn indexes(s: &State) -> usize {
+    least(s.sets.len() as u64, s.nodes as u64, 0) as usize
+}
+
+/// The words of a pool that are damaged: of what is read all but the indexes, and some of these and of the rest.
+fn places(d: &mut Dice, s: &State, words: usize) -> Vec<usize> {
+    let used = words.min(64 + 8 * s.sets.len() + s.nodes as usize + 2);
+    // most of the header's unread words are alike
+    let mut at: Vec<usize> = (0..used).filter(|at| !(8..60).contains(at) || d.one_in(16)).collect();
+    at.extend((indexes(s)..words).filter(|_| d.one_in(16)));
+    at
+}
+
+/// Other values for a word: what it may be near, and of an index what it may say of a node, of an absence, and of none.
+fn others(d: &mut Dice, s: &State, words: &[u32], at: usize) -> Vec<u32> {
+    let (old, beside) = (words[at], words[(at + 1).min(words.len() - 1)]);
+    let mut x = vec![0, 1, beside, u32::MAX, d.roll() as u32, old.wrapping_add(1), old.wrapping_sub(1), old ^ 2];
+    if at >= indexes(s) {
+        let node = 32 * d.below(s.nodes as u64 + 2) as u32;
+        x.extend([node + 8, node + 9, node + d.below(8) as u32, old.wrapping_add(32), 16 + d.below(9) as u32, d.pick(&[9, 15, 25, 31, 48])]);
+    }
+    x.retain(|_| d.one_in(3));
+    x
+}
+
+/// A lookup of eight bits or more where a word is damaged: in the set of that record or index, by the byte of the index word, or else by that of a member.
+fn lookup_at(d: &mut Dice, s: &State, at: usize) -> Call {
+    let w = width(s.family);
+    let indexed: Vec<usize> = (0..s.sets.len()).filter(|&k| s.sets[k].indexed).collect();
+    let own = if at < 64 { None } else { Some((at - 64) / 8).filter(|&k| k < s.sets.len()) };
+    let any = (d.roll() as u128) << 64 | d.roll() as u128;
+    let (k, byte) = match at.checked_sub(indexes(s)).map(|from| (indexed.get(from / 256), from % 256)) {
+        Some((Some(&k), byte)) => (k, Some(byte as u128)),
+        _ => (own.unwrap_or(d.below(s.sets.len() as u64) as usize), None),
+    };
+    let list = &s.sets[k].list;
+    let (len, from) = match byte {
+        Some(byte) => (8, byte << (w - 8)),
+        None if list.is_empty() => (0, 0),
+        None => *list.iter().nth(d.below(list.len() as u64) as usize).unwrap(),
+    };
+    let longer = 8 + d.below(w as u64 - 7) as u8;
+    Call { a: k as u32, net: net(s.family, (d.pick(&[8, 9, longer, w]), from | any & past(w, len))), ..Call::new(d.pick(&[SUPERNET, CONTAINS])) }
+}
+
 /// A pool with something in it, then one word after another set to another value, a few calls on what that gives, and the word set back.
 pub fn damage(d: &mut Dice) -> Case {
     let mut case = sequence(d, 12);
@@ -162,20 +208,12 @@ pub fn damage(d: &mut Dice) -> Case {
     });
     let Some(state) = decode(&words) else { return case };
     let plan = Plan::new(d);
-    let used = case.words.min(64 + 8 * state.sets.len() + state.nodes as usize + 2);
-    for at in 0..used {
-        // most of the header's unread words are alike
-        if (8..60).contains(&at) && !d.one_in(16) {
-            continue;
-        }
+    for at in places(d, &state, case.words) {
         let old = words[at];
-        let beside = words[(at + 1).min(case.words - 1)];
-        for x in [0, 1, beside, u32::MAX, d.roll() as u32, old.wrapping_add(1), old.wrapping_sub(1), old ^ 2] {
-            if !d.one_in(3) {
-                continue;
-            }
+        for x in others(d, &state, &words, at) {
             let write = |x: u32| Call { a: at as u32, tail: x.to_le_bytes().to_vec(), ..Call::new(WRITE_WORDS) };
-            case.calls.push(write(x));
+            // free says whether the words are sound
+            case.calls.extend([write(x), lookup_at(d, &state, at), Call::new(FREE)]);
             for _ in 0..2 {
                 let mut c = plan.call(d, &state_of(&plan));
                 if c.code == LAYOUT {
@@ -241,11 +279,11 @@ fn halfway() -> Case {
 
 /// Damaged files, salvaged beside a small pool.
 fn wrecks(d: &mut Dice) -> Case {
-    let plan = Plan { family: 4, universe: Universe::Wide, sets: 1, nodes: 2, shares: vec![0], limits: vec![2] };
+    let plan = Plan { family: 4, universe: Universe::Wide, sets: 1, nodes: 2, shares: vec![0], limits: vec![2], indexed: 0 };
     Case { words: plan.words(), calls: salvage::damaged(d, &plan) }
 }
 
-fn state_of(p: &Plan) -> crate::layout::State {
+fn state_of(p: &Plan) -> State {
     let mut w = vec![0u32; p.words()];
     apply(&mut w, &p.layout());
     decode(&w).unwrap()
@@ -303,12 +341,16 @@ fn tamper(d: &mut Dice, case: &mut Case) {
     case.calls.iter().for_each(|c| {
         apply(&mut words, c);
     });
-    let at = d.pick(&[0, 1, 2, 3, 64, 65, 66, 72, 64 + 8 * words[2] as usize]);
+    // of the header, of records, the first node's, and the first of an index; where there is none, stands what an earlier pool of the frame has left
+    let first = 64 + 8 * words[2] as usize;
+    let index = if words[4] == 0 { first } else { (least(words[2] as u64, words[3] as u64, 0) as usize).min(WORDS - 6) };
+    let at = d.pick(&[0, 1, 2, 3, 4, 64, 65, 66, 68, 72, first, index]);
     let write = |x: u32| Call { a: at as u32, tail: x.to_le_bytes().to_vec(), ..Call::new(WRITE_WORDS) };
     let x = d.pick(&[0, 1, words[at + 1], u32::MAX, words[at] ^ 2]);
     let net = Net { family: words[1] as u8, ..Net::default() };
     let on = |code: u8| Call { b: 6, net: net.clone(), ..Call::new(code) };
     case.calls.extend([Call { a: at as u32, ..on(READ_WORDS) }, write(x)]);
+    case.calls.push(Call { net: Net { len: 8, ..net.clone() }, ..Call::new(SUPERNET) });
     case.calls.extend([HELD, CONTAINS, IS_EMPTY, EQUAL, LIST, RANGES, SAVE, LAST, PAGE].map(on));
     // refused on any words, then granted with an empty file and refused for a range that goes backward
     case.calls.extend([ADD_RANGE, ADD_FILE, REMOVE_FILE].map(Call::new));

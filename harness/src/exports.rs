@@ -1,5 +1,5 @@
 //! The calls that are exported each for itself, as include/marlbrace.h declares them, on the words that a case leaves, beside the model.
-use crate::layout::header;
+use crate::layout::{header, least};
 use crate::many::last;
 use crate::model::apply;
 use crate::runs::cut;
@@ -8,6 +8,8 @@ use crate::wire::*;
 extern "C" {
     fn marlbrace_words(sets: u32, nodes: u32) -> u64;
     fn marlbrace_layout(pool: *mut u32, pool_len: usize, family: u8, sets: u32, nodes: u32, shares: *const u32, shares_len: usize, limits: *const u32, limits_len: usize) -> u64;
+    fn marlbrace_words_indexed(sets: u32, nodes: u32, indexed: u32) -> u64;
+    fn marlbrace_layout_indexed(pool: *mut u32, pool_len: usize, family: u8, sets: u32, nodes: u32, shares: *const u32, shares_len: usize, limits: *const u32, limits_len: usize, indexed: u64) -> u64;
     fn marlbrace_free(pool: *const u32, pool_len: usize) -> u64;
     fn marlbrace_held(pool: *const u32, pool_len: usize, set: u32) -> u64;
     fn marlbrace_networks(pool: *const u32, pool_len: usize, set: u32) -> u64;
@@ -45,6 +47,13 @@ extern "C" {
     fn marlbrace_read_line_six(line: *const u8, line_len: usize, row: *mut [u64; 3]) -> u64;
     fn marlbrace_read_line_either(line: *const u8, line_len: usize, row: *mut [u64; 3]) -> u64;
     fn marlbrace_write_line(family: u8, hi: u64, lo: u64, len: u8, out: *mut u8, out_len: usize) -> u64;
+}
+
+/// Lays a pool out with empty sets that have no share and the limit, indexed where their bit is set.
+pub fn layout_indexed(pool: &mut [u32], family: u8, sets: usize, nodes: u32, limit: u32, indexed: u64) -> u64 {
+    let (shares, limits) = (vec![0; sets], vec![limit; sets]);
+    let (s, l) = (shares.as_ptr(), limits.as_ptr());
+    unsafe { marlbrace_layout_indexed(pool.as_mut_ptr(), pool.len(), family, sets as u32, nodes, s, sets, l, sets, indexed) }
 }
 
 /// Whether a member contains the network, where the call is granted.
@@ -156,7 +165,12 @@ fn answered(pool: &mut [u32], c: &Call) -> Option<(u64, Vec<u8>)> {
                 let (words, more) = (c.net.len as usize, (c.c % 256) as usize);
                 let at = |k: usize| (0..4).map(|j| (*c.tail.get(4 * k + j).unwrap_or(&0) as u32) << (8 * j)).sum::<u32>();
                 let (shares, limits): (Vec<u32>, Vec<u32>) = ((0..words).map(at).collect(), (words..words + more).map(at).collect());
-                marlbrace_layout(w, m, n.family, c.a, c.b, shares.as_ptr(), shares.len(), limits.as_ptr(), limits.len())
+                // where no set is marked either does
+                if n.hi == 0 && c.b % 2 == 0 {
+                    marlbrace_layout(w, m, n.family, c.a, c.b, shares.as_ptr(), shares.len(), limits.as_ptr(), limits.len())
+                } else {
+                    marlbrace_layout_indexed(w, m, n.family, c.a, c.b, shares.as_ptr(), shares.len(), limits.as_ptr(), limits.len(), n.hi)
+                }
             }
             FREE => marlbrace_free(w, m),
             HELD => marlbrace_held(w, m, c.a),
@@ -283,11 +297,17 @@ pub fn exported(words: &[u32], c: &Call) -> Option<String> {
 /// The words that pools need, at the ends of what there may be.
 pub fn words() -> Option<String> {
     let sizes = [0u32, 1, 2, 63, 64, 65, 4_194_303, 4_194_304, 4_194_305, u32::MAX];
-    sizes.iter().flat_map(|&m| sizes.iter().map(move |&n| (m, n))).find_map(|(m, n)| {
-        let expected = if (1..=64).contains(&m) && (1..=4_194_304).contains(&n) { packed(0, 64 + 8 * m + 8 * n, false, false) } else { packed(1, 0, false, false) };
-        let number = unsafe { marlbrace_words(m, n) };
-        (number != expected).then(|| format!("words of {m} sets and {n} nodes: {number:x}, expected {expected:x}"))
-    })
+    sizes.iter().flat_map(|&m| sizes.iter().map(move |&n| (m, n))).find_map(|(m, n)| sizes.iter().find_map(|&indexed| words_of(m, n, indexed)))
+}
+
+/// Those of one pool: by the call that is told how many sets are indexed, and where none is by the other too.
+fn words_of(sets: u32, nodes: u32, indexed: u32) -> Option<String> {
+    let right = (1..=64).contains(&sets) && (1..=4_194_304).contains(&nodes) && indexed <= sets;
+    let expected = if right { packed(0, least(sets as u64, nodes as u64, indexed as u64) as u32, false, false) } else { packed(1, 0, false, false) };
+    let number = unsafe { marlbrace_words_indexed(sets, nodes, indexed) };
+    let plain = if indexed == 0 { unsafe { marlbrace_words(sets, nodes) } } else { expected };
+    let wrong = number != expected || plain != expected;
+    wrong.then(|| format!("words of {sets} sets, {indexed} indexed, and {nodes} nodes: {number:x}, {plain:x}, expected {expected:x}"))
 }
 
 /// The most entries that a salvage reads, all of them too long, and one more.

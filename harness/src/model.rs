@@ -1,7 +1,8 @@
-//! What each call has to answer and to leave, by document 01, requests M-101, M-102, M-103, M-105, M-107, M-109 and M-112, and docs/CALLS.md: refusals, room, limits, shares, reports, files, text, damaged memory.
+//! What each call has to answer and to leave, by document 01, requests M-101, M-102, M-103, M-105, M-107, M-108, M-109 and M-112, and docs/CALLS.md: refusals,
+//! room, limits, shares, reports, files, text, damaged memory.
 use crate::files::{file, read_file, read_lines};
 use crate::text6::{read_line6, text6};
-use crate::layout::{decode, encode, header, held, room, State};
+use crate::layout::{decode, encode, header, held, least, room, State, MARK};
 use crate::lists::{self, cleared, width, List, Member};
 use crate::many;
 use crate::runs;
@@ -79,10 +80,12 @@ fn layout(w: &mut [u32], c: &Call) -> Answer {
     let (family, sets, nodes) = (c.net.family, c.a as u64, c.b as u64);
     let shares = numbers(&c.tail, 0, c.net.len as usize);
     let limits = numbers(&c.tail, c.net.len as usize, (c.c % 256) as usize);
+    let indexes = c.net.hi.count_ones();
     let right = is_family(family)
         && (1..=64).contains(&sets)
         && (1..=4_194_304).contains(&nodes)
-        && 64 + 8 * sets + 8 * nodes <= w.len() as u64
+        && (sets == 64 || c.net.hi >> sets == 0)
+        && least(sets, nodes, indexes as u64) <= w.len() as u64
         && shares.len() as u64 == sets
         && limits.len() as u64 == sets
         && shares.iter().zip(&limits).all(|(s, l)| s <= l)
@@ -90,12 +93,17 @@ fn layout(w: &mut [u32], c: &Call) -> Answer {
     if !right {
         return Answer::refused(1);
     }
-    w[..(64 + 8 * sets + 8 * nodes) as usize].fill(0);
-    w[..4].copy_from_slice(&[crate::layout::MARK, family as u32, c.a, c.b]);
+    w[..least(sets, nodes, indexes as u64) as usize].fill(0);
+    w[..5].copy_from_slice(&[MARK, family as u32, c.a, c.b, indexes]);
     for k in 0..sets as usize {
         w[65 + 8 * k] = shares[k];
         w[66 + 8 * k] = limits[k];
     }
+    for (j, k) in (0..sets as usize).filter(|k| c.net.hi >> k & 1 == 1).enumerate() {
+        w[68 + 8 * k] = j as u32 + 1;
+    }
+    // in an empty set every walk ends at once
+    w[least(sets, nodes, 0) as usize..least(sets, nodes, indexes as u64) as usize].fill(16);
     number(0)
 }
 
@@ -182,21 +190,68 @@ fn root(w: &[u32], set: u32) -> Result<(u8, usize, u64, u64), u8> {
     Ok((family, 64 + 8 * sets, nodes as u64, w[64 + 8 * set as usize] as u64))
 }
 
-/// A lookup reads its own path: the length of the member met on the way down, if there is one, and how many nodes were read.
-fn path(w: &[u32], set: u32, n: &Net) -> Result<(Option<u8>, u32), u8> {
+/// What a path shows: the length of the member met on the way down, if there is one, and how many nodes were read.
+type Shown = (Option<u8>, u32);
+
+/// Where a path begins: at a node that is so many bits down, or it shows all there is.
+enum Begin {
+    At(u64, u8),
+    Shows(Shown),
+}
+
+/// At the root of a set.
+fn at_root(root: u64, nodes: u64) -> Result<Begin, u8> {
+    match root {
+        0 => Ok(Begin::Shows((None, 0))),
+        root if root > nodes => Err(2),
+        root => Ok(Begin::At(root, 0)),
+    }
+}
+
+/// At a word of an index, by M-108: 16 more than the depth of an absence, or a node's depth and 32 times how far behind the root it is. One of less than eight
+/// bits is a member, which has to be a leaf.
+fn at_index(w: &[u32], base: usize, nodes: u64, root: u64, x: u64) -> Result<Begin, u8> {
+    if (16..=24).contains(&x) {
+        return Ok(Begin::Shows((None, x as u32 - 16)));
+    }
+    let (i, depth) = (root + x / 32, (x % 32) as u8);
+    if !(1..=nodes).contains(&i) || depth > 8 {
+        return Err(2);
+    }
+    match depth {
+        8 => Ok(Begin::At(i, depth)),
+        _ if w[base + (i - 1) as usize] == 0 => Ok(Begin::Shows((Some(depth), depth as u32 + 1))),
+        _ => Err(2),
+    }
+}
+
+/// At the index where the set has one and the query is of eight bits or more. The tag of a set says which of the indexes is its own, counted from 1.
+fn begin(w: &[u32], set: u32, nodes: u64, root: u64, n: &Net) -> Result<Begin, u8> {
+    let (tag, indexes) = (w[68 + 8 * set as usize], w[4]);
+    if tag == 0 || n.len < 8 {
+        return at_root(root, nodes);
+    }
+    if tag > indexes {
+        return Err(2);
+    }
+    let byte = (address(n) >> (width(n.family) - 8)) as usize;
+    let index = least(w[2] as u64, nodes, tag as u64 - 1) as usize;
+    at_index(w, 64 + 8 * w[2] as usize, nodes, root, w[index + byte] as u64)
+}
+
+/// A lookup reads its own path, and at each node both children's numbers.
+fn path(w: &[u32], set: u32, n: &Net) -> Result<Shown, u8> {
     let (family, base, nodes, root) = root(w, set)?;
     match in_pool(family, n) {
         0 => {}
         no => return Err(no),
     }
-    if root > nodes {
-        return Err(2);
-    }
-    if root == 0 {
-        return Ok((None, 0));
-    }
-    let (mut i, wide, a) = (root, width(family), address(n));
-    for depth in 0.. {
+    let (mut i, from) = match begin(w, set, nodes, root, n)? {
+        Begin::Shows(all) => return Ok(all),
+        Begin::At(i, depth) => (i, depth),
+    };
+    let (wide, a) = (width(family), address(n));
+    for depth in from.. {
         let x = w[base + (i - 1) as usize] as u64;
         if x == 0 {
             return Ok((Some(depth), depth as u32 + 1));

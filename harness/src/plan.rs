@@ -1,6 +1,6 @@
 //! Seeded sequences of calls: several sets, both families, dense small universes and wide ones, networks around the ends of the words, and arguments that are wrong.
 use crate::files::{file, file_of};
-use crate::layout::{room, State};
+use crate::layout::{least, room, State};
 use crate::lists::{self, cleared, width, List, Member};
 use crate::many;
 use crate::model::net;
@@ -37,7 +37,8 @@ pub enum Universe {
     Edges,
 }
 
-const EDGES: [u8; 11] = [0, 1, 2, 31, 32, 33, 63, 64, 65, 127, 128];
+/// The ends of the words, of the families, and of what an index has.
+const EDGES: [u8; 14] = [0, 1, 2, 7, 8, 9, 31, 32, 33, 63, 64, 65, 127, 128];
 
 /// Six lines with a leading zero, and four without one.
 const ZEROS: [&str; 10] = [
@@ -86,6 +87,8 @@ pub struct Plan {
     pub family: u8,
     pub universe: Universe,
     pub sets: u32,
+    /// bit s: set s is indexed
+    pub indexed: u64,
     pub nodes: u32,
     pub shares: Vec<u32>,
     pub limits: Vec<u32>,
@@ -95,13 +98,13 @@ impl Plan {
     pub fn new(d: &mut Dice) -> Plan {
         let family = d.pick(&[4, 6]);
         let universe = match d.below(3) {
-            0 => Universe::Dense(2 + d.below(5) as u8),
+            0 => Universe::Dense(2 + d.below(8) as u8),
             1 => Universe::Wide,
             _ => Universe::Edges,
         };
         let sets = 1 + d.below(5) as u32;
         let nodes = match universe {
-            Universe::Dense(k) => 2 + d.below(4 << k) as u32,
+            Universe::Dense(k) => 2 + d.below((4 << k).min(512)) as u32,
             _ => 8 + d.below(6 * width(family) as u64) as u32,
         };
         let mut left = nodes;
@@ -112,16 +115,18 @@ impl Plan {
             shares.push(share);
             limits.push(if d.one_in(8) { u32::MAX } else { share + d.below(nodes as u64 + 2) as u32 });
         }
-        Plan { family, universe, sets, nodes, shares, limits }
+        // up to one plan in two has indexed sets
+        let indexed = if d.one_in(2) { d.below(1 << sets) } else { 0 };
+        Plan { family, universe, sets, nodes, shares, limits, indexed }
     }
 
     pub fn words(&self) -> usize {
-        (64 + 8 * self.sets + 8 * self.nodes) as usize
+        least(self.sets as u64, self.nodes as u64, self.indexed.count_ones() as u64) as usize
     }
 
     pub fn layout(&self) -> Call {
         let tail = self.shares.iter().chain(&self.limits).flat_map(|n| n.to_le_bytes()).collect();
-        Call { a: self.sets, b: self.nodes, c: self.sets, net: Net { family: self.family, len: self.sets as u8, ..Net::default() }, tail, ..Call::new(LAYOUT) }
+        Call { a: self.sets, b: self.nodes, c: self.sets, net: Net { family: self.family, hi: self.indexed, len: self.sets as u8, ..Net::default() }, tail, ..Call::new(LAYOUT) }
     }
 
     fn member(&self, d: &mut Dice) -> Member {
@@ -450,6 +455,8 @@ impl Plan {
                 call.b = d.below(40) as u32;
                 call.c = d.roll() as u32;
             }
+            // as often as not so long that it begins at the index
+            SUPERNET | CONTAINS if d.one_in(2) => call.net.len = call.net.len.max(d.pick(&[8, 9, 32])),
             NEXT => call.b = d.below(4) as u32,
             NTH | PAGE => call.b = d.below(18) as u32,
             SAVE => {
@@ -510,12 +517,15 @@ impl Plan {
             LAYOUT => {
                 // most are refused; a granted one begins anew
                 call = self.layout();
-                match d.below(6) {
+                match d.below(8) {
                     0 => call.a = d.pick(&[0, 65, self.sets + 1]),
                     1 => call.b = d.pick(&[0, self.nodes + 1, 4_194_305, u32::MAX]),
                     2 => call.net.family = d.pick(&[0, 5, 255]),
                     3 => call.net.len ^= 1,
                     4 => call.c = d.pick(&[0, self.sets + 1]),
+                    // a set that there is not, one more than there is room for, or one less
+                    5 => call.net.hi |= d.pick(&[1 << self.sets, 1 << 63]),
+                    6 => call.net.hi ^= 1 << d.below(self.sets as u64),
                     _ => call.tail[0] = 255,
                 }
             }

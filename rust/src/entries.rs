@@ -8,27 +8,31 @@ const MOST: usize = 2_097_152;
 
 const HEADER: usize = 16;
 
-/// The right file of the networks of a file and of others, in any order: what is inside another is left out, so the list is that of adding them one by one.
-pub(crate) fn with_others(mut file: Vec<u8>, others: impl Iterator<Item = IpNet>) -> Result<Vec<u8>, Refusal> {
-    let family = file[3];
-    let mut fresh = 0;
-    for net in others {
-        if net.family() != family {
+/// The right file of networks in any order, all of the family: what is inside another is left out, so the list is that of adding them one by one.
+pub(crate) fn file_of(family: u8, nets: impl IntoIterator<Item = IpNet>) -> Result<Vec<u8>, Refusal> {
+    let (mut file, mut nets) = (apart(family, vec![]), nets.into_iter());
+    loop {
+        let mut fresh: Vec<IpNet> = nets.by_ref().take(MOST).collect();
+        if fresh.is_empty() {
+            return Ok(file);
+        }
+        if fresh.iter().any(|net| net.family() != family) {
             return Err(Refusal::WrongFamily);
         }
-        if fresh == MOST {
-            file = right(&file)?;
-            fresh = 0;
-        }
-        push(&mut file, &net.row());
-        fresh += 1;
+        // in order they are salvaged in half the time; what comes out is the same
+        fresh.sort_unstable();
+        fresh.iter().for_each(|net| push(&mut file, &net.row()));
+        file = right(&file)?;
     }
-    right(&file)
 }
 
-/// The file of no network.
-pub(crate) fn none(family: u8) -> Vec<u8> {
-    [family as u32, 0, HEADER as u32, HEADER as u32].iter().flat_map(|number| number.to_be_bytes()).collect()
+/// The right file of networks of the family of which none is inside another.
+pub(crate) fn apart(family: u8, mut nets: Vec<IpNet>) -> Vec<u8> {
+    nets.sort_unstable();
+    let header = [family as u32, nets.len() as u32, HEADER as u32, bytes(family, nets.len()) as u32];
+    let mut file: Vec<u8> = header.iter().flat_map(|number| number.to_be_bytes()).collect();
+    nets.iter().for_each(|net| push(&mut file, &net.row()));
+    file
 }
 
 /// How many whole entries the bytes of a file have.
@@ -58,7 +62,7 @@ fn push(file: &mut Vec<u8>, n: &Row) {
 
 /// The right file of entries in any order. Beyond what any set can have it is refused as the set would be.
 fn right(file: &[u8]) -> Result<Vec<u8>, Refusal> {
-    let out = ffi::salvage(file)?;
+    let (out, _) = ffi::salvage(file)?;
     if count(file[3], &out) > MOST {
         return Err(Refusal::OverLimit);
     }
@@ -72,18 +76,19 @@ mod tests {
     #[test]
     fn disorder_and_networks_inside_others() {
         let nets = ["10.1.0.0/16", "192.168.0.0/24", "10.0.0.0/8", "10.0.0.0/9", "9.0.0.0/8", "10.0.0.0/8"].map(|line| line.parse().unwrap());
-        let file = with_others(none(4), nets.into_iter()).unwrap();
+        let file = file_of(4, nets).unwrap();
         assert_eq!(file, [0, 0, 0, 4, 0, 0, 0, 3, 0, 0, 0, 16, 0, 0, 0, 31, 9, 0, 0, 0, 8, 10, 0, 0, 0, 8, 192, 168, 0, 0, 24]);
         assert_eq!((count(4, &file), bytes(4, 3)), (3, 31));
-        assert_eq!(with_others(file.clone(), std::iter::empty()), Ok(file));
+        assert_eq!(right(&file), Ok(file));
+        assert_eq!((file_of(4, []), file_of(4, nets[4..].to_vec())), (Ok(apart(4, vec![])), Ok(apart(4, vec![nets[5], nets[4]]))));
     }
 
     #[test]
     fn the_whole_space_alone() {
         let all = IpNet::new(std::net::Ipv6Addr::UNSPECIFIED, 0).unwrap();
         let last = IpNet::from(std::net::Ipv6Addr::from(u128::MAX));
-        let file = with_others(none(6), [last, all].into_iter()).unwrap();
+        let file = file_of(6, [last, all]).unwrap();
         assert_eq!((count(6, &file), file.len(), file[32]), (1, 33, 0));
-        assert_eq!(with_others(none(4), [all].into_iter()), Err(Refusal::WrongFamily));
+        assert_eq!(file_of(4, [all]), Err(Refusal::WrongFamily));
     }
 }

@@ -17,6 +17,19 @@ extern "C" {
         limits: *const u32,
         limits_len: usize,
     ) -> u64;
+    fn marlbrace_words_indexed(sets: u32, nodes: u32, indexed: u32) -> u64;
+    fn marlbrace_layout_indexed(
+        pool: *mut u32,
+        pool_len: usize,
+        family: u8,
+        sets: u32,
+        nodes: u32,
+        shares: *const u32,
+        shares_len: usize,
+        limits: *const u32,
+        limits_len: usize,
+        indexed: u64,
+    ) -> u64;
     fn marlbrace_free(pool: *const u32, pool_len: usize) -> u64;
     fn marlbrace_held(pool: *const u32, pool_len: usize, set: u32) -> u64;
     fn marlbrace_networks(pool: *const u32, pool_len: usize, set: u32) -> u64;
@@ -30,10 +43,12 @@ extern "C" {
     fn marlbrace_exclude(pool: *mut u32, pool_len: usize, to: u32, first: u32, second: u32) -> u64;
     fn marlbrace_exclude_apart(pool: *mut u32, pool_len: usize, to: u32, first: u32, second: u32) -> u64;
     fn marlbrace_replan(pool: *mut u32, pool_len: usize, set: u32, share: u32, limit: u32) -> u64;
+    fn marlbrace_make_public(pool: *mut u32, pool_len: usize, set: u32) -> u64;
     fn marlbrace_load(pool: *mut u32, pool_len: usize, set: u32, file: *const u8, file_len: usize) -> u64;
     fn marlbrace_add_file(pool: *mut u32, pool_len: usize, set: u32, file: *const u8, file_len: usize) -> u64;
     fn marlbrace_remove_file(pool: *mut u32, pool_len: usize, set: u32, file: *const u8, file_len: usize) -> u64;
     fn marlbrace_add_range(pool: *mut u32, pool_len: usize, set: u32, family: u8, first_hi: u64, first_lo: u64, last_hi: u64, last_lo: u64) -> u64;
+    fn marlbrace_lines(pool: *mut u32, pool_len: usize, text: *const u8, text_len: usize, counts: *mut [u64; 2]) -> u64;
     fn marlbrace_contains(pool: *const u32, pool_len: usize, set: u32, family: u8, hi: u64, lo: u64, len: u8) -> u64;
     fn marlbrace_contains_all(
         pool: *const u32,
@@ -48,9 +63,14 @@ extern "C" {
     fn marlbrace_supernet(pool: *const u32, pool_len: usize, set: u32, family: u8, hi: u64, lo: u64, len: u8, row: *mut [u64; 3]) -> u64;
     fn marlbrace_is_empty(pool: *const u32, pool_len: usize, set: u32) -> u64;
     fn marlbrace_equal(pool: *const u32, pool_len: usize, first: u32, second: u32) -> u64;
+    fn marlbrace_first(pool: *const u32, pool_len: usize, set: u32, row: *mut [u64; 3]) -> u64;
+    fn marlbrace_next(pool: *const u32, pool_len: usize, set: u32, family: u8, hi: u64, lo: u64, len: u8, row: *mut [u64; 3]) -> u64;
+    fn marlbrace_nth(pool: *const u32, pool_len: usize, set: u32, place: u32, row: *mut [u64; 3]) -> u64;
+    fn marlbrace_last(pool: *const u32, pool_len: usize, set: u32, row: *mut [u64; 3]) -> u64;
     fn marlbrace_list(pool: *const u32, pool_len: usize, set: u32, rows: *mut u64, rows_len: usize) -> u64;
     fn marlbrace_ranges(pool: *const u32, pool_len: usize, set: u32, rows: *mut u64, rows_len: usize) -> u64;
     fn marlbrace_save(pool: *const u32, pool_len: usize, set: u32, out: *mut u8, out_len: usize) -> u64;
+    fn marlbrace_compare(first: *const u8, first_len: usize, second: *const u8, second_len: usize, row: *mut [u64; 3]) -> u64;
     fn marlbrace_salvage(file: *const u8, file_len: usize, out: *mut u8, out_len: usize, counts: *mut [u64; 4]) -> u64;
     fn marlbrace_read_line_either(line: *const u8, line_len: usize, row: *mut [u64; 3]) -> u64;
     fn marlbrace_write_line(family: u8, hi: u64, lo: u64, len: u8, out: *mut u8, out_len: usize) -> u64;
@@ -92,6 +112,17 @@ pub(crate) fn layout(pool: &mut [u32], family: u8, nodes: u32, shares: &[u32], l
     granted(unsafe { marlbrace_layout(pool.as_mut_ptr(), pool.len(), family, sets, nodes, shares.as_ptr(), shares.len(), limits.as_ptr(), limits.len()) })
 }
 
+pub(crate) fn words_indexed(sets: u32, nodes: u32, indexed: u32) -> Result<usize, Refusal> {
+    granted(unsafe { marlbrace_words_indexed(sets, nodes, indexed) }).map(|a| a.value() as usize)
+}
+
+/// As `layout`, with set s indexed where bit s is set.
+pub(crate) fn layout_indexed(pool: &mut [u32], family: u8, nodes: u32, shares: &[u32], limits: &[u32], indexed: u64) -> Answer {
+    let sets = u32::try_from(shares.len()).unwrap_or(u32::MAX);
+    let (s, l) = (shares.as_ptr(), limits.as_ptr());
+    granted(unsafe { marlbrace_layout_indexed(pool.as_mut_ptr(), pool.len(), family, sets, nodes, s, shares.len(), l, limits.len(), indexed) })
+}
+
 macro_rules! reads {
     ($($name:ident = $call:ident($($arg:ident: $type:ty),*);)*) => { $(
         pub(crate) fn $name(pool: &[u32] $(, $arg: $type)*) -> Answer {
@@ -125,6 +156,34 @@ changes! {
     exclude = marlbrace_exclude(to: u32, first: u32, second: u32);
     exclude_apart = marlbrace_exclude_apart(to: u32, first: u32, second: u32);
     replan = marlbrace_replan(set: u32, share: u32, limit: u32);
+    make_public = marlbrace_make_public(set: u32);
+}
+
+/// A network of a set, where there is one.
+fn found(pool: &[u32], call: impl FnOnce(&mut [u64; 3]) -> u64) -> Result<Option<IpNet>, Refusal> {
+    let mut row = [0; 3];
+    let a = granted(call(&mut row))?;
+    Ok(a.yes().then(|| row_of(family(pool), &row).net()))
+}
+
+pub(crate) fn supernet(pool: &[u32], set: u32, n: &Row) -> Result<Option<IpNet>, Refusal> {
+    found(pool, |row| unsafe { marlbrace_supernet(pool.as_ptr(), pool.len(), set, n.family, n.hi, n.lo, n.len, row) })
+}
+
+pub(crate) fn first(pool: &[u32], set: u32) -> Result<Option<IpNet>, Refusal> {
+    found(pool, |row| unsafe { marlbrace_first(pool.as_ptr(), pool.len(), set, row) })
+}
+
+pub(crate) fn next(pool: &[u32], set: u32, n: &Row) -> Result<Option<IpNet>, Refusal> {
+    found(pool, |row| unsafe { marlbrace_next(pool.as_ptr(), pool.len(), set, n.family, n.hi, n.lo, n.len, row) })
+}
+
+pub(crate) fn nth(pool: &[u32], set: u32, place: u32) -> Result<Option<IpNet>, Refusal> {
+    found(pool, |row| unsafe { marlbrace_nth(pool.as_ptr(), pool.len(), set, place, row) })
+}
+
+pub(crate) fn last(pool: &[u32], set: u32) -> Result<Option<IpNet>, Refusal> {
+    found(pool, |row| unsafe { marlbrace_last(pool.as_ptr(), pool.len(), set, row) })
 }
 
 pub(crate) fn add(pool: &mut [u32], set: u32, n: &Row) -> Answer {
@@ -151,6 +210,13 @@ pub(crate) fn add_range(pool: &mut [u32], set: u32, first: &Row, last: &Row) -> 
     granted(unsafe { marlbrace_add_range(pool.as_mut_ptr(), pool.len(), set, first.family, first.hi, first.lo, last.hi, last.lo) })
 }
 
+/// Lines into set 0: how many were trimmed, or the line that was refused.
+pub(crate) fn lines(pool: &mut [u32], text: &[u8]) -> Result<u64, (u64, Refusal)> {
+    let mut counts = [0; 2];
+    let a = unsafe { marlbrace_lines(pool.as_mut_ptr(), pool.len(), text.as_ptr(), text.len(), &mut counts) };
+    granted(a).map(|_| counts[1]).map_err(|no| (counts[0], no))
+}
+
 pub(crate) fn contains(pool: &[u32], set: u32, n: &Row) -> Answer {
     granted(unsafe { marlbrace_contains(pool.as_ptr(), pool.len(), set, n.family, n.hi, n.lo, n.len) })
 }
@@ -161,12 +227,6 @@ pub(crate) fn contains_all(pool: &[u32], set: u32, family: u8, rows: &[Row]) -> 
     let mut answers = vec![0u64; rows.len()];
     granted(unsafe { marlbrace_contains_all(pool.as_ptr(), pool.len(), set, family, queries.as_ptr(), queries.len(), answers.as_mut_ptr(), answers.len()) })?;
     answers.into_iter().map(granted).collect()
-}
-
-pub(crate) fn supernet(pool: &[u32], set: u32, n: &Row) -> Result<Option<Row>, Refusal> {
-    let mut row = [0; 3];
-    let a = granted(unsafe { marlbrace_supernet(pool.as_ptr(), pool.len(), set, n.family, n.hi, n.lo, n.len, &mut row) })?;
-    Ok(a.yes().then(|| row_of(n.family, &row)))
 }
 
 fn row_of(family: u8, row: &[u64]) -> Row {
@@ -200,12 +260,19 @@ pub(crate) fn save(pool: &[u32], set: u32) -> Result<Vec<u8>, Refusal> {
     Ok(out)
 }
 
-/// The right file of what is left of a file's entries. It never has more bytes than the file.
-pub(crate) fn salvage(file: &[u8]) -> Result<Vec<u8>, Refusal> {
-    let mut out = vec![0u8; file.len()];
-    let a = granted(unsafe { marlbrace_salvage(file.as_ptr(), file.len(), out.as_mut_ptr(), out.len(), &mut [0; 4]) })?;
+/// The right file of what is left of a file's entries, and the counts. It never has more bytes than the file.
+pub(crate) fn salvage(file: &[u8]) -> Result<(Vec<u8>, [u64; 4]), Refusal> {
+    let (mut out, mut counts) = (vec![0u8; file.len()], [0; 4]);
+    let a = granted(unsafe { marlbrace_salvage(file.as_ptr(), file.len(), out.as_mut_ptr(), out.len(), &mut counts) })?;
     out.truncate(a.value() as usize);
-    Ok(out)
+    Ok((out, counts))
+}
+
+/// Whether two files cover the same addresses: the value of the call, and where they differ the smallest address on which they do, of the files' family.
+pub(crate) fn compare(first: &[u8], second: &[u8]) -> Result<(u32, Row), Refusal> {
+    let mut row = [0; 3];
+    let a = granted(unsafe { marlbrace_compare(first.as_ptr(), first.len(), second.as_ptr(), second.len(), &mut row) })?;
+    Ok((a.value(), row_of(first[3], &row)))
 }
 
 /// The network of a line, and whether a bit was cut.

@@ -19,17 +19,20 @@
 //!
 //! A refused call says why ([`Refusal`]) and changes nothing. For one set that grows as it needs to, with the names of the crate iprange, there is
 //! [`IpRange`].
-#![deny(unsafe_code)]
+#![deny(unsafe_code, missing_docs)]
 
 #[allow(unsafe_code)]
 mod ffi;
 
 mod entries;
+mod files;
 mod net;
 mod pool;
 mod range;
 mod refusal;
+mod room;
 
+pub use files::{compare, salvage, Compared, Salvaged};
 pub use net::{IpNet, LINE};
 pub use pool::{Plan, Pool, Set, SetMut};
 pub use range::IpRange;

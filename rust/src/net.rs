@@ -39,9 +39,32 @@ impl IpNet {
         self.addr
     }
 
+    /// The first address, by ipnet's name.
+    pub fn network(self) -> IpAddr {
+        self.addr
+    }
+
+    /// The last address.
+    ///
+    /// ```
+    /// # use marlbrace::IpNet;
+    /// let net: IpNet = "10.9.8.7/8".parse().unwrap();
+    /// assert_eq!((net.network().to_string(), net.broadcast().to_string()), ("10.0.0.0".to_string(), "10.255.255.255".to_string()));
+    /// ```
+    pub fn broadcast(self) -> IpAddr {
+        let Row { family, len, .. } = self.row();
+        let past = 1u128.checked_shl((width(family) - len) as u32).unwrap_or(0).wrapping_sub(1);
+        Row::at(family, self.row().address() | past, len).net().addr
+    }
+
     /// How many leading bits count.
     pub fn prefix_len(self) -> u8 {
         self.prefix_len
+    }
+
+    /// How many bits an address of its family has.
+    pub fn max_prefix_len(self) -> u8 {
+        width(self.family())
     }
 
     /// 4 or 6.
@@ -189,11 +212,13 @@ mod tests {
     fn bits_past_the_length_are_cleared() {
         for len in 0..=128 {
             let kept = if len == 0 { 0 } else { u128::MAX << (128 - len) };
-            assert_eq!(IpNet::new(Ipv6Addr::from(u128::MAX), len).unwrap().addr(), IpAddr::V6(Ipv6Addr::from(kept)));
+            let net = IpNet::new(Ipv6Addr::from(u128::MAX), len).unwrap();
+            assert_eq!((net.addr(), net.broadcast()), (Ipv6Addr::from(kept).into(), Ipv6Addr::from(u128::MAX).into()));
         }
         for len in 0..=32 {
             let kept = if len == 0 { 0 } else { u32::MAX << (32 - len) };
-            assert_eq!(IpNet::new(Ipv4Addr::BROADCAST, len).unwrap().addr(), IpAddr::V4(Ipv4Addr::from(kept)));
+            let net = IpNet::new(Ipv4Addr::BROADCAST, len).unwrap();
+            assert_eq!((net.addr(), net.broadcast()), (Ipv4Addr::from(kept).into(), Ipv4Addr::BROADCAST.into()));
         }
         assert_eq!((IpNet::new(Ipv4Addr::BROADCAST, 33), IpNet::new(Ipv6Addr::LOCALHOST, 129)), (Err(Refusal::BadNetwork), Err(Refusal::BadNetwork)));
     }

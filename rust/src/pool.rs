@@ -1,10 +1,12 @@
-use crate::{ffi, IpNet, Refusal};
+use crate::{entries, ffi, IpNet, Refusal};
 use std::net::IpAddr;
 
 /// The share and the limit of a set, in nodes: what it is sure of, and what it may not pass.
 #[derive(Clone, Copy, Debug, PartialEq, Eq)]
 pub struct Plan {
+    /// The nodes that are kept for it.
     pub share: u32,
+    /// The most nodes that it may hold.
     pub limit: u32,
 }
 
@@ -16,30 +18,85 @@ impl Plan {
 }
 
 /// A pool of sets over words that it owns (`Vec<u32>`) or borrows (`&mut [u32]`).
+///
+/// ```
+/// # use marlbrace::{Plan, Pool, Refusal};
+/// # fn main() -> Result<(), Refusal> {
+/// let mut words = [0; 64 + 8 * 2 + 8 * 100];
+/// let mut pool = Pool::layout(&mut words[..], 6, 100, &[Plan::new(40, 60), Plan::new(30, 80)])?;
+/// assert_eq!(pool.set_mut(1).add("2001:db8::/48".parse()?)?, 49); // its nodes, of which 30 were kept for it
+/// assert_eq!(pool.set_mut(0).add("2001:db8::/59".parse()?), Err(Refusal::NoRoom)); // 60, but there are 51
+/// assert_eq!((pool.free()?, pool.set(1).plan()?.limit), (51, 80));
+/// # Ok(())
+/// # }
+/// ```
 #[derive(Clone, Debug)]
 pub struct Pool<W = Vec<u32>> {
     words: W,
 }
 
+/// How many sets these are the plans of, as a layout takes it.
+fn sets_of(plans: &[Plan]) -> Result<u32, Refusal> {
+    u32::try_from(plans.len()).map_err(|_| Refusal::BadSetup)
+}
+
+fn shares_and_limits(plans: &[Plan]) -> (Vec<u32>, Vec<u32>) {
+    plans.iter().map(|plan| (plan.share, plan.limit)).unzip()
+}
+
+/// Bit s for set s. Whether there are these sets the layout says.
+fn marks_of(sets: &[u32]) -> Result<u64, Refusal> {
+    sets.iter().try_fold(0, |marks, &set| Ok(marks | 1u64.checked_shl(set).ok_or(Refusal::BadSetup)?))
+}
+
 impl Pool<Vec<u32>> {
     /// A pool of empty sets in words of its own.
     pub fn new(family: u8, nodes: u32, plans: &[Plan]) -> Result<Pool, Refusal> {
-        let sets = u32::try_from(plans.len()).map_err(|_| Refusal::BadSetup)?;
-        Pool::layout(vec![0; ffi::words(sets, nodes)?], family, nodes, plans)
+        Pool::layout(vec![0; ffi::words(sets_of(plans)?, nodes)?], family, nodes, plans)
+    }
+
+    /// The same, with the sets of these numbers indexed for good. An indexed set takes 256 words more, one for each way that the first eight bits of a network
+    /// can be: its lookups of networks of eight bits or more begin there and not at the root. They answer what they answer without an index.
+    ///
+    /// ```
+    /// # use marlbrace::{Plan, Pool, Refusal};
+    /// # fn main() -> Result<(), Refusal> {
+    /// let mut pool = Pool::new_indexed(4, 100, &[Plan::new(60, 100), Plan::new(20, 40)], &[0])?; // the first of two
+    /// pool.set_mut(0).add("10.0.0.0/12".parse()?)?;
+    /// assert!(pool.set(0).contains("10.1.2.3/32".parse()?)?);
+    /// assert!(!pool.set(0).contains("11.0.0.0/8".parse()?)?);
+    /// assert_eq!(pool.into_words().len(), Pool::words_needed(2, 100)? + 256);
+    /// # Ok(())
+    /// # }
+    /// ```
+    pub fn new_indexed(family: u8, nodes: u32, plans: &[Plan], indexed: &[u32]) -> Result<Pool, Refusal> {
+        let words = Pool::words_needed_indexed(sets_of(plans)?, nodes, marks_of(indexed)?.count_ones())?;
+        Pool::layout_indexed(vec![0; words], family, nodes, plans, indexed)
     }
 
     /// How many words a pool of so many sets and nodes needs.
     pub fn words_needed(sets: u32, nodes: u32) -> Result<usize, Refusal> {
         ffi::words(sets, nodes)
     }
+
+    /// The same where so many of the sets are indexed.
+    pub fn words_needed_indexed(sets: u32, nodes: u32, indexed: u32) -> Result<usize, Refusal> {
+        ffi::words_indexed(sets, nodes, indexed)
+    }
 }
 
 impl<W: AsMut<[u32]> + AsRef<[u32]>> Pool<W> {
     /// Lays out a pool of empty sets in these words; those that it does not need stay as they are.
     pub fn layout(mut words: W, family: u8, nodes: u32, plans: &[Plan]) -> Result<Pool<W>, Refusal> {
-        let shares: Vec<u32> = plans.iter().map(|p| p.share).collect();
-        let limits: Vec<u32> = plans.iter().map(|p| p.limit).collect();
+        let (shares, limits) = shares_and_limits(plans);
         ffi::layout(words.as_mut(), family, nodes, &shares, &limits)?;
+        Ok(Pool { words })
+    }
+
+    /// The same, with the sets of these numbers indexed, as [`Pool::new_indexed`] says.
+    pub fn layout_indexed(mut words: W, family: u8, nodes: u32, plans: &[Plan], indexed: &[u32]) -> Result<Pool<W>, Refusal> {
+        let (shares, limits) = shares_and_limits(plans);
+        ffi::layout_indexed(words.as_mut(), family, nodes, &shares, &limits, marks_of(indexed)?)?;
         Ok(Pool { words })
     }
 
@@ -98,6 +155,20 @@ impl<W: AsMut<[u32]> + AsRef<[u32]>> Pool<W> {
     pub fn exclude_apart(&mut self, to: u32, first: u32, second: u32) -> Result<u32, Refusal> {
         ffi::exclude_apart(self.words.as_mut(), to, first, second).map(|a| a.value())
     }
+
+    /// Adds the networks of lines of text to set 0, up to the first line that is refused: answers how many lines had a bit cut, or the number of that line and
+    /// why. The lines before it stay added.
+    ///
+    /// ```
+    /// # use marlbrace::{Plan, Pool, Refusal};
+    /// let mut pool = Pool::new(4, 100, &[Plan::new(100, 100)]).unwrap();
+    /// assert_eq!(pool.lines(b"10.9.8.7/8\n192.168.0.0/24\n"), Ok(1));
+    /// assert_eq!(pool.lines(b"192.168.1.0/24\n192.168.2.0\n"), Err((2, Refusal::BadText)));
+    /// assert_eq!(pool.set(0).len(), Ok(3));
+    /// ```
+    pub fn lines(&mut self, text: &[u8]) -> Result<u64, (u64, Refusal)> {
+        ffi::lines(self.words.as_mut(), text)
+    }
 }
 
 /// A set of a pool, to be read. A lookup reads its own path alone; the other calls check the whole pool first.
@@ -113,8 +184,8 @@ impl<'a> Set<'a> {
         ffi::contains(self.words, self.number, &net.row()).map(|a| a.yes())
     }
 
-    /// The same of many networks in one call, which is faster than asking for each: several walks are in flight at once. All are of the pool's family, else it is
-    /// refused WrongFamily.
+    /// The same of many networks in one call, which is faster than asking for each: several walks are in flight at once. Refused WrongFamily where one of them
+    /// is not of the pool's family.
     ///
     /// ```
     /// # fn main() -> Result<(), Box<dyn std::error::Error>> {
@@ -126,19 +197,19 @@ impl<'a> Set<'a> {
     /// # }
     /// ```
     pub fn contains_all(&self, nets: &[IpNet]) -> Result<Vec<bool>, Refusal> {
-        let family = ffi::family(self.words);
-        if nets.iter().any(|net| net.family() != family) {
-            return Err(Refusal::WrongFamily);
-        }
+        // where there is another family than the pool's the call is to refuse it
+        let ours = ffi::family(self.words);
+        let family = nets.iter().map(|net| net.family()).find(|&other| other != ours).unwrap_or(ours);
         let rows: Vec<_> = nets.iter().map(|net| net.row()).collect();
         Ok(ffi::contains_all(self.words, self.number, family, &rows)?.iter().map(|a| a.yes()).collect())
     }
 
     /// The member that contains the whole network.
     pub fn supernet(&self, net: IpNet) -> Result<Option<IpNet>, Refusal> {
-        Ok(ffi::supernet(self.words, self.number, &net.row())?.map(|row| row.net()))
+        ffi::supernet(self.words, self.number, &net.row())
     }
 
+    /// Whether it has no network.
     pub fn is_empty(&self) -> Result<bool, Refusal> {
         ffi::is_empty(self.words, self.number).map(|a| a.yes())
     }
@@ -161,6 +232,40 @@ impl<'a> Set<'a> {
     /// Its networks, the shorter lengths first, then by address. They are listed in one pass, so the iterator is cheap.
     pub fn iter(&self) -> Result<std::vec::IntoIter<IpNet>, Refusal> {
         Ok(ffi::list(self.words, self.number)?.into_iter())
+    }
+
+    /// The first network of its list, without listing the others.
+    pub fn first(&self) -> Result<Option<IpNet>, Refusal> {
+        ffi::first(self.words, self.number)
+    }
+
+    /// The first network of its list behind another, which need not be in it. Each call checks the whole pool, so this is for going on after a change;
+    /// [`Set::iter`] has all of them.
+    ///
+    /// ```
+    /// # fn main() -> Result<(), marlbrace::Refusal> {
+    /// let mut pool = marlbrace::Pool::new(4, 100, &[marlbrace::Plan::new(100, 100)])?;
+    /// let lines = ["9.0.0.0/8", "10.0.0.0/8", "11.0.0.0/16"];
+    /// lines.iter().try_for_each(|line| pool.set_mut(0).add(line.parse()?).map(|_| ()))?;
+    /// let set = pool.set(0);
+    /// assert_eq!((set.first()?, set.last()?), (Some(lines[0].parse()?), Some(lines[2].parse()?)));
+    /// assert_eq!((set.after("9.0.0.0/8".parse()?)?, set.nth(1)?), (Some(lines[1].parse()?), Some(lines[1].parse()?)));
+    /// assert_eq!((set.after(lines[2].parse()?)?, set.nth(3)?), (None, None));
+    /// # Ok(())
+    /// # }
+    /// ```
+    pub fn after(&self, net: IpNet) -> Result<Option<IpNet>, Refusal> {
+        ffi::next(self.words, self.number, &net.row())
+    }
+
+    /// The network at a place of its list, counted from 0.
+    pub fn nth(&self, place: u32) -> Result<Option<IpNet>, Refusal> {
+        ffi::nth(self.words, self.number, place)
+    }
+
+    /// The last network of its list.
+    pub fn last(&self) -> Result<Option<IpNet>, Refusal> {
+        ffi::last(self.words, self.number)
     }
 
     /// The fewest ranges of its addresses, each as first and last address: ascending, and no two of them meet or touch.
@@ -240,6 +345,37 @@ impl SetMut<'_> {
         ffi::remove_file(self.words, self.number, file).map(|a| a.value())
     }
 
+    /// Adds networks in any order, as adding them one by one would, but as one change.
+    ///
+    /// ```
+    /// # use marlbrace::{IpNet, Plan, Pool};
+    /// # fn main() -> Result<(), marlbrace::Refusal> {
+    /// let nets = ["192.168.0.0/16", "10.1.0.0/16", "10.0.0.0/8"].iter().map(|n| n.parse()).collect::<Result<Vec<IpNet>, _>>()?;
+    /// let mut pool = Pool::new(4, 100, &[Plan::new(100, 100)])?;
+    /// pool.set_mut(0).try_extend(nets.iter().copied())?;
+    /// assert_eq!(pool.set(0).len()?, 2);
+    /// pool.set_mut(0).remove_all(nets)?;
+    /// assert!(pool.set(0).is_empty()?);
+    /// # Ok(())
+    /// # }
+    /// ```
+    pub fn try_extend(&mut self, nets: impl IntoIterator<Item = IpNet>) -> Result<u32, Refusal> {
+        let file = self.file_of(nets)?;
+        self.add_file(&file)
+    }
+
+    /// Removes networks in any order, as removing them one by one would, but as one change.
+    pub fn remove_all(&mut self, nets: impl IntoIterator<Item = IpNet>) -> Result<u32, Refusal> {
+        let file = self.file_of(nets)?;
+        self.remove_file(&file)
+    }
+
+    /// The set file of networks in any order, of the pool's family; whether there is such a set is asked first.
+    fn file_of(&self, nets: impl IntoIterator<Item = IpNet>) -> Result<Vec<u8>, Refusal> {
+        self.as_set().nodes()?;
+        entries::file_of(ffi::family(self.words), nets)
+    }
+
     /// Adds the addresses from the first to the last: the fewest networks that have exactly these, as one change. Refused BadRange where the first is above the
     /// last.
     pub fn add_range(&mut self, first: IpAddr, last: IpAddr) -> Result<u32, Refusal> {
@@ -248,6 +384,23 @@ impl SetMut<'_> {
             return Err(Refusal::WrongFamily);
         }
         ffi::add_range(self.words, self.number, &first, &last).map(|a| a.value())
+    }
+
+    /// Makes the set, which must be empty, public-only for good: what would overlap an inner network (private, shared, loopback and the like) is then refused
+    /// NotPublic.
+    ///
+    /// ```
+    /// # use marlbrace::{Plan, Pool, Refusal};
+    /// # fn main() -> Result<(), Refusal> {
+    /// let mut pool = Pool::new(4, 100, &[Plan::new(100, 100)])?;
+    /// pool.set_mut(0).make_public()?;
+    /// assert_eq!(pool.set_mut(0).add("10.0.0.0/8".parse()?), Err(Refusal::NotPublic));
+    /// assert_eq!(pool.set_mut(0).add("8.8.8.0/24".parse()?), Ok(25));
+    /// # Ok(())
+    /// # }
+    /// ```
+    pub fn make_public(&mut self) -> Result<(), Refusal> {
+        ffi::make_public(self.words, self.number).map(|_| ())
     }
 
     /// Another share and limit, in place.

@@ -1,12 +1,7 @@
+use crate::room::{one_set, usual_nodes, with_room, FEW};
 use crate::{entries, IpNet, Plan, Pool, Refusal};
 use std::fmt;
 use std::net::IpAddr;
-
-/// The most nodes that a pool has; few for the tests of this file, so that sets soon have to be combined in parts.
-const MOST: u32 = if cfg!(test) { 4096 } else { 4_194_304 };
-
-/// The nodes of a new set.
-const FEW: u32 = 64;
 
 /// One set of networks of one family, in a pool of its own that grows as it needs to, with the names of the crate iprange.
 ///
@@ -65,11 +60,13 @@ impl IpRange {
     /// # }
     /// ```
     pub fn add_range(&mut self, first: IpAddr, last: IpAddr) -> Result<(), Refusal> {
-        let family = IpNet::from(first).family();
-        if family == self.family() || !self.is_empty() {
-            return self.change(0, |pool| pool.set_mut(0).add_range(first, last));
+        let one = IpNet::from(first);
+        // two ways down to its ends, and a block beside each of their nodes
+        let nodes = 4 * one.max_prefix_len() as u32;
+        if one.family() == self.family() || !self.is_empty() {
+            return self.change(nodes as u64, |pool| pool.set_mut(0).add_range(first, last));
         }
-        let mut other = IpRange { pool: one_set(family, FEW)? };
+        let mut other = IpRange { pool: one_set(one.family(), nodes)? };
         other.add_range(first, last)?;
         *self = other;
         Ok(())
@@ -104,6 +101,23 @@ impl IpRange {
         net.family() == self.family() && self.pool.set(0).contains(net).expect(SOUND)
     }
 
+    /// The same of many networks, which is faster than asking for each. One of another family is in no member.
+    ///
+    /// ```
+    /// # use marlbrace::{IpNet, IpRange};
+    /// # fn main() -> Result<(), marlbrace::Refusal> {
+    /// let set: IpRange = ["10.0.0.0/8".parse::<IpNet>()?].into_iter().collect();
+    /// assert_eq!(set.contains_all(&["10.1.2.3/32".parse()?, "::1/128".parse()?, "11.0.0.0/8".parse()?]), [true, false, false]);
+    /// # Ok(())
+    /// # }
+    /// ```
+    pub fn contains_all(&self, nets: &[IpNet]) -> Vec<bool> {
+        let ours = |net: &IpNet| net.family() == self.family();
+        let asked: Vec<IpNet> = nets.iter().copied().filter(ours).collect();
+        let mut answers = self.pool.set(0).contains_all(&asked).expect(SOUND).into_iter();
+        nets.iter().map(|net| ours(net) && answers.next() == Some(true)).collect()
+    }
+
     /// The member that contains the whole network.
     pub fn supernet(&self, net: IpNet) -> Option<IpNet> {
         if net.family() != self.family() {
@@ -114,10 +128,10 @@ impl IpRange {
 
     /// What either set has, simplified.
     pub fn merge(&self, other: &IpRange) -> Result<IpRange, Refusal> {
-        let mut both = self.clone();
-        both.try_extend(other)?;
-        both.simplify();
-        Ok(both)
+        if self.is_empty() || other.is_empty() {
+            return Ok(if self.is_empty() { other } else { self }.clone().simplified());
+        }
+        self.combine_parts(other, IpNet::all(self.family()), |pool| pool.merge(0, 1, 2))
     }
 
     /// What both sets have, simplified.
@@ -145,6 +159,7 @@ impl IpRange {
         self.pool.set(0).ranges().expect(SOUND)
     }
 
+    /// Whether it has no network.
     pub fn is_empty(&self) -> bool {
         self.pool.set(0).is_empty().expect(SOUND)
     }
@@ -183,8 +198,7 @@ impl IpRange {
     pub fn try_from_iter(nets: impl IntoIterator<Item = IpNet>) -> Result<IpRange, Refusal> {
         let mut set = IpRange::new();
         set.try_extend(nets)?;
-        set.simplify();
-        Ok(set)
+        Ok(set.simplified())
     }
 
     /// Adds networks in any order, all or none: the list that adding them one by one gives, built at once.
@@ -192,12 +206,47 @@ impl IpRange {
         let mut nets = nets.into_iter().peekable();
         let Some(first) = nets.peek() else { return Ok(()) };
         let family = if self.is_empty() { first.family() } else { self.family() };
-        let file = entries::with_others(entries::none(family), nets)?;
+        self.add_file(&entries::file_of(family, nets)?)
+    }
+
+    /// Removes networks in any order, all or none: the list that removing them one by one gives, made at once.
+    ///
+    /// ```
+    /// # use marlbrace::{IpNet, IpRange};
+    /// # fn main() -> Result<(), marlbrace::Refusal> {
+    /// let mut open: IpRange = ["10.0.0.0/8".parse::<IpNet>()?].into_iter().collect();
+    /// open.remove_all(["10.128.0.0/9".parse()?, "10.0.0.0/10".parse()?])?;
+    /// assert_eq!(open.iter().collect::<Vec<_>>(), ["10.64.0.0/10".parse()?]);
+    /// # Ok(())
+    /// # }
+    /// ```
+    pub fn remove_all(&mut self, nets: impl IntoIterator<Item = IpNet>) -> Result<(), Refusal> {
         if self.is_empty() {
-            *self = IpRange::from_bytes(&file)?;
             return Ok(());
         }
-        self.change(usual_nodes(family, entries::count(family, &file)), |pool| pool.set_mut(0).add_file(&file))
+        self.remove_file(&entries::file_of(self.family(), nets)?)
+    }
+
+    /// Adds the networks of a set file, all or none.
+    pub fn add_file(&mut self, file: &[u8]) -> Result<(), Refusal> {
+        if self.is_empty() {
+            *self = IpRange::from_bytes(file)?;
+            return Ok(());
+        }
+        self.change(usual_nodes(self.family(), entries::count(self.family(), file)), |pool| pool.set_mut(0).add_file(file))
+    }
+
+    /// Removes the networks of a set file, all or none.
+    pub fn remove_file(&mut self, file: &[u8]) -> Result<(), Refusal> {
+        if self.is_empty() {
+            return IpRange::from_bytes(file).map(|_| ());
+        }
+        self.change(usual_nodes(self.family(), entries::count(self.family(), file)), |pool| pool.set_mut(0).remove_file(file))
+    }
+
+    fn simplified(mut self) -> IpRange {
+        self.simplify();
+        self
     }
 
     /// Does a change, in a larger pool where it is refused for its nodes: with twice as many, or as many more as are asked for.
@@ -217,8 +266,8 @@ impl IpRange {
         }
     }
 
-    /// Combines what the sets have in a block. Where that and the result are too much for one pool it is done for the halves of the block, and simplifying joins
-    /// what they give.
+    /// Combines what the sets have in a block. Where that and the result are too much for one pool it is done for the halves of the block, and simplifying
+    /// joins what they give.
     fn combine_parts(&self, other: &IpRange, block: IpNet, call: Call) -> Result<IpRange, Refusal> {
         match (self.combine(other, call), block.halves()) {
             (Err(Refusal::OverLimit | Refusal::NoRoom), Some(halves)) => {
@@ -226,7 +275,7 @@ impl IpRange {
                 for half in halves {
                     nets.extend(&self.inside(half)?.combine_parts(&other.inside(half)?, half, call)?);
                 }
-                IpRange::try_from_iter(nets)
+                Ok(IpRange::from_bytes(&entries::apart(block.family(), nets))?.simplified())
             }
             (done, _) => done,
         }
@@ -235,15 +284,13 @@ impl IpRange {
     /// What it has in a block.
     fn inside(&self, block: IpNet) -> Result<IpRange, Refusal> {
         let part = |net: IpNet| if net.contains(block) { Some(block) } else { block.contains(net).then_some(net) };
-        let mut set = IpRange::new();
-        set.try_extend(self.iter().filter_map(part))?;
-        Ok(set)
+        IpRange::from_bytes(&entries::apart(block.family(), self.iter().filter_map(part).collect()))
     }
 
     /// Combines this set, number 1 of a pool, and the other, number 2, into number 0.
     fn combine(&self, other: &IpRange, call: Call) -> Result<IpRange, Refusal> {
         let family = if self.is_empty() { other.family() } else { self.family() };
-        let files = [self, other].map(|set| if set.is_empty() { entries::none(family) } else { set.to_vec() });
+        let files = [self, other].map(|set| if set.is_empty() { entries::apart(family, vec![]) } else { set.to_vec() });
         let nodes = 2 * self.nodes() as u64 + 3 * other.nodes() as u64;
         let result = with_room(nodes, |nodes| {
             let mut pool = Pool::new(family, nodes, &[Plan::new(0, nodes); 3])?;
@@ -261,27 +308,6 @@ type Call = fn(&mut Pool) -> Result<u32, Refusal>;
 
 /// Why a call cannot be refused: no one else has the words of the pool.
 const SOUND: &str = "the pool is sound and has this set";
-
-/// A pool of one empty set that may have all nodes.
-fn one_set(family: u8, nodes: u32) -> Result<Pool, Refusal> {
-    Pool::new(family, nodes, &[Plan::new(0, nodes)])
-}
-
-/// The nodes that so many networks of a routing table take (docs/BENCHMARK.md).
-fn usual_nodes(family: u8, networks: usize) -> u64 {
-    networks as u64 * if family == 4 { 3 } else { 8 }
-}
-
-/// Works in pools of more and more nodes until the work is not refused for them, or a pool has no more.
-fn with_room<T>(nodes: u64, work: impl Fn(u32) -> Result<T, Refusal>) -> Result<T, Refusal> {
-    let mut nodes = nodes.clamp(FEW as u64, MOST as u64) as u32;
-    loop {
-        match work(nodes) {
-            Err(Refusal::OverLimit | Refusal::NoRoom) if nodes < MOST => nodes = (2 * nodes).min(MOST),
-            done => return done,
-        }
-    }
-}
 
 impl Default for IpRange {
     fn default() -> IpRange {
@@ -329,6 +355,7 @@ impl fmt::Debug for IpRange {
 #[cfg(test)]
 mod tests {
     use super::*;
+    use crate::room::MOST;
     use std::collections::BTreeSet;
     use std::net::Ipv4Addr;
 
@@ -345,6 +372,9 @@ mod tests {
         let (x, y) = (some(3), some(17));
         let (a, b) = (set(&x), set(&y));
         assert!(a.nodes() + b.nodes() > MOST && a.exclude_apart(&b).is_err());
+        let both = a.merge(&b).unwrap();
+        assert_eq!((0..4096).map(|k| 0xc0a8_0000 + k).filter(|&k| both.contains(Ipv4Addr::from(k).into())).collect::<BTreeSet<u32>>(), &x | &y);
+        assert_eq!((both.clone().simplified(), both.exclude(&a).unwrap().exclude(&b)), (both, Ok(IpRange::new())));
         assert_eq!(a.intersect(&b), Ok(set(&(&x & &y)).iter().collect()));
         assert_eq!(a.exclude(&b), Ok(set(&(&x - &y)).iter().collect()));
         let mut all = IpRange::new();

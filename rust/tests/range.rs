@@ -50,6 +50,25 @@ fn extending_is_adding_one_by_one_and_collecting_simplifies() -> Done {
     Ok(())
 }
 
+#[test]
+fn removing_all_is_removing_one_by_one() -> Done {
+    let mut random = Random(4);
+    for (family, count) in [(4, 1), (6, 1), (4, 40), (6, 40), (4, 400), (6, 400)] {
+        let mut one_by_one = IpRange::try_from_iter((0..count).map(|_| random.net(family)).filter(|net| net.prefix_len() > 2))?;
+        let mut at_once = one_by_one.clone();
+        let nets: Vec<IpNet> = (0..count).map(|_| random.net(family)).filter(|net| net.prefix_len() > 4).collect();
+        nets.iter().try_for_each(|&net| one_by_one.remove(net))?;
+        at_once.remove_all(nets.iter().copied())?;
+        assert_eq!(at_once, one_by_one);
+        assert_eq!(at_once.contains_all(&nets), vec![false; nets.len()]);
+    }
+    let mut empty = IpRange::new();
+    empty.remove_all([Ipv6Addr::LOCALHOST.into()])?;
+    let mut one = IpRange::try_from_iter([net("10.0.0.0/8")])?;
+    assert_eq!((empty.is_empty(), one.remove_all([Ipv6Addr::LOCALHOST.into()]), one.len()), (true, Err(Refusal::WrongFamily), 1));
+    Ok(())
+}
+
 /// By addresses, over the 256 of one block.
 #[test]
 fn combinations_are_those_of_the_addresses() -> Done {
@@ -114,7 +133,16 @@ fn an_empty_set_takes_either_family() -> Done {
     assert_eq!(set, IpRange::new());
     set.add(net("10.0.0.0/8"))?;
     assert_eq!(set.intersect(&IpRange::new())?, IpRange::new());
-    assert_eq!(IpRange::new().merge(&set)?, set);
+    assert_eq!((IpRange::new().merge(&set)?, set.merge(&IpRange::new())?), (set.clone(), set.clone()));
+    let six = IpRange::try_from_iter([Ipv6Addr::LOCALHOST.into()])?;
+    assert_eq!((IpRange::new().merge(&six)?, six.merge(&IpRange::new())?, six.merge(&set)), (six.clone(), six.clone(), Err(Refusal::WrongFamily)));
+    let mut filled = IpRange::new();
+    filled.remove_file(&six.to_vec())?;
+    filled.add_file(&six.to_vec())?;
+    assert_eq!((filled.add_file(&set.to_vec()), filled.add_file(&[])), (Err(Refusal::WrongFamily), Err(Refusal::BadFile)));
+    assert_eq!(filled, six);
+    filled.remove_file(&six.to_vec())?;
+    assert_eq!((filled.is_empty(), filled.remove_file(&[])), (true, Err(Refusal::BadFile)));
     assert_eq!(IpRange::try_from_iter([net("10.0.0.0/8"), Ipv6Addr::LOCALHOST.into()]).err(), Some(Refusal::WrongFamily));
     Ok(())
 }

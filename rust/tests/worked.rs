@@ -1,5 +1,5 @@
 //! The worked networks of the scope document, and every refusal that the crate can be given. Expected values are the document's.
-use marlbrace::{IpNet, IpRange, Plan, Pool, Refusal, LINE};
+use marlbrace::{compare, salvage, Compared, IpNet, IpRange, Plan, Pool, Refusal, LINE};
 use std::net::{IpAddr, Ipv4Addr, Ipv6Addr};
 
 type Done = Result<(), Refusal>;
@@ -117,6 +117,45 @@ fn shares_and_limits() -> Done {
     Ok(())
 }
 
+/// Lookups and changes answer the same, and an indexed set has 256 words more.
+#[test]
+fn indexed_sets() -> Done {
+    let plans = [Plan::new(300, 1000); 3];
+    let mut indexed = Pool::new_indexed(4, 1000, &plans, &[2, 0])?;
+    let mut plain = Pool::new(4, 1000, &plans)?;
+    let queries = nets(&["0.0.0.0/0", "0.0.0.0/7", "10.0.0.0/8", "10.9.8.7/32", "11.0.0.0/8", "192.168.1.0/24", "192.168.0.0/23", "193.0.0.0/9"]);
+    for line in ["10.0.0.0/8", "192.168.0.0/24", "192.168.1.0/24", "192.0.0.0/7", "0.0.0.0/0"] {
+        assert_eq!(indexed.set_mut(0).add(net(line)), plain.set_mut(0).add(net(line)));
+        for &query in &queries {
+            assert_eq!(indexed.set(0).supernet(query), plain.set(0).supernet(query));
+        }
+        assert_eq!(indexed.set(0).contains_all(&queries), plain.set(0).contains_all(&queries));
+    }
+    assert_eq!(indexed.exclude(2, 0, 1), plain.exclude(2, 0, 1));
+    assert_eq!(indexed.set(2).supernet(queries[3]), plain.set(2).supernet(queries[3]));
+    assert_eq!(indexed.into_words().len(), plain.into_words().len() + 512);
+    Ok(())
+}
+
+#[test]
+fn which_sets_may_be_indexed() -> Done {
+    let plans = [Plan::new(1, 10); 2];
+    for indexed in [&[2][..], &[0, 63], &[64], &[u32::MAX]] {
+        assert_eq!(Pool::new_indexed(4, 100, &plans, indexed).err(), Some(Refusal::BadSetup));
+    }
+    assert_eq!(Pool::new_indexed(4, 100, &plans, &[])?.into_words(), Pool::new(4, 100, &plans)?.into_words());
+    assert_eq!(Pool::words_needed_indexed(2, 100, 2), Ok(Pool::words_needed(2, 100)? + 512));
+    assert_eq!(Pool::words_needed_indexed(2, 100, 3), Err(Refusal::BadSetup));
+    let mut words = vec![7; 880 + 256];
+    assert_eq!(Pool::layout_indexed(&mut words[..1135], 4, 100, &plans, &[1]).err(), Some(Refusal::BadSetup));
+    assert_eq!(words, [7; 880 + 256]);
+    Pool::layout_indexed(&mut words[..], 4, 100, &plans, &[1, 1])?;
+    assert!(Pool::open(&mut words[..]).is_ok());
+    words[880 + 10] ^= 1; // where a walk by the byte 10 stands
+    assert_eq!(Pool::open(&mut words[..]).err(), Some(Refusal::Damaged));
+    Ok(())
+}
+
 #[test]
 fn every_refusal() -> Done {
     let mut pool = pool_of(&HALVES);
@@ -133,8 +172,78 @@ fn every_refusal() -> Done {
     assert_eq!(pool.set_mut(0).from_bytes(&file), Err(Refusal::Occupied));
     assert_eq!(pool.merge(0, 0, 1), Err(Refusal::Occupied));
     assert_eq!(net("10.0.0.0/8").write_line(&mut [0; 9]), Err(Refusal::ShortBuffer));
+    assert_eq!(pool.set_mut(0).add_range(Ipv4Addr::LOCALHOST.into(), Ipv4Addr::UNSPECIFIED.into()), Err(Refusal::BadRange));
     assert_eq!(pool.set_mut(0).replan(Plan::new(2, 1)), Err(Refusal::BadShare));
+    assert_eq!(pool.set_mut(0).make_public(), Err(Refusal::Occupied));
     assert_eq!(pool.into_words(), before);
+    let mut pool = pool_of(&[]);
+    pool.set_mut(0).make_public()?;
+    assert_eq!(pool.set_mut(0).add(net("10.0.0.0/8")), Err(Refusal::NotPublic));
+    Ok(())
+}
+
+/// The set is looked for before the networks are: a wrong set is refused 3, whatever the networks are, and damaged words 2.
+#[test]
+fn what_is_refused_first() -> Done {
+    let (mixed, six) = (nets(&["10.0.0.0/8", "::1/128"]), nets(&["::1/128"]));
+    let mut pool = pool_of(&HALVES);
+    assert_eq!((pool.set(3).contains_all(&mixed), pool.set(3).contains_all(&six)), (Err(Refusal::NoSet), Err(Refusal::NoSet)));
+    assert_eq!((pool.set_mut(3).try_extend(mixed.clone()), pool.set_mut(3).remove_all([])), (Err(Refusal::NoSet), Err(Refusal::NoSet)));
+    assert_eq!((pool.set(0).contains_all(&mixed), pool.set(0).contains_all(&six)), (Err(Refusal::WrongFamily), Err(Refusal::WrongFamily)));
+    assert_eq!((pool.set_mut(0).try_extend(mixed), pool.set_mut(0).remove_all(six)), (Err(Refusal::WrongFamily), Err(Refusal::WrongFamily)));
+    assert_eq!((pool.set_mut(0).try_extend([]), pool.set_mut(0).remove_all([])), (Ok(26), Ok(26)));
+    let mut words = pool.clone().into_words();
+    for damaged in [0, 5, 260] {
+        words[1] = damaged;
+        assert_eq!(Pool::open(&mut words[..]).err(), Some(Refusal::Damaged));
+    }
+    Ok(())
+}
+
+/// By hand: the list is 10.0.0.0/8 and then the halves.
+#[test]
+fn places_in_a_list() -> Done {
+    let pool = pool_of(&["192.168.1.0/24", "10.0.0.0/8", "192.168.0.0/24"]);
+    let (set, all) = (pool.set(0), list(&pool, 0));
+    assert_eq!((set.first()?, set.last()?), (Some(net("10.0.0.0/8")), Some(net("192.168.1.0/24"))));
+    for place in 0..4 {
+        assert_eq!(set.nth(place)?, all.get(place as usize).copied());
+    }
+    assert_eq!((set.after(all[0])?, set.after(all[1])?, set.after(all[2])?), (Some(all[1]), Some(all[2]), None));
+    assert_eq!(set.after(net("192.168.0.128/24"))?, Some(all[2]));
+    assert_eq!((set.after(net("11.0.0.0/8"))?, pool.set(1).first()?, pool.set(1).last()?), (Some(all[1]), None, None));
+    assert_eq!((set.after(net("::/0")), pool.set(3).nth(0)), (Err(Refusal::WrongFamily), Err(Refusal::NoSet)));
+    Ok(())
+}
+
+#[test]
+fn lines_into_the_first_set() -> Done {
+    let mut pool = pool_of(&[]);
+    assert_eq!(pool.lines(b"192.168.0.0/24\n192.168.1.7/24\n10.9.8.7/8"), Ok(2));
+    assert_eq!(list(&pool, 0), nets(&["10.0.0.0/8", "192.168.0.0/24", "192.168.1.0/24"]));
+    assert_eq!((pool.lines(b""), pool.lines(b"11.0.0.0/8\n\n12.0.0.0/8\n")), (Ok(0), Err((2, Refusal::BadText))));
+    assert_eq!((pool.set(0).len(), pool.lines(b"::1/128\n")), (Ok(4), Err((1, Refusal::WrongFamily))));
+    Ok(())
+}
+
+#[test]
+fn set_files_without_a_pool() -> Done {
+    let file = |lines: &[&str]| pool_of(lines).set(0).to_vec();
+    let (halves, block) = (file(&HALVES)?, file(&["192.168.0.0/23"])?);
+    assert_eq!((compare(&halves, &block), compare(&block, &halves)), (Ok(Compared::Shortest), Ok(Compared::Same)));
+    let [first, second]: [IpAddr; 2] = [[192, 168, 1, 0].into(), [10, 0, 0, 0].into()];
+    assert_eq!(compare(&block, &file(&HALVES[..1])?), Ok(Compared::First(first)));
+    assert_eq!(compare(&block, &file(&["192.168.0.0/23", "10.0.0.0/8"])?), Ok(Compared::Second(second)));
+    let six = IpRange::try_from_iter(nets(&["2001:db8::/32"]))?.to_vec();
+    let smaller = IpRange::try_from_iter(nets(&["2001:db8::/33"]))?.to_vec();
+    assert_eq!(compare(&six, &smaller), Ok(Compared::First(Ipv6Addr::from(0x2001_0db8_8000_u128 << 80).into())));
+    assert_eq!(
+        (compare(&six, &block), compare(&[], &[]), compare(&block[..20], &block)),
+        (Err(Refusal::WrongFamily), Err(Refusal::BadFile), Err(Refusal::BadFile))
+    );
+    let kept = salvage(&[&halves[..], &[1, 2, 3, 4, 33], &[192, 168, 1, 9, 32], &[9]].concat())?;
+    assert_eq!((kept.read, kept.trimmed, kept.long, kept.covered), (4, 0, 1, 1));
+    assert_eq!((kept.file, salvage(&[]).err()), (halves, Some(Refusal::BadFile)));
     Ok(())
 }
 

@@ -6,11 +6,12 @@ use Prim.Native.Nat.{ℕ, _+_, _-_, _*_, _≤_}
 use native.Mathlib.Omega.{arith}
 use lib.ListN.{length}
 use Rattle.nets.specs.Bits.{Bits}
-use Rattle.nets.specs.Tries.{Trie, none, node, bare, levels, below, listOf, trieOf}
+use Rattle.nets.specs.Tries.{Trie, none, node, bare, size, levels, below, listOf, trieOf}
 use Rattle.nets.specs.Lists.{isList, nodesL, inOrder, allLeadings}
 use Rattle.nets.proofs.Members.{length-keep}
 use Rattle.nets.proofs.Order.{unique}
 use Rattle.nets.proofs.Levels.{from-below, member-nodes}
+use Rattle.nets.proofs.Nodes.{nodesL-listOf}
 use Rattle.nets.proofs.TrieOf.{listOf-trieOf}
 use Rattle.nodes.proofs.Tries.{some}
 use Rattle.branch_points.specs.BranchPoints.{isKept, keptL, keptNodesL}
@@ -45,3 +46,7 @@ keptNodesL-empty = refl
 pub keptNodesL-le : (l : List Bits) → keptNodesL l ≤ nodesL l
 unfolding keptNodesL keptL nodesL
 keptNodesL-le l = length-keep (isKept l) (inOrder (allLeadings l))
+
+-- a trie keeps no more nodes than it has
+pub keptSize-le : (t : Trie) → keptSize t ≤ size t
+keptSize-le t = omega (arith, keptNodesL-listOf t, nodesL-listOf t, keptNodesL-le (listOf t))

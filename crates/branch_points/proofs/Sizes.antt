@@ -3,10 +3,11 @@ use mathlib.Core.Bool.{Bool, true, false, cond}
 use mathlib.Core.List.{List, [], _∷_, _++_, map}
 use mathlib.Core.Path.{_≡_, refl, ap, sym, _∙_}
 use Prim.Native.Nat.{ℕ, zero, suc, _+_, _*_, _≤_}
+use native.Mathlib.Nat.{suc-mul, mul-add, mul-le-mul-left}
 use native.Mathlib.Omega.{arith}
 use lib.ListN.{length, length-append, length-map}
 use Rattle.nets.specs.Bits.{Bits}
-use Rattle.nets.specs.Tries.{Trie, none, node, leaf, bare, levels, level, below, listOf}
+use Rattle.nets.specs.Tries.{Trie, none, node, leaf, bare, size, levels, level, below, listOf}
 use Rattle.nodes.proofs.Tries.{some}
 use Rattle.branch_points.specs.KeptTries.{kept, keptSize}
 
@@ -68,3 +69,48 @@ keptSize-some (node none none) ne = omega arith
 keptSize-some (node none (node x y)) ne = omega (arith, keptSize-some (node x y) (some x y))
 keptSize-some (node (node x y) none) ne = omega (arith, keptSize-some (node x y) (some x y))
 keptSize-some (node (node x y) (node u v)) ne = omega arith
+
+-- The size of a node by those of its children.
+pub keptSize-none : (t : Trie) → keptSize t ≡ 0 → t ≡ none
+keptSize-none none e = refl
+keptSize-none (node l r) e = absurd (omega (arith, keptSize-some (node l r) (some l r)))
+
+pub keptSize-halves : (l r : Trie) → keptSize l + keptSize r ≤ keptSize (node l r)
+unfolding keptSize
+keptSize-halves l r = go (kept l r)
+  where
+    go : (c : Bool) → keptSize l + keptSize r ≤ cond c 1 0 + keptSize l + keptSize r
+    go true = omega arith
+    go false = omega arith
+
+-- the size of a node by those of its children
+pub keptSize-second : (l r : Trie) → keptSize l ≡ 0 → (keptSize r ≡ 0 → ⊥) → keptSize (node l r) ≡ keptSize r
+unfolding keptSize
+keptSize-second none none e f = absurd (f refl)
+keptSize-second none (node x y) e f = omega arith
+keptSize-second (node x y) r e f = absurd (omega (arith, keptSize-some (node x y) (some x y)))
+
+pub keptSize-first : (l r : Trie) → keptSize r ≡ 0 → (keptSize l ≡ 0 → ⊥) → keptSize (node l r) ≡ keptSize l
+unfolding keptSize
+keptSize-first none none e f = absurd (f refl)
+keptSize-first (node x y) none e f = omega arith
+keptSize-first l (node x y) e f = absurd (omega (arith, keptSize-some (node x y) (some x y)))
+
+pub keptSize-both : (l r : Trie) → (keptSize l ≡ 0 → ⊥) → (keptSize r ≡ 0 → ⊥) → keptSize (node l r) ≡ 1 + keptSize l + keptSize r
+unfolding keptSize
+keptSize-both none r e f = absurd (e refl)
+keptSize-both (node x y) none e f = absurd (f refl)
+keptSize-both (node x y) (node z u) e f = omega arith
+
+-- All nodes of a trie of at most k levels are at most k times the kept ones.
+grown : (k s l r x y : ℕ) → x ≤ k * l → y ≤ k * r → l + r ≤ s → 1 ≤ s → k * (l + r) ≤ k * s → 1 + x + y ≤ suc k * s
+grown k s l r x y p q le one m = rw (suc-mul k s) (omega (arith, mul-add k l r))
+
+pub size-deep : (t : Trie) (k : ℕ) → levels t ≤ k → size t ≤ k * keptSize t
+unfolding size levels
+size-deep none k h = omega arith
+size-deep (node l r) zero h = absurd (omega arith)
+size-deep (node l r) (suc k) h =
+    grown k (keptSize (node l r)) (keptSize l) (keptSize r) (size l) (size r) (size-deep l k (omega arith)) (size-deep r k (omega arith)) (keptSize-halves l r)
+    (keptSize-some (node l r) (some l r))
+    (mul-le-mul-left k (keptSize-halves l r))

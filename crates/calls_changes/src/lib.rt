@@ -31,7 +31,7 @@ pub fn change(pool: &mut [u32], c: Call) -> Reply
     }
 }
 
-// Lays the pool out, with the shares and then the limits of the tail.
+// Lays the pool out, with the shares and then the limits of the tail; hi has the marks of the indexed sets.
 pub fn lay(pool: &mut [u32], c: Call, s: &[u8]) -> Reply
     ensures { λ r. ⌜ (r, now (pool .exit)) ≡ layoutOf (now (pool .entry)) c (now (s .entry)) ⌝ }
 {
@@ -41,7 +41,15 @@ pub fn lay(pool: &mut [u32], c: Call, s: &[u8]) -> Reply
     let mut limits = [0u32; ROW];
     store_words(&mut shares, 0, s, CALL, n);
     store_words(&mut limits, 0, s, CALL + 4 * n, m);
-    of_answer(pool::layout(pool, c.net.family, c.a, c.b, &shares[..n], &limits[..m]))
+    of_answer(pool::layout(
+        pool,
+        c.net.family,
+        c.a,
+        c.b,
+        &shares[..n],
+        &limits[..m],
+        c.net.hi,
+    ))
 }
 
 // Writes the words of the tail over those of the pool.

@@ -4,7 +4,7 @@
 --   kindOf k         the kind of a code; Unknown where the table doesn't have it
 --   asksOf c         what a call asks for, if it is known: bytes for the tail of its answer, and rows;  asksBy K b: what one of that kind does
 --   tailLength c     how many bytes the tail of its answer has
-use mathlib.Core.Bool.{Bool, true, false, cond, _&&_}
+use mathlib.Core.Bool.{true, false, cond, _&&_}
 use mathlib.Core.List.{List, [], _∷_}
 use Prim.Native.Nat.{ℕ, _*_}
 use lib.Dec.{leb}

@@ -13,9 +13,10 @@ use Rattle.setfile_format.specs.Files.{readFile}
 use Rattle.setfile.specs.Loading.{Loaded}
 use Rattle.setfile_compare.specs.Comparing.{Values, compared}
 use Rattle.change_many.specs.Calls.{Poured}
-use Rattle.lines.specs.Lines.{lineFeed, lineNo, trimmedIn, poolNo}
-use Rattle.lines.specs.Reading.{places, begun, kept, pushed, stopped, endedAs, ended, stepped, passed, closed, checked, fed, finished, fedAll, allRead}
-use Rattle.lines.specs.declared.Reader.{Reader}
+use Rattle.lines_take.specs.Lines.{lineFeed, lineNo, trimmedIn, poolNo}
+use Rattle.lines_reader.specs.Kept.{places, begun, kept, pushed, stopped}
+use Rattle.lines.specs.Reading.{endedAs, ended, stepped, passed, closed, checked, fed, finished, fedAll, allRead}
+use Rattle.lines_reader.specs.declared.Reader.{Reader}
 use Rattle.calls_bytes.proofs.Rows.{rest-is}
 use Rattle.calls_bytes.specs.declared.Call.{Call}
 use Rattle.calls_bytes.specs.declared.Reply.{Reply}

@@ -24,7 +24,7 @@ use Rattle.setfile_compare.specs.Comparing.{compared}
 use Rattle.change_many.specs.Calls.{pouredL, fileRules, spanWords, rangeOf, spanRules}
 use Rattle.change_many.specs.declared.Span.{Span}
 use Rattle.lines.specs.Reading.{allRead}
-use Rattle.lines.specs.declared.Reader.{Reader}
+use Rattle.lines_reader.specs.declared.Reader.{Reader}
 use Rattle.calls_bytes.specs.Bytes.{u64At}
 use Rattle.calls_bytes.specs.declared.Call.{Call}
 use Rattle.calls_bytes.specs.declared.Reply.{Reply}

@@ -12,7 +12,7 @@ use Rattle.nets.specs.declared.PrefixBits.{PrefixBits}
 use Rattle.nets.specs.declared.Refusal.{Refusal}
 use Rattle.pool_state.specs.Rules.{shareIn}
 use Rattle.pool_state.specs.Changes.{netRules}
-use Rattle.pool_state.specs.Steps.{Judges, surveyWith, relinked}
+use Rattle.pool_state.specs.Steps.{Judges, surveyWith, Settled}
 use Rattle.pool_state.specs.declared.Survey.{Survey}
 use Rattle.pool_state.specs.declared.Verdict.{Verdict}
 use Rattle.pool_state.specs.declared.Verdict.the-variants as verdict
@@ -35,7 +35,7 @@ module _ {w : List ℕ} {k : ℕ} {n : Net} {v : Survey} {s : PrefixBits} {t : S
     pub grow-few : m ≤ 4194304
     grow-few = omega (arith, result-fits (result h) j z, seen-header (sees h) .nodes, seen-figures (sees h) .nodes)
 
-    pub grow-granted : {f : Survey} {u y : List ℕ} → f ≡ surveyWith (shareIn w k) v m → u ≡ withTrie w (S h) k v (new h) → y ≡ relinked u k (v .at) (v .held) m → Grows w k n (grown.Grew f) y
+    pub grow-granted : {f : Survey} {u y : List ℕ} → f ≡ surveyWith (shareIn w k) v m → u ≡ withTrie w (S h) k v (new h) → Settled u k (v .at) (v .held) m y → Grows w k n (grown.Grew f) y
     grow-granted q e p =
         let c = result-granted (result h) j z e refl p in
         rw q (c, resurveyed (netRules n) (listWith k n) (h .ready .surveyed) (λ T d. add-list n T k (decode-state w T d)) c)

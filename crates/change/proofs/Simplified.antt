@@ -27,7 +27,7 @@ use Rattle.pool_state.specs.States.{State, held, roomOf}
 use Rattle.pool_state.specs.Decode.{base, sound, decode}
 use Rattle.pool_state.specs.Rules.{answerOn, answerAs}
 use Rattle.pool_state.specs.Changes.{setAt, listAt, withSet, changeRule, setWith, grantRules, relistRules, relistSet, relistNo}
-use Rattle.pool_state.specs.Steps.{Refuses, behindAt, Shiftable, relinked, Relink}
+use Rattle.pool_state.specs.Steps.{Refuses, behindAt, Shiftable, Settle, Settled}
 use Rattle.pool_state.specs.declared.Answer.{Answer}
 use Rattle.pool_state.specs.declared.Survey.{Survey}
 use Rattle.pool_state.proofs.Kept.{heldL-listOf}
@@ -39,7 +39,7 @@ use Rattle.pool_state.proofs.OnTries.{decode-at, set-size, trieAt, seen-segment
 use Rattle.pool_state.proofs.Decoded.{decode-state, decode-set}
 use Rattle.pool_state.proofs.Judged.{relistNo-known}
 use Rattle.pool_state.proofs.Seen.{Seen, behind, seen-header, seen-figures}
-use Rattle.pool_state.proofs.Changed.{relink-asks, shift-asks}
+use Rattle.pool_state.proofs.Changed.{settle-asks, shift-asks}
 use Rattle.pool_state.proofs.Returns.{change-seat, changed}
 use Rattle.change.proofs.Admitted.{admits-simplify}
 use Rattle.change.specs.Simplified.{listSimple, noArgs, Simplifies, Shrunk}
@@ -118,10 +118,10 @@ module _ {w : List ℕ} {S : State} {k : ℕ} {v : Survey} (h : Seen w S k v) {b
       closed : x ≡ withTrie w S k v (simpleAt S k)
       closed = behind-last h (simpleAt S k) (omega (arith, fewer w S k (h .decoded) (h .known))) (rw o at (s .wrote)) (rw (s .nodes, o) at e)
 
-      pub roots-move : Relink x k (v .held) n
-      roots-move = relink-asks h (enc (simpleAt S k) ++ behind S k) fits closed
+      pub roots-move : Settle x k (v .at) (v .held) n
+      roots-move = settle-asks h (simpleAt S k) (sym (s .nodes)) fits closed
 
-      pub return-granted : {a : ℕ × ℕ} {y : List ℕ} → (a ≡ (0, n)) × (y ≡ relinked x k (v .at) (v .held) n) → Simplifies w k a y
+      pub return-granted : {a : ℕ × ℕ} {y : List ℕ} → (a ≡ (0, n)) × Settled x k (v .at) (v .held) n y → Simplifies w k a y
       unfolding simplifyL
       return-granted q =
           changed (rw (q .0) (change-granted noArgs (listSimple k) h refl (sym (grant-simplify w S k (h .decoded) (h .known))) (simpleAt S k) refl refl (sym (s .nodes)) closed (q .1)))

@@ -24,11 +24,11 @@ use Rattle.trie_emit.proofs.Combine.{opOn-union, opOn-common, opOn-difference, 
 use Rattle.pool_state.specs.States.{State, roomOf, admits}
 use Rattle.pool_state.specs.Decode.{recordAt, decode}
 use Rattle.pool_state.specs.Changes.{setAt, listAt}
-use Rattle.pool_state.specs.Steps.{Refuses, Surveyed, Judges, relinked, Relink}
+use Rattle.pool_state.specs.Steps.{Refuses, Surveyed, Judges, Settle, Settled}
 use Rattle.pool_state.specs.declared.Survey.{Survey}
 use Rattle.pool_state.proofs.Decoded.{decode-header}
 use Rattle.pool_state.proofs.Seen.{Seen, seen, seen-as, seen-figures, seen-empty, seen-some}
-use Rattle.pool_state.proofs.OnTries.{trieAt, withTrie, behind-first, Result, result-fits, result-relinks, result-granted}
+use Rattle.pool_state.proofs.OnTries.{trieAt, withTrie, behind-first, Result, result-fits, result-settles, result-granted}
 use Rattle.pool_state.specs.declared.Verdict.the-variants.{Fits}
 use Rattle.pool_state.proofs.Judged.{judge-none}
 use Rattle.pool_state.proofs.Changed.{shift-asks}
@@ -225,8 +225,8 @@ module _ {op : ℕ} {w : List ℕ} {to first second : ℕ} {v : Survey} {s : Sou
       appended-wrote : y ≡ withTrie w S to v made
       appended-wrote = result-wrote appended (sure-room appended) (d (trieAt S first) (trieAt S second) sure-last .1)
 
-      pub appended-relinks : Relink y to (v .held) r
-      appended-relinks = result-relinks (result appended) (sure-judged appended) refl appended-wrote
+      pub appended-settles : Settle y to (v .at) (v .held) r
+      appended-settles = result-settles (result appended) (sure-judged appended) refl appended-wrote
 
-      pub appended-granted : {x : ℕ × ℕ} {z : List ℕ} → x ≡ (0, r) → z ≡ relinked y to (v .at) (v .held) r → Combined (combineL op) w to first second x z
+      pub appended-granted : {x : ℕ × ℕ} {z : List ℕ} → x ≡ (0, r) → Settled y to (v .at) (v .held) r z → Combined (combineL op) w to first second x z
       appended-granted p q = result-granted (result appended) (sure-judged appended) refl appended-wrote p q

@@ -22,7 +22,7 @@ use Rattle.exports.proofs.Told.{tells-one}
 pub layout-told : {w v u : List ℕ} {p : Setup} {r s : ℕ} → Tells (Laid w p) oneReply r v → Tells (Laid w p) oneReply s u → (r ≡ s) × (v ≡ u)
 layout-told = tells-one (λ a b x y. (x .answer ∙ sym (y .answer), x .words ∙ sym (y .words)))
 
--- simplify, merge, intersect, both excludes, replan, make_public, load; and add and remove, which report
+-- simplify, merge, intersect, both excludes, replan, make_public, load, add_file, remove_file, add_range; and add and remove, which report
 module _ {w v u : List ℕ} {k : ℕ} {rs : State → List Rule} {f : State → SetState} {r s : ℕ} where
   pub change-told : Tells (Changed w k rs f) oneReply r v → Tells (Changed w k rs f) oneReply s u → (r ≡ s) × (v ≡ u)
   change-told = tells-one (λ a b x y. changed-same x y)

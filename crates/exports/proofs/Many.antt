@@ -1,5 +1,5 @@
 -- The entries that contains_all writes are the numbers that contains answers as an exported call. Assumes nothing.
-use mathlib.Core.Bool.{Bool, true, false}
+use mathlib.Core.Bool.{true, false}
 use mathlib.Core.List.{List}
 use mathlib.Core.Path.{_≡_, refl, _∙_}
 use Prim.Native.Nat.{ℕ, _/_, _≤_, _<_}

@@ -6,8 +6,9 @@ use borrow.Author.Tests.{ne-eqb}
 use Rattle.nets.specs.Refusals.{number}
 use Rattle.nets.specs.declared.Refusal.{Refusal}
 use Rattle.nets.proofs.Answers.{number-some}
-use Rattle.lines.specs.Reading.{begun, fed, finished, fedAll, allRead}
-use Rattle.lines.specs.declared.Reader.{Reader}
+use Rattle.lines_reader.specs.Kept.{begun}
+use Rattle.lines.specs.Reading.{fed, finished, fedAll, allRead}
+use Rattle.lines_reader.specs.declared.Reader.{Reader}
 use Rattle.salvage.specs.Calls.{salvagedAs, Salvages}
 use Rattle.salvage.specs.declared.Counts.{Counts}
 use Rattle.salvage.specs.declared.Salvaged.{Salvaged}

@@ -14,9 +14,17 @@ use calls_replies::of_report;
 // How many words a pool of so many sets and nodes needs.
 #[no_mangle]
 pub extern "C" fn marlbrace_words(sets: u32, nodes: u32) -> u64
-    ensures { λ r. ⌜ r ≡ packed (oneReply (wordsRule sets nodes)) ⌝ }
+    ensures { λ r. ⌜ r ≡ packed (oneReply (wordsRule sets nodes 0)) ⌝ }
 {
-    packed(of_answer(pool::words(sets, nodes)))
+    packed(of_answer(pool::words(sets, nodes, 0)))
+}
+
+// The same where so many of the sets are indexed.
+#[no_mangle]
+pub extern "C" fn marlbrace_words_indexed(sets: u32, nodes: u32, indexed: u32) -> u64
+    ensures { λ r. ⌜ r ≡ packed (oneReply (wordsRule sets nodes indexed)) ⌝ }
+{
+    packed(of_answer(pool::words(sets, nodes, indexed)))
 }
 
 // The free nodes.

@@ -4,7 +4,6 @@ use mathlib.Core.Path.{_≡_, refl, sym, ap, _∙_}
 use mathlib.Core.Bool.{true, cond}
 use mathlib.Core.List.{List, [], _∷_}
 use Prim.Native.Nat.{ℕ, _+_, _≤_, _<_}
-use native.Mathlib.Omega.{arith}
 use lib.ListN.{length}
 use borrow.Author.Tests.{lt-ltb, le-ltb}
 use Rattle.nets.specs.Bits.{before, bits}
@@ -12,8 +11,8 @@ use Rattle.nets.specs.Lists.{nodesL, isList, addL}
 use Rattle.nets.specs.Networks.{width, netBits, inRange, refusalOf}
 use Rattle.nets.specs.declared.Net.{Net}
 use Rattle.pool_state.specs.Kept.{heldL}
-use Rattle.pool_state.specs.States.{SetState, State, held, used, claimed, claimedBut, freeOf, roomOf, admits, isState}
-use Rattle.pool_state.specs.Decode.{leastWords, sound, decode}
+use Rattle.pool_state.specs.States.{State, held, used, claimed, claimedBut, freeOf, roomOf, admits, isState}
+use Rattle.pool_state.specs.Decode.{leastOf, sound, decode}
 use Rattle.pool_state.specs.Rules.{answerOn, Setup, setup, emptyState, layoutNo, Laid, freeRule}
 use Rattle.pool_state.specs.Changes.{setAt, listAt, withSet, fits, changeRules, changeRule, wordsAfter, planRules, relistRules, relistSet, netRules}
 use Rattle.pool_state.proofs.Answered.{leftOn-refused}
@@ -25,7 +24,7 @@ use Rattle.pool_state.proofs.WithSet.{SamePlan}
 use Rattle.replan.proofs.Outcomes.{mayPlan, replan-exactly}
 use Rattle.histories.specs.Calls.{Relist, Call, add, relist, replan, makePublic, writes, target, argsNo, resultOf, callNo, answerOf, stateAfter, Outcome}
 use Rattle.histories.specs.Histories.{stateFrom, answersFrom, History, begin, step}
-use Rattle.histories.proofs.Step.{callNo-share, callNo-room, stateAfter-plan, stateAfter-lists, stateAfter-marked, outcome-answer, stateAfter-numbers, stateAfter-other, outcome-decode, outcome-past}
+use Rattle.histories.proofs.Step.{callNo-share, callNo-room, stateAfter-plan, stateAfter-lists, stateAfter-marked, outcome-answer, stateAfter-numbers, stateAfter-least, stateAfter-other, outcome-decode, outcome-past}
 
 -- One call from any words.
 
@@ -56,6 +55,12 @@ stateFrom-numbers S (c ∷ cs) =
     let n = stateAfter-numbers (stateFrom S cs) c in
     (n .0 ∙ h .0, n .1 ∙ h .1, n .2 ∙ h .2)
 
+-- its smallest buffer stays
+stateFrom-least : (S : State) (cs : List Call) → leastOf (stateFrom S cs) ≡ leastOf S
+unfolding stateFrom
+stateFrom-least S [] = refl
+stateFrom-least S (c ∷ cs) = stateAfter-least (stateFrom S cs) c ∙ stateFrom-least S cs
+
 -- "Every memory reached from a layout by these calls is sound." It holds the lists that the calls make, and no others. A layout begins a history, where it is granted.
 pub layout-begins : {w v : List ℕ} {p : Setup} {n : ℕ} → Laid w p (0, n) v → decode v ≡ sound (emptyState p)
 layout-begins {w} {p = p} h =
@@ -69,11 +74,10 @@ module _ {w : List ℕ} {S : State} (d : decode w ≡ sound S) where
   history-sound (step {cs = cs} {c = c} h o) = outcome-decode (stateFrom S cs) c (history-sound h) o
 
   -- "No call touches words past the smallest buffer."
-  pub history-past : {cs : List Call} {rs : List (ℕ × ℕ)} {v : List ℕ} → History w cs rs v → Past (leastWords (length (S .sets)) (S .nodes)) w v
+  pub history-past : {cs : List Call} {rs : List (ℕ × ℕ)} {v : List ℕ} → History w cs rs v → Past (leastOf S) w v
   history-past begin = past-refl _ w
   history-past (step {cs = cs} {c = c} h o) =
-      let n = stateFrom-numbers S cs in
-      past-trans (history-past h) (rw (n .1, n .2) at (outcome-past (stateFrom S cs) c (history-sound h) o))
+      past-trans (history-past h) (rw (stateFrom-least S cs) at (outcome-past (stateFrom S cs) c (history-sound h) o))
 
   module _ {cs : List Call} {rs : List (ℕ × ℕ)} {v : List ℕ} (h : History w cs rs v) where
     -- the rules of a state hold
@@ -151,7 +155,7 @@ module _ (S : State) (cs : List Call) where
 -- "IPv6 pool, 100 nodes, shares 40 and 30, limits 60 and 80, both sets empty. On set 1, adding a /59 (60 nodes) is granted; a /60 or /79 instead gets 10, a /80 gets 9. With the
 -- /59 there, set 0 may add a /39; a /40 gets 10."
 abbrev pool100 : State
-pool100 = emptyState (setup 6 2 100 (40 ∷ 30 ∷ []) (60 ∷ 80 ∷ []))
+pool100 = emptyState (setup 6 2 100 (40 ∷ 30 ∷ []) (60 ∷ 80 ∷ []) 0)
 
 abbrev net : ℕ → Net
 net n = record { family = 6; hi = 0; lo = 0; len = n }

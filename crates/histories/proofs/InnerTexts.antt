@@ -6,13 +6,14 @@ use Prim.Native.Nat.{ℕ}
 use Prim.Native.String.{String}
 use Rattle.nets.specs.Networks.{bigEndian}
 use Rattle.inner_nets.specs.Inner.{innerNets4, innerNets6}
-use Rattle.text.specs.Spans.{allOf, startsOf, leadingOf, behindOf}
-use Rattle.text.specs.Decimal.{isDigit, decimalFrom, plain, isNumber, readNumber}
+use Rattle.text_decimal.specs.Spans.{allOf, startsOf, leadingOf, behindOf}
+use Rattle.text_decimal.specs.Decimal.{isDigit, decimalFrom, plain, isNumber, readNumber}
 use Rattle.text.specs.Ipv4.{readNext, readQuad, readLine}
-use Rattle.text.specs.Places.{startsByte}
+use Rattle.text_decimal.specs.Places.{startsByte}
 use Rattle.text_hex.specs.Hex.{isHexDigit, hexValue, hexNumberFrom}
-use Rattle.text_ipv6_read.specs.Ipv6.{isGroup}
-use Rattle.text_ipv6_read.specs.Reader.{readGroup, readDotted, readPiece, goesOn, runFrom, startsDouble, readAddress, isOutline, laid, readLine6}
+use Rattle.text_ipv6_runs.specs.Runs.{isGroup}
+use Rattle.text_ipv6_runs.specs.Runs.{readGroup, readDotted, readPiece, goesOn, runFrom}
+use Rattle.text_ipv6_read.specs.Reader.{startsDouble, readAddress, isOutline, laid, readLine6}
 
 abbrev bytes : String → List ℕ
 bytes String.[] = []

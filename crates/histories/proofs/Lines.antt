@@ -8,9 +8,8 @@ use Rattle.pool_state.specs.States.{State}
 use Rattle.pool_state.specs.Decode.{sound, decode}
 use Rattle.pool_state.specs.Changes.{setAt, withSet, setWith}
 use Rattle.change.specs.Calls.{listWith}
-use Rattle.lines.specs.Lines.{addWords}
 use Rattle.lines.specs.Reading.{fed, finished}
-use Rattle.lines.specs.declared.Reader.{Reader}
+use Rattle.lines_reader.specs.declared.Reader.{Reader}
 use Rattle.lines.proofs.Lists.{added, decode-added}
 use Rattle.lines.proofs.Adds.{Adds, fed-adds, finished-adds}
 use Rattle.histories.specs.Calls.{Call, add, relist}

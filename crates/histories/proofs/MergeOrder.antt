@@ -46,11 +46,11 @@ module _ {z : List ℕ} {S : State} (d : decode z ≡ sound S) where
     number-is : callNo (stateFrom S cs) c ≡ r .0
     number-is = sym (ap (λ a. a .0) (history-answer d h c o))
 
-    refused-state : (r .0 ≡ 0 → ⊥) → stateFrom S (c ∷ cs) ≡ stateFrom S cs
+    pub refused-state : (r .0 ≡ 0 → ⊥) → stateFrom S (c ∷ cs) ≡ stateFrom S cs
     unfolding stateFrom stateAfter
     refused-state ne = rw (ne-eqb (callNo (stateFrom S cs) c) 0 (λ q. ne (sym number-is ∙ q)))
 
-  granted-list : {cs : List Call} {rs : List (ℕ × ℕ)} {w v : List ℕ} (c : Relist) → History z cs rs w → {r : ℕ × ℕ} → Outcome w (relist c) r v → r .0 ≡ 0
+  pub granted-list : {cs : List Call} {rs : List (ℕ × ℕ)} {w v : List ℕ} (c : Relist) → History z cs rs w → {r : ℕ × ℕ} → Outcome w (relist c) r v → r .0 ≡ 0
       → listAt (stateFrom S (relist c ∷ cs)) (writes c) ≡ resultOf c (stateFrom S cs)
   unfolding stateFrom
   granted-list {cs} c h o q =
@@ -87,7 +87,7 @@ history-merge-order {S = S} {T = T} {cs} {ds} {a = a} {b = b} {c = c} {d = d} ks
 -- 10.0.0.0/8, 11.0.0.0/8 and 8.0.0.0/7 in sets 0, 1 and 2, merged through set 3 into set 4, and in another order through set 4 into set 3: 8.0.0.0/6 both
 -- times. The other order through set 3, whose limit is 8, has a step refused.
 abbrev pool5 : State
-pool5 = emptyState (setup 4 5 100 (8 ∷ 8 ∷ 8 ∷ 8 ∷ 8 ∷ []) (40 ∷ 40 ∷ 40 ∷ 8 ∷ 40 ∷ []))
+pool5 = emptyState (setup 4 5 100 (8 ∷ 8 ∷ 8 ∷ 8 ∷ 8 ∷ []) (40 ∷ 40 ∷ 40 ∷ 8 ∷ 40 ∷ []) 0)
 
 abbrev net : ℕ → ℕ → Net
 net a n = record { family = 4; hi = 0; lo = a * 2 ^ 24; len = n }

@@ -12,13 +12,13 @@ use Rattle.nets.specs.Bits.{Bits, before, bits}
 use Rattle.nets.specs.Tries.{levels, listOf, insertT, trieOf, simplifyT}
 use Rattle.nets.specs.Lists.{nodesL, covers, addL, removeL, simplifyL, mergeL, intersectL, differenceL, excludeL}
 use Rattle.nets.specs.Networks.{width, netBits, inRange, refusalOf}
-use Rattle.nets.specs.Refusals.{Rule, firstNo}
+use Rattle.nets.specs.Refusals.{firstNo}
 use Rattle.nets.specs.declared.Net.{Net}
 use Rattle.nets.specs.declared.Refusal.the-variants.{OverLimit, NoRoom, NotPublic}
 use Rattle.inner_nets.specs.Inner.{overlaps, innerNets4, innerNets, inner, isPublic}
 use Rattle.inner_nets.proofs.Addresses.{isPublic-apart}
 use Rattle.pool_state.specs.Kept.{heldL}
-use Rattle.pool_state.specs.States.{SetState, State, claimed, claimedBut, roomOf, admits, isState}
+use Rattle.pool_state.specs.States.{SetState, State, claimed, claimedBut, roomOf, admits}
 use Rattle.pool_state.specs.Decode.{sound, decode}
 use Rattle.pool_state.specs.Rules.{setup, emptyState}
 use Rattle.pool_state.specs.Changes.{setAt, listAt, withSet, fits, changeRules, planRules, markRules, relistRules, relistSet, netRules}
@@ -93,7 +93,7 @@ public-for-good {S = S} {cs} {ds} k d h o f =
 -- One pool of 30 nodes, three sets, the limits 40, 40 and 8. Set 0 has 10.0.0.0/16, 17 nodes, which leaves 13. Into set 2, once it is public-only and has 12.0.0.0/6, a merge
 -- of set 0 gets 8; while it is empty 14, though the result is above its limit and its room too; were it not public-only 9, and with another limit 10.
 abbrev pool3 : State
-pool3 = emptyState (setup 4 3 30 (0 ∷ 0 ∷ 0 ∷ []) (40 ∷ 40 ∷ 8 ∷ []))
+pool3 = emptyState (setup 4 3 30 (0 ∷ 0 ∷ 0 ∷ []) (40 ∷ 40 ∷ 8 ∷ []) 0)
 
 abbrev net : ℕ → ℕ → Net
 net a n = record { family = 4; hi = 0; lo = a * 2 ^ 24; len = n }
@@ -113,7 +113,7 @@ worked-order = (refl, refl, refl, refl, refl)
 -- 8.0.0.0/5 with and without the inner 10.0.0.0/8, into a public-only set: the result counts, not the arguments. Both merged, and what they have in common, get 14; the difference, which
 -- takes just the inner part away, is granted, joined and apart.
 abbrev pool4 : State
-pool4 = emptyState (setup 4 3 90 (0 ∷ 0 ∷ 0 ∷ []) (40 ∷ 40 ∷ 40 ∷ []))
+pool4 = emptyState (setup 4 3 90 (0 ∷ 0 ∷ 0 ∷ []) (40 ∷ 40 ∷ 40 ∷ []) 0)
 
 abbrev both : List Call
 both = makePublic 2 ∷ adds 1 10 8 ∷ adds 0 8 5 ∷ []

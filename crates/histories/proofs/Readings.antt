@@ -24,7 +24,9 @@ use Rattle.listing.specs.Calls.{listRules, listRule, rowsAfter, placeFrom, noth
 use Rattle.listing.specs.Calls.{foundAs as followsAs}
 use Rattle.listing.specs.declared.From.{From}
 use Rattle.netrows.specs.Rows.{filled, rowRules, rowRule, rowAfter}
-use Rattle.walk.specs.Walks.{walkNo}
+use Rattle.ranges.specs.Addresses.{rangeRows}
+use Rattle.rangelist.specs.Calls.{rangesAt, rangesRules, rangesRule}
+use Rattle.rangelist.specs.Calls.{rowsAfter as rangesAfter}
 use Rattle.walk.specs.Places.{placeRule, nthL, nthRule, lastL, lastRule}
 use Rattle.setfile.specs.Calls.{fileAt, saveRules, saveRule, bytesAfter}
 use Rattle.histories.specs.Calls.{Call}
@@ -86,19 +88,25 @@ module _ {w : List ℕ} {S : State} (d : decode w ≡ sound S) {cs : List Call} 
     unfolding saveRule bytesAfter
     history-save u = (answer-is _ 0 _, left-is _ u _)
 
+    -- its ranges
+    pub history-ranges : (u : List ℕ) → (rangesRule (decode v) k (length u) ≡ answered (firstNo (rangesRules k (length u) now)) 0 (length (rangesAt now k)))
+        × (rangesAfter u (decode v) k ≡ cond (eqb (firstNo (rangesRules k (length u) now)) 0) (put u 0 (rangeRows (rangesAt now k))) u)
+    unfolding rangesRule rangesAfter
+    history-ranges u = (answer-is _ 0 _, left-is _ u _)
+
     -- one network of it
     pub history-next : (x : From) → nextRule (decode v) k x ≡ answered (firstNo (nextRules k x now)) nothing (followsAs (now .family) (nextL list (placeFrom x)))
     unfolding nextRule
     history-next x = answer-is _ nothing _
 
-    place-is : (f : List Bits → Found) → placeRule f (decode v) k ≡ answered (walkNo (sound now) k) nothing (followsAs (now .family) (f list))
+    place-is : (f : List Bits → Found) → placeRule f (decode v) k ≡ answered (firstNo (unknown now k ∷ [])) nothing (followsAs (now .family) (f list))
     unfolding placeRule
-    place-is f = rw holds
+    place-is f = answer-is _ nothing _
 
-    pub history-nth : (i : ℕ) → nthRule (decode v) k i ≡ answered (walkNo (sound now) k) nothing (followsAs (now .family) (nthL list i))
+    pub history-nth : (i : ℕ) → nthRule (decode v) k i ≡ answered (firstNo (unknown now k ∷ [])) nothing (followsAs (now .family) (nthL list i))
     history-nth i = place-is (λ l. nthL l i)
 
-    pub history-last : lastRule (decode v) k ≡ answered (walkNo (sound now) k) nothing (followsAs (now .family) (lastL list))
+    pub history-last : lastRule (decode v) k ≡ answered (firstNo (unknown now k ∷ [])) nothing (followsAs (now .family) (lastL list))
     history-last = place-is lastL
 
     -- and the list of another set

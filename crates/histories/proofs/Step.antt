@@ -23,11 +23,11 @@ use Rattle.nets.proofs.Combining.{isList-merge, isList-intersect}
 use Rattle.nets.proofs.Laws.{isList-remove, isList-difference, isList-exclude}
 use Rattle.pool_state.specs.Kept.{heldL}
 use Rattle.pool_state.specs.States.{SetState, State, roomOf, admits, isState}
-use Rattle.pool_state.specs.Decode.{leastWords, sound, decode}
+use Rattle.pool_state.specs.Decode.{leastOf, sound, decode}
 use Rattle.pool_state.specs.Rules.{answerOn, unknown}
 use Rattle.pool_state.specs.Changes.{setAt, listAt, withSet, changeRules, changeRule, setWith, grantRules, relistRules, relistSet, relistNo, netRules}
 use Rattle.pool_state.proofs.Claims.{isList-listAt}
-use Rattle.pool_state.proofs.WithSet.{SamePlan, withSet-length, withSet-at, share-roomOf, isState-withSet}
+use Rattle.pool_state.proofs.WithSet.{SamePlan, withSet-length, withSet-least, withSet-at, share-roomOf, isState-withSet}
 use Rattle.pool_state.proofs.Decoded.{decode-state}
 use Rattle.pool_state.proofs.Judged.{changeNo-zero, relistNo-known}
 use Rattle.pool_state.proofs.Past.{Past}
@@ -236,6 +236,13 @@ call-keeps S (relist c) e = relist-keeps S (writes c) (argsOf c S) (resultOf c S
 call-keeps S (replan k x y) e = plan-keeps S k x y e
 call-keeps S (makePublic k) e = mark-keeps S k e
 
+-- no call makes an indexed set of another, or another of it
+next-indexed : (S : State) (c : Call) → nextOf c S .indexed ≡ setAt S (target c) .indexed
+unfolding relistSet
+next-indexed S (relist c) = refl
+next-indexed S (replan k x y) = refl
+next-indexed S (makePublic k) = refl
+
 -- The state afterwards: only the set that is written differs.
 module _ (S : State) (c : Call) where
   stateAfter-cases : (P : State → Type 0) → (callNo S c ≡ 0 → P (withSet S (target c) (nextOf c S))) → (eqb (callNo S c) 0 ≡ false → P S) → P (stateAfter S c)
@@ -248,6 +255,10 @@ module _ (S : State) (c : Call) where
       stateAfter-cases (λ T. (T .family ≡ S .family) × (T .nodes ≡ S .nodes) × (length (T .sets) ≡ length (S .sets)))
       (λ q. (refl, refl, withSet-length S (target c) (nextOf c S)))
       (λ q. (refl, refl, refl))
+
+  -- and so does the smallest buffer
+  pub stateAfter-least : leastOf (stateAfter S c) ≡ leastOf S
+  stateAfter-least = stateAfter-cases (λ T. leastOf T ≡ leastOf S) (λ q. withSet-least S (target c) (nextOf c S) (next-indexed S c)) (λ q. refl)
 
   pub stateAfter-other : (j : ℕ) → (j ≡ target c → ⊥) → setAt (stateAfter S c) j ≡ setAt S j
   unfolding stateAfter
@@ -280,11 +291,23 @@ module _ (S : State) (c : Call) where
       at (yes e) = rw (e, stateAfter-own) (own (eqb (callNo S c) 0) (rw e at p))
       at (no ne) = rw (stateAfter-other j ne) p
 
+  -- and what is indexed stays so, with no other
+  pub stateAfter-indexed : (j : ℕ) → setAt (stateAfter S c) j .indexed ≡ setAt S j .indexed
+  stateAfter-indexed j = at (ℕ-discrete j (target c))
+    where
+      own : (b : Bool) → (cond b (nextOf c S) (setAt S (target c))) .indexed ≡ setAt S (target c) .indexed
+      own true = next-indexed S c
+      own false = refl
+
+      at : Dec (j ≡ target c) → setAt (stateAfter S c) j .indexed ≡ setAt S j .indexed
+      at (yes e) = rw (e, stateAfter-own) (own (eqb (callNo S c) 0))
+      at (no ne) = rw (stateAfter-other j ne)
+
   -- it keeps the rules, and the words hold it; no word past the smallest buffer is touched
   pub isState-after : isState S ≡ true → isState (stateAfter S c) ≡ true
   isState-after e =
       stateAfter-cases (λ T. isState T ≡ true)
-      (λ z. let (lt, y) = changeNo-zero S (target c) (rulesOf c S) z in let (l, g) = call-keeps S c e lt y in isState-withSet S (target c) e lt (nextOf c S) l g)
+      (λ z. let (lt, y) = changeNo-zero S (target c) (rulesOf c S) z in let (l, g, m) = call-keeps S c e lt y in isState-withSet S (target c) e lt (nextOf c S) l g)
       (λ q. e)
 
   module _ {w v : List ℕ} {r : ℕ × ℕ} (d : decode w ≡ sound S) (o : Outcome w c r v) where
@@ -295,5 +318,5 @@ module _ (S : State) (c : Call) where
     unfolding stateAfter
     outcome-decode = leaves .holds
 
-    pub outcome-past : Past (leastWords (length (S .sets)) (S .nodes)) w v
+    pub outcome-past : Past (leastOf S) w v
     outcome-past = leaves .past

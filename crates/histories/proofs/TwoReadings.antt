@@ -1,12 +1,10 @@
 -- Each call that reads a set answers alike after two histories from states that agree on the set (`two-histories`), and leaves a lent row alike. The free report alone depends on the
 -- other sets. Assumes nothing.
-use mathlib.Core.Bool.{Bool, true, false, not}
+use mathlib.Core.Bool.{false}
 use mathlib.Core.List.{List}
-use mathlib.Core.Path.{_≡_, refl, sym, ap, _∙_}
+use mathlib.Core.Path.{_≡_}
 use Prim.Native.Nat.{ℕ}
-use lib.Dec.{leb, ltb}
 use lib.ListN.{length}
-use borrow.Author.Tests.{leb-true, leb-false, le-ltb, lt-ltb}
 use Rattle.nets.specs.Bits.{Bits}
 use Rattle.nets.specs.Lists.{Found}
 use Rattle.nets.specs.Refusals.{Rule}
@@ -21,7 +19,8 @@ use Rattle.listing.specs.Calls.{listRules, listRule, rowsAfter, nothing, nextRu
 use Rattle.listing.specs.declared.From.{From}
 use Rattle.listing.specs.declared.From.the-variants.{Start, Past}
 use Rattle.netrows.specs.Rows.{rowRules, rowRule, rowAfter}
-use Rattle.walk.specs.Walks.{walkNo}
+use Rattle.rangelist.specs.Calls.{rangesAt, rangesRules, rangesRule}
+use Rattle.rangelist.specs.Calls.{rowsAfter as rangesAfter}
 use Rattle.walk.specs.Places.{placeRule, nthL, nthRule, lastL, lastRule}
 use Rattle.setfile.specs.Calls.{saveRules, saveRule, bytesAfter}
 use Rattle.histories.specs.Calls.{Call}
@@ -29,17 +28,6 @@ use Rattle.histories.specs.Histories.{stateFrom, History, callsOn, AllAl
 use Rattle.histories.proofs.Step.{sameAt-list, net-same}
 use Rattle.histories.proofs.Histories.{history-sound}
 use Rattle.histories.proofs.TwoHistories.{same-after, two-reports}
-
--- the test of a walk is that of the other calls, turned round
-ltb-leb : (m n : ℕ) → ltb m n ≡ not (leb n m)
-ltb-leb m n = go (leb n m) refl
-  where
-    go : (b : Bool) → leb n m ≡ b → ltb m n ≡ not b
-    go true e = le-ltb m n (leb-true n m e)
-    go false e = lt-ltb m n (leb-false n m e)
-
-known-ltb : {k : ℕ} {S T : State} → SameAt k S T → ltb k (length (S .sets)) ≡ ltb k (length (T .sets))
-known-ltb {k} {S} {T} s = ltb-leb k (length (S .sets)) ∙ ap not (s .known) ∙ sym (ltb-leb k (length (T .sets)))
 
 -- What is decoded as two states is answered alike where rules and values are the same.
 module _ {D E : Decoded} {S T : State} (d : D ≡ sound S) (q : E ≡ sound T) where
@@ -60,6 +48,14 @@ module _ {k : ℕ} {S T : State} (s : SameAt k S T) where
   row-same : (n : ℕ) → rowRules k n S ≡ rowRules k n T
   unfolding rowRules
   row-same n = rw (s .known, sameAt-list s)
+
+  ranges-at : rangesAt S k ≡ rangesAt T k
+  unfolding rangesAt
+  ranges-at = rw (s .family, sameAt-list s)
+
+  ranges-same : (n : ℕ) → rangesRules k n S ≡ rangesRules k n T
+  unfolding rangesRules
+  ranges-same n = rw (s .known, ranges-at)
 
   save-same : (n : ℕ) → saveRules k n S ≡ saveRules k n T
   unfolding saveRules
@@ -126,13 +122,21 @@ module _ {w z : List ℕ} {S T : State} {cs ds : List Call} {rs ss : List (ℕ �
     leaves here there _ x _ (save-same agree (length x)) (rw (agree .family, sameAt-list agree)),
   )
 
+  pub two-ranges : (x : List ℕ) → (rangesRule (decode u) k (length x) ≡ rangesRule (decode v) k (length x))
+      × (rangesAfter x (decode u) k ≡ rangesAfter x (decode v) k)
+  unfolding rangesRule rangesAfter
+  two-ranges x = (
+    answers here there _ 0 _ (ranges-same agree (length x)) (rw (ranges-at agree)),
+    leaves here there _ x _ (ranges-same agree (length x)) (rw (ranges-at agree)),
+  )
+
   pub two-next : (x : From) → nextRule (decode u) k x ≡ nextRule (decode v) k x
   unfolding nextRule
   two-next x = answers here there _ nothing _ (next-same agree x) (rw (agree .family, sameAt-list agree))
 
   place-same : (f : List Bits → Found) → placeRule f (decode u) k ≡ placeRule f (decode v) k
-  unfolding placeRule walkNo
-  place-same f = rw (here, there, known-ltb agree, agree .family, sameAt-list agree)
+  unfolding placeRule
+  place-same f = answers here there _ nothing _ (rw (agree .known)) (rw (agree .family, sameAt-list agree))
 
   pub two-nth : (i : ℕ) → nthRule (decode u) k i ≡ nthRule (decode v) k i
   two-nth i = place-same (λ l. nthL l i)

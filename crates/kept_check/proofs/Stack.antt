@@ -1,6 +1,6 @@
 -- The check, turn by turn: what is read at a node, what the stack says, and what each turn makes of it. Assumes nothing.
 use mathlib.Core.Path.{_≡_, refl, sym, ap, _∙_}
-use mathlib.Core.Bool.{Bool, true, false, cond}
+use mathlib.Core.Bool.{Bool, true, false, not, cond}
 use mathlib.Core.List.{List, [], _∷_}
 use Prim.Native.Nat.{ℕ, zero, suc, _+_, _-_, _≤_, _<_}
 use native.Mathlib.Omega.{arith}
@@ -21,7 +21,7 @@ use Rattle.trie_paths.specs.Spans.{snoc}
 use Rattle.trie_paths.proofs.Paths.{length-snoc}
 use Rattle.branch_points.specs.KeptTries.{keptSize}
 use Rattle.branch_points.proofs.Sizes.{keptSize-leaf}
-use Rattle.kept_nodes.specs.Parse.{KeptRoom, lenAt, distAt, stringAt, isNode, hung, lift, second, fits, keptParse, keptAfter}
+use Rattle.kept_nodes.specs.Parse.{KeptRoom, lenAt, distAt, stringAt, isNode, hung, lift, first, fits, keptParse, keptAfter}
 use Rattle.kept_nodes.proofs.Hung.{keptSize-hung}
 use Rattle.kept_nodes.proofs.NodeWords.{node-short, node-length}
 use Rattle.kept_nodes.proofs.Parsed.{Fits, fits-are, own, parse-own, parse-of, stands}
@@ -34,14 +34,14 @@ bind-cong : (x : Read) (k m : Trie → Read) → ((l : Trie) → k l ≡ m l) �
 bind-cong bad k m f = refl
 bind-cong (ok l) k m f = f l
 
--- the end of a node is that of its second child
-after-second : (i j : ℕ) (l : Trie) (x : Read) → (l ≡ none → ⊥) → ((r : Trie) → x ≡ ok r → r ≡ none → ⊥) → j ≡ i + 1 + keptSize l
-    → keptAfter j x ≡ keptAfter i (bind x (λ r. ok (node l r)))
+-- the end of a node is that of its first child
+after-first : (i j : ℕ) (r : Trie) (x : Read) → (r ≡ none → ⊥) → ((l : Trie) → x ≡ ok l → l ≡ none → ⊥) → j ≡ i + 1 + keptSize r
+    → keptAfter j x ≡ keptAfter i (bind x (λ l. ok (node l r)))
 unfolding keptAfter keptSize
-after-second i j l bad nl nr e = refl
-after-second i j none (ok r) nl nr e = absurd (nl refl)
-after-second i j (node x y) (ok none) nl nr e = absurd (nr none refl refl)
-after-second i j (node x y) (ok (node z u)) nl nr e = omega arith
+after-first i j r bad nr nl e = refl
+after-first i j none (ok l) nr nl e = absurd (nr refl)
+after-first i j (node z u) (ok none) nr nl e = absurd (nl none refl refl)
+after-first i j (node z u) (ok (node x y)) nr nl e = omega arith
 
 after-lift : (i : ℕ) (q : Bits) (x : Read) → ((t : Trie) → x ≡ ok t → t ≡ none → ⊥) → keptAfter i (lift q x) ≡ keptAfter i x
 unfolding keptAfter
@@ -52,13 +52,13 @@ after-lift i q (ok t) ne = ap (λ m. i + m) (keptSize-hung q t (ne t refl))
 unfoldable pub reads : ℕ → List ℕ → ℕ → ℕ → Bits → ℕ → Read
 reads f w b n p i = keptParse f w b n (suc (width f)) p i
 
--- the number after all, where the part now read ends at e and the entries 1..k of the stack are the nodes whose second children are still to come
+-- the number after all, where the part now read ends at e and the entries 1..k of the stack are the nodes whose first children are still to come
 unfoldable pub unwind : ℕ → List ℕ → ℕ → ℕ → List ℕ → ℕ → ℕ → ℕ
 unwind f w b n ats zero e = e
 unwind f w b n ats (suc k) e =
     cond (eqb e 0) 0
     (cond (eqb (getD ats (suc k) 0 + distAt f w b (getD ats (suc k) 0)) e)
-    (unwind f w b n ats k (keptAfter e (reads f w b n (snoc (stringAt f w b (getD ats (suc k) 0)) true) e))) 0)
+    (unwind f w b n ats k (keptAfter e (reads f w b n (snoc (stringAt f w b (getD ats (suc k) 0)) false) e))) 0)
 
 module _ {f : ℕ} {w : List ℕ} {b n : ℕ} (room : KeptRoom f w b n) where
   parse-same : (j k : ℕ) (p : Bits) (i : ℕ) → suc (width f) ≤ j + length p → suc (width f) ≤ k + length p → 1 ≤ i → keptParse f w b n j p i ≡ keptParse f w b n k p i
@@ -76,20 +76,20 @@ module _ {f : ℕ} {w : List ℕ} {b n : ℕ} (room : KeptRoom f w b n) where
 
   -- the children of node i, and what is read there
   abbrev kids : ℕ → Trie → Read
-  kids i l = bind (second (distAt f w b i) l (reads f w b n (snoc (stringAt f w b i) true) (i + 1 + keptSize l))) (λ r. ok (node l r))
+  kids i r = bind (first (distAt f w b i) r (reads f w b n (snoc (stringAt f w b i) false) (i + 1 + keptSize r))) (λ l. ok (node l r))
 
   abbrev here : ℕ → Read
-  here i = cond (eqb (distAt f w b i) 0) (ok leaf) (bind (reads f w b n (snoc (stringAt f w b i) false) (i + 1)) (kids i))
+  here i = cond (eqb (distAt f w b i) 0) (ok leaf) (bind (reads f w b n (snoc (stringAt f w b i) true) (i + 1)) (kids i))
 
   own-here : (i : ℕ) → own f w b n (width f) i ≡ here i
   unfolding own reads
   own-here i =
       let s = stringAt f w b i in
-      let e : keptParse f w b n (width f) (snoc s false) (i + 1) ≡ keptParse f w b n (suc (width f)) (snoc s false) (i + 1) =
-      parse-same (width f) (suc (width f)) (snoc s false) (i + 1) (omega (arith, length-snoc s false)) (omega arith) (omega arith) in
-      let k : (l : Trie) → keptParse f w b n (width f) (snoc s true) (i + 1 + keptSize l) ≡ keptParse f w b n (suc (width f)) (snoc s true) (i + 1 + keptSize l) =
-      λ l. parse-same (width f) (suc (width f)) (snoc s true) (i + 1 + keptSize l) (omega (arith, length-snoc s true)) (omega arith) (omega arith) in
-      rw e (ap (λ x. cond (eqb (distAt f w b i) 0) (ok leaf) x) (bind-cong (keptParse f w b n (suc (width f)) (snoc s false) (i + 1)) _ (kids i) (λ l. rw (k l))))
+      let e : keptParse f w b n (width f) (snoc s true) (i + 1) ≡ keptParse f w b n (suc (width f)) (snoc s true) (i + 1) =
+      parse-same (width f) (suc (width f)) (snoc s true) (i + 1) (omega (arith, length-snoc s true)) (omega arith) (omega arith) in
+      let k : (r : Trie) → keptParse f w b n (width f) (snoc s false) (i + 1 + keptSize r) ≡ keptParse f w b n (suc (width f)) (snoc s false) (i + 1 + keptSize r) =
+      λ r. parse-same (width f) (suc (width f)) (snoc s false) (i + 1 + keptSize r) (omega (arith, length-snoc s false)) (omega arith) (omega arith) in
+      rw e (ap (λ x. cond (eqb (distAt f w b i) 0) (ok leaf) x) (bind-cong (keptParse f w b n (suc (width f)) (snoc s true) (i + 1)) _ (kids i) (λ r. rw (k r))))
 
   reads-here : (p : Bits) (i : ℕ) → fits f w b n p i ≡ true → reads f w b n p i ≡ lift (drop (length p) (stringAt f w b i)) (here i)
   unfolding reads
@@ -100,16 +100,16 @@ module _ {f : ℕ} {w : List ℕ} {b n : ℕ} (room : KeptRoom f w b n) where
   reads-not p i e = rw e
 
   here-solid : (i : ℕ) (t : Trie) → here i ≡ ok t → t ≡ none → ⊥
-  here-solid i t e z = go (eqb (distAt f w b i) 0) (reads f w b n (snoc (stringAt f w b i) false) (i + 1)) e
+  here-solid i t e z = go (eqb (distAt f w b i) 0) (reads f w b n (snoc (stringAt f w b i) true) (i + 1)) e
     where
-      last : (l : Trie) (x : Read) → bind x (λ r. ok (node l r)) ≡ ok t → ⊥
-      last l bad h = no-read t h
-      last l (ok r) h = (let q : node l r ≡ none = cc in some l r q)
+      last : (r : Trie) (x : Read) → bind x (λ l. ok (node l r)) ≡ ok t → ⊥
+      last r bad h = no-read t h
+      last r (ok l) h = (let q : node l r ≡ none = cc in some l r q)
 
       go : (c : Bool) (x : Read) → cond c (ok leaf) (bind x (kids i)) ≡ ok t → ⊥
       go true x h = (let q : leaf ≡ none = cc in some none none q)
       go false bad h = no-read t h
-      go false (ok l) h = last l (second (distAt f w b i) l (reads f w b n (snoc (stringAt f w b i) true) (i + 1 + keptSize l))) h
+      go false (ok r) h = last r (first (distAt f w b i) r (reads f w b n (snoc (stringAt f w b i) false) (i + 1 + keptSize r))) h
 
   after-here : (p : Bits) (i : ℕ) → fits f w b n p i ≡ true → keptAfter i (reads f w b n p i) ≡ keptAfter i (here i)
   after-here p i e = rw (reads-here p i e) (after-lift i (drop (length p) (stringAt f w b i)) (here i) (here-solid i))
@@ -130,7 +130,7 @@ module _ {f : ℕ} {w : List ℕ} {b n : ℕ} (room : KeptRoom f w b n) where
     unwind-lost (suc k) = refl
 
     unwind-top : (k e a : ℕ) → (k ≡ 0 → ⊥) → (e ≡ 0 → ⊥) → getD ats k 0 ≡ a → a + distAt f w b a ≡ e
-        → unwind f w b n ats k e ≡ unwind f w b n ats (k - 1) (keptAfter e (reads f w b n (snoc (stringAt f w b a) true) e))
+        → unwind f w b n ats k e ≡ unwind f w b n ats (k - 1) (keptAfter e (reads f w b n (snoc (stringAt f w b a) false) e))
     unfolding unwind
     unwind-top zero e a nz ne q at = absurd (nz refl)
     unwind-top (suc k) e a nz ne q at = rw (sub-one (suc k), q, ne-eqb e 0 ne, eq-eqb (a + distAt f w b a) e at)
@@ -146,7 +146,7 @@ module _ {f : ℕ} {w : List ℕ} {b n : ℕ} (room : KeptRoom f w b n) where
     unwind-below sp a (suc k) e lt =
         rw (
           getD-set-other ats sp (suc k) a 0 (omega arith),
-          unwind-below sp a k (keptAfter e (reads f w b n (snoc (stringAt f w b (getD ats (suc k) 0)) true) e))
+          unwind-below sp a k (keptAfter e (reads f w b n (snoc (stringAt f w b (getD ats (suc k) 0)) false) e))
               (omega arith),
         )
 
@@ -155,28 +155,28 @@ module _ {f : ℕ} {w : List ℕ} {b n : ℕ} (room : KeptRoom f w b n) where
     abbrev more : ℕ → ℕ
     more e = unwind f w b n (set ats sp i) sp e
 
-    pushed-ok : (l : Trie) → (l ≡ none → ⊥) → Dec (distAt f w b i ≡ 1 + keptSize l)
-        → more (i + 1 + keptSize l) ≡ unwind f w b n ats (sp - 1) (keptAfter i (kids i l))
+    pushed-ok : (r : Trie) → (r ≡ none → ⊥) → Dec (distAt f w b i ≡ 1 + keptSize r)
+        → more (i + 1 + keptSize r) ≡ unwind f w b n ats (sp - 1) (keptAfter i (kids i r))
     unfolding keptAfter
-    pushed-ok l nl (yes e) =
-        let j = i + 1 + keptSize l in
+    pushed-ok r nr (yes e) =
+        let j = i + 1 + keptSize r in
         unwind-top (set ats sp i) sp j i (omega arith) (omega arith) (getD-set-same ats sp i 0 lt) (omega arith)
-        ∙ unwind-below ats sp i (sp - 1) (keptAfter j (reads f w b n (snoc (stringAt f w b i) true) j)) (omega arith)
-        ∙ rw (eq-eqb (distAt f w b i) (1 + keptSize l) e) (ap (unwind f w b n ats (sp - 1)) (after-second i j l (reads f w b n (snoc (stringAt f w b i) true) j) nl
-        (solid (snoc (stringAt f w b i) true) j (omega arith)) refl))
-    pushed-ok l nl (no e) =
-        unwind-off (set ats sp i) sp (i + 1 + keptSize l) i (omega arith) (omega arith) (getD-set-same ats sp i 0 lt) (λ h. e (omega arith))
-        ∙ rw (ne-eqb (distAt f w b i) (1 + keptSize l) e) (sym (unwind-lost ats (sp - 1)))
+        ∙ unwind-below ats sp i (sp - 1) (keptAfter j (reads f w b n (snoc (stringAt f w b i) false) j)) (omega arith)
+        ∙ rw (eq-eqb (distAt f w b i) (1 + keptSize r) e) (ap (unwind f w b n ats (sp - 1)) (after-first i j r (reads f w b n (snoc (stringAt f w b i) false) j) nr
+        (solid (snoc (stringAt f w b i) false) j (omega arith)) refl))
+    pushed-ok r nr (no e) =
+        unwind-off (set ats sp i) sp (i + 1 + keptSize r) i (omega arith) (omega arith) (getD-set-same ats sp i 0 lt) (λ h. e (omega arith))
+        ∙ rw (ne-eqb (distAt f w b i) (1 + keptSize r) e) (sym (unwind-lost ats (sp - 1)))
 
-    pushed-read : (x : Read) → ((l : Trie) → x ≡ ok l → l ≡ none → ⊥) → more (keptAfter (i + 1) x) ≡ unwind f w b n ats (sp - 1) (keptAfter i (bind x (kids i)))
+    pushed-read : (x : Read) → ((r : Trie) → x ≡ ok r → r ≡ none → ⊥) → more (keptAfter (i + 1) x) ≡ unwind f w b n ats (sp - 1) (keptAfter i (bind x (kids i)))
     unfolding keptAfter
     pushed-read bad ne = unwind-lost (set ats sp i) sp ∙ sym (unwind-lost ats (sp - 1))
-    pushed-read (ok l) ne = pushed-ok l (ne l refl) (ℕ-discrete (distAt f w b i) (1 + keptSize l))
+    pushed-read (ok r) ne = pushed-ok r (ne r refl) (ℕ-discrete (distAt f w b i) (1 + keptSize r))
 
-    pub pushed-end : (p : Bits) → fits f w b n p i ≡ true → more (keptAfter (i + 1) (reads f w b n (snoc (stringAt f w b i) false) (i + 1))) ≡ unwind f w b n ats
+    pub pushed-end : (p : Bits) → fits f w b n p i ≡ true → more (keptAfter (i + 1) (reads f w b n (snoc (stringAt f w b i) true) (i + 1))) ≡ unwind f w b n ats
         (sp - 1) (keptAfter i (reads f w b n p i))
     pushed-end p e =
-        pushed-read (reads f w b n (snoc (stringAt f w b i) false) (i + 1)) (solid (snoc (stringAt f w b i) false) (i + 1) (omega arith))
+        pushed-read (reads f w b n (snoc (stringAt f w b i) true) (i + 1)) (solid (snoc (stringAt f w b i) true) (i + 1) (omega arith))
         ∙ ap (unwind f w b n ats (sp - 1)) (sym (after-here p i e ∙ rw (ne-eqb (distAt f w b i) 0 nd)))
 
 -- an entry of the stack: a node, with a string as long as there are entries below it
@@ -237,24 +237,24 @@ module _ {f : ℕ} {w : List ℕ} {b n root : ℕ} {ats : List ℕ} {sp i up : �
     elsewhere z nz off = sym (unwind-off room ats (sp - 1) (i + 1) (getD ats (sp - 1) 0) nz (omega arith) refl off) ∙ leaf-is z
 
     pub popped : d ≡ 0 → (sp - 1 ≡ 0 → ⊥) → getD ats (sp - 1) 0 + distAt f w b (getD ats (sp - 1) 0) ≡ i + 1
-        → Loop f w b n root (set ats sp i) (sp - 1) (i + 1) (getD ats (sp - 1) 0) true
+        → Loop f w b n root (set ats sp i) (sp - 1) (i + 1) (getD ats (sp - 1) 0) false
     popped z nz at =
         let a = getD ats (sp - 1) 0 in
         let g = o .each (sp - 1) (omega arith) (omega (arith, o .high)) in
-        let q = below-some f w b a true (g .one) in
+        let q = below-some f w b a false (g .one) in
         record {
           pos = omega arith;
           wide = length-set ats sp i ∙ o .wide;
           high = omega arith;
           above = record { within = g .within; short = λ ne. omega (arith, node-length f w b a (g .is), node-short f w b a (g .is)) };
-          deep = rw q (omega (arith, g .deep, length-snoc (stringAt f w b a) true));
+          deep = rw q (omega (arith, g .deep, length-snoc (stringAt f w b a) false));
           each = λ j p lt. rw (getD-set-other ats sp j i 0 (omega arith)) (o .each j p (omega arith));
           is = rw q (unwind-below room ats sp i (sp - 1 - 1) _ (omega arith) ∙ sym (unwind-top room ats (sp - 1) (i + 1) a nz (omega arith) refl at) ∙ leaf-is z);
         }
 
-    pub pushed : (d ≡ 0 → ⊥) → Loop f w b n root (set ats sp i) (sp + 1) (i + 1) i false
+    pub pushed : (d ≡ 0 → ⊥) → Loop f w b n root (set ats sp i) (sp + 1) (i + 1) i true
     pushed nz =
-        let q = below-some f w b i false (o .pos) in
+        let q = below-some f w b i true (o .pos) in
         let x = known-fits k in
         let lt : sp < length ats = omega (arith, o .wide, room-for) in
         let top : sp + 1 - 1 ≡ sp = omega arith in
@@ -264,7 +264,7 @@ module _ {f : ℕ} {w : List ℕ} {b n root : ℕ} {ats : List ℕ} {sp i up : �
           wide = length-set ats sp i ∙ o .wide;
           high = omega arith;
           above = record { within = x .within; short = λ ne. omega (arith, node-length f w b i (x .is), node-short f w b i (x .is)) };
-          deep = rw q (omega (arith, o .deep, known-deep k, length-snoc (stringAt f w b i) false));
+          deep = rw q (omega (arith, o .deep, known-deep k, length-snoc (stringAt f w b i) true));
           each = λ j p l. entry new lt j p l (ℕ-discrete j sp);
           is = rw (q, top) (pushed-end room ats sp i (o .high) lt (λ e. nz (k .dist ∙ e)) (below f w b up bit) (k .fit) ∙ o .is);
         }
@@ -327,10 +327,10 @@ module _ {f : ℕ} {w : List ℕ} {b n root : ℕ} {ats : List ℕ} {sp i up : �
             elsewhere room o k h (λ z. nz (omega arith)) (eqb-false _ (i + 1) q)
         go (no h) = let z : _≡_ {A = ℕ} 0 1 = cc (rw (ne-eqb d 0 h) at e) in absurd (omega arith)
 
-    pub on : cond (eqb d 0) (eqb (u + distAt f w b u) (i + 1)) true ≡ true → Loop f w b n root (set ats sp i) s (i + 1) u (eqb d 0)
+    pub on : cond (eqb d 0) (eqb (u + distAt f w b u) (i + 1)) true ≡ true → Loop f w b n root (set ats sp i) s (i + 1) u (not (eqb d 0))
     on e = go (ℕ-discrete d 0)
       where
-        go : Dec (d ≡ 0) → Loop f w b n root (set ats sp i) s (i + 1) u (eqb d 0)
+        go : Dec (d ≡ 0) → Loop f w b n root (set ats sp i) s (i + 1) u (not (eqb d 0))
         go (yes h) =
             let l = leaf-turn h in
             let q = rw (eq-eqb d 0 h, l .2) at e in

@@ -51,7 +51,7 @@ fn parent(sp: usize, d: u32) -> usize
     sp - 1
 }
 
-// After a member, the second child of node up is node i.
+// After a member, the first child of node up is node i.
 fn follows(w: &[u32], family: u8, b: usize, n: u32, up: u32, d: u32, i: u32) -> bool
     requires { ⌜ KeptRoom family (now w) b n × ((1 ≤ up) × (up ≤ n)) ⌝ }
     ensures { λ r. ⌜ r ≡ cond (eqb d 0) (eqb (up + distAt family (now (w .entry)) b up) i) true ⌝ }
@@ -62,7 +62,7 @@ fn follows(w: &[u32], family: u8, b: usize, n: u32, up: u32, d: u32, i: u32) -> 
     up + distance(w, family, b, n, up) == i
 }
 
-// The number after the trie that starts at node root, within n nodes, or 0 where there is none. The branch points whose second children are still to come are on a
+// The number after the trie that starts at node root, within n nodes, or 0 where there is none. The branch points whose first children are still to come are on a
 // stack, the entries from 1 to below sp. Every node is stored at sp, where it counts only if sp moves up.
 pub fn kept_end(w: &[u32], family: u8, b: usize, n: u32, root: u32) -> u32
     requires { ⌜ KeptRoom family (now w) b n × (1 ≤ root) ⌝ }
@@ -89,6 +89,6 @@ pub fn kept_end(w: &[u32], family: u8, b: usize, n: u32, root: u32) -> u32
         if !follows(w, family, b, n, up, d, i) {
             return 0;
         }
-        bit = d == 0;
+        bit = d != 0;
     }
 }

@@ -23,24 +23,12 @@ use Rattle.trie_emit.proofs.Answers.{by-kind, by-glue}
 use Rattle.trie_paths.specs.Spans.{snoc}
 use Rattle.trie_paths.proofs.Paths.{path-is, length-snoc}
 use Rattle.branch_points.specs.KeptTries.{kept, keptSize}
-use Rattle.branch_points.proofs.Sizes.{keptSize-some}
+use Rattle.branch_points.proofs.Sizes.{keptSize-some, keptSize-none, keptSize-halves, keptSize-second, keptSize-first, keptSize-both}
 use Rattle.kept_nodes.specs.Words.{stride, nodeWords, distance, ownWords, keptEnc, spot}
-use Rattle.kept_nodes.proofs.Places.{spot-on, spot-next, length-nodeWords, length-keptEnc}
+use Rattle.kept_nodes.proofs.Places.{spot-on, spot-next, spot-before, length-nodeWords, length-keptEnc, keptEnc-leaf, keptEnc-none}
 use Rattle.kept_emit.specs.Answers.{said, answer, body, Emits, sizeOf, restOf, isFull, Both, Pending, topWords}
 use Rattle.kept_emit.specs.declared.emitting.Emitted.{Emitted}
 use Rattle.kept_emit.specs.declared.emitting.Emitted.the-variants.{Empty, Full, Node}
-
--- a node stands before all later ones
-pub spot-le : (f b i j : ℕ) → i ≤ j → spot f b i ≤ spot f b j
-unfolding spot
-spot-le f b i j le = let h : i - 1 ≤ j - 1 = omega arith in omega (arith, mul-le-mul-left (stride f) h)
-
-pub spot-end : (f b n e : ℕ) → e ≤ suc n → spot f b e ≤ b + stride f * n
-unfolding spot
-spot-end f b n e le = let q : e - 1 ≤ n = omega arith in omega (arith, mul-le-mul-left (stride f) q)
-
-pub spot-before : (f b i e : ℕ) → 1 ≤ i → i < e → spot f b i + stride f ≤ spot f b e
-spot-before f b i e pos lt = rw (spot-next f b i pos) (spot-le f b (i + 1) e (omega arith))
 
 answer-node : (l r : Trie) → bare l r ≡ false → answer (node l r) ≡ Node (keptSize (node l r))
 unfolding answer
@@ -57,37 +45,6 @@ full-answer = by-kind (λ t. isFull (answer t) ≡ isLeaf t) refl refl (λ l r e
 pub size-is : (x : Emitted) (t : Trie) → x ≡ answer t → sizeOf x ≡ keptSize t
 size-is x t e = rw e (size-answer t)
 
-none-is : (t : Trie) → keptSize t ≡ 0 → t ≡ none
-none-is none e = refl
-none-is (node l r) e = absurd (omega (arith, keptSize-some (node l r) (some l r)))
-
-pub halves-le : (l r : Trie) → keptSize l + keptSize r ≤ keptSize (node l r)
-unfolding keptSize
-halves-le l r = go (kept l r)
-  where
-    go : (c : Bool) → keptSize l + keptSize r ≤ cond c 1 0 + keptSize l + keptSize r
-    go true = omega arith
-    go false = omega arith
-
--- the size of a node by those of its children
-size-second : (l r : Trie) → keptSize l ≡ 0 → (keptSize r ≡ 0 → ⊥) → keptSize (node l r) ≡ keptSize r
-unfolding keptSize
-size-second none none e f = absurd (f refl)
-size-second none (node x y) e f = omega arith
-size-second (node x y) r e f = absurd (omega (arith, keptSize-some (node x y) (some x y)))
-
-size-first : (l r : Trie) → keptSize r ≡ 0 → (keptSize l ≡ 0 → ⊥) → keptSize (node l r) ≡ keptSize l
-unfolding keptSize
-size-first none none e f = absurd (f refl)
-size-first (node x y) none e f = omega arith
-size-first l (node x y) e f = absurd (omega (arith, keptSize-some (node x y) (some x y)))
-
-size-both : (l r : Trie) → (keptSize l ≡ 0 → ⊥) → (keptSize r ≡ 0 → ⊥) → keptSize (node l r) ≡ 1 + keptSize l + keptSize r
-unfolding keptSize
-size-both none r e f = absurd (e refl)
-size-both (node x y) none e f = absurd (f refl)
-size-both (node x y) (node z u) e f = omega arith
-
 -- over two answers
 module _ (j : Bool) {x y : Emitted} {l r : Trie} (d : Both x y l r) (a c : ℕ) (ea : a ≡ sizeOf x) (ec : c ≡ sizeOf y) where
   pub sizes : (a ≡ keptSize l) × (c ≡ keptSize r)
@@ -95,7 +52,7 @@ module _ (j : Bool) {x y : Emitted} {l r : Trie} (d : Both x y l r) (a c : ℕ) 
 
   pub over-none : a + c ≡ 0 → Empty ≡ answer (glue j l r)
   unfolding answer
-  over-none h = rw (none-is l (omega (arith, sizes)), none-is r (omega (arith, sizes)))
+  over-none h = rw (keptSize-none l (omega (arith, sizes)), keptSize-none r (omega (arith, sizes)))
 
   module _ (z : Bool) (full : z ≡ (j && (isFull x && isFull y))) where
     leaves : z ≡ (j && (isLeaf l && isLeaf r))
@@ -118,30 +75,22 @@ module _ (j : Bool) {x y : Emitted} {l r : Trie} (d : Both x y l r) (a c : ℕ) 
       over-is = glue-node l r (λ e. nz (omega (arith, sizes))) (sym leaves ∙ apart)
 
       pub over-second : a ≡ 0 → Node (c) ≡ answer (glue j l r)
-      over-second e = sym (over-is ∙ ap Node (size-second l r (omega (arith, sizes)) (λ h. nz (omega (arith, sizes))) ∙ sym (sizes .1)))
+      over-second e = sym (over-is ∙ ap Node (keptSize-second l r (omega (arith, sizes)) (λ h. nz (omega (arith, sizes))) ∙ sym (sizes .1)))
 
       pub over-first : c ≡ 0 → Node (a) ≡ answer (glue j l r)
-      over-first e = sym (over-is ∙ ap Node (size-first l r (omega (arith, sizes)) (λ h. nz (omega (arith, sizes))) ∙ sym (sizes .0)))
+      over-first e = sym (over-is ∙ ap Node (keptSize-first l r (omega (arith, sizes)) (λ h. nz (omega (arith, sizes))) ∙ sym (sizes .0)))
 
       pub over-both : (a ≡ 0 → ⊥) → (c ≡ 0 → ⊥) → Node (1 + a + c) ≡ answer (glue j l r)
-      over-both f g = sym (over-is ∙ ap Node (size-both l r (λ h. f (omega (arith, sizes))) (λ h. g (omega (arith, sizes))) ∙ rw (sizes .0, sizes .1)))
+      over-both f g = sym (over-is ∙ ap Node (keptSize-both l r (λ h. f (omega (arith, sizes))) (λ h. g (omega (arith, sizes))) ∙ rw (sizes .0, sizes .1)))
 
 -- What was written, with what the answer left to write, is the whole.
-enc-leaf : (f : ℕ) (p : Bits) → keptEnc f p leaf ≡ nodeWords f p 0
-unfolding keptEnc distance
-enc-leaf f p = append-nil (nodeWords f p 0)
-
-enc-none : (f : ℕ) (p : Bits) → keptEnc f p none ≡ []
-unfolding keptEnc
-enc-none f p = refl
-
 rest-put : (f : ℕ) (p : Bits) (t : Trie) (w : List ℕ) (q : ℕ) → put (put w q (body f p t)) q (restOf f p (answer t)) ≡ put w q (keptEnc f p t)
 unfolding answer body
 rest-put f p t w q = by-kind (λ t. put (put w q (body f p t)) q (restOf f p (answer t)) ≡ put w q (keptEnc f p t))
-    (rest-none f p w q) (rw (put-nil w q, enc-leaf f p)) (λ l r e. rw (answer-node l r e, e) (put-nil (put w q (keptEnc f p (node l r))) q)) t
+    (rest-none f p w q) (rw (put-nil w q, keptEnc-leaf f p)) (λ l r e. rw (answer-node l r e, e) (put-nil (put w q (keptEnc f p (node l r))) q)) t
   where
     rest-none : (f : ℕ) (p : Bits) (w : List ℕ) (q : ℕ) → put (put w q []) q [] ≡ put w q (keptEnc f p none)
-    rest-none f p w q = rw (put-nil w q) (ap (put w q) (sym (enc-none f p)))
+    rest-none f p w q = rw (put-nil w q) (ap (put w q) (sym (keptEnc-none f p)))
 
 length-body : (f : ℕ) (p : Bits) (t : Trie) → length (body f p t) ≤ stride f * keptSize t
 unfolding body
@@ -151,38 +100,38 @@ length-body f p = by-kind (λ t. length (body f p t) ≤ stride f * keptSize t) 
       (node l r),
 )))
 
-halves-put : (f : ℕ) (v : List ℕ) (q s : ℕ) (p₀ p₁ : Bits) (l r : Trie) → s ≡ q + stride f * keptSize l
-    → put (put (put (put v s (body f p₁ r)) q (body f p₀ l)) s (restOf f p₁ (answer r))) q (restOf f p₀ (answer l)) ≡ put v q (keptEnc f p₀ l ++ keptEnc f p₁ r)
+halves-put : (f : ℕ) (v : List ℕ) (q s : ℕ) (p₀ p₁ : Bits) (l r : Trie) → s ≡ q + stride f * keptSize r
+    → put (put (put (put v s (body f p₀ l)) q (body f p₁ r)) s (restOf f p₀ (answer l))) q (restOf f p₁ (answer r)) ≡ put v q (keptEnc f p₁ r ++ keptEnc f p₀ l)
 halves-put f v q s p₀ p₁ l r e =
     rw (
-      put-swap (put v s (body f p₁ r)) q s (body f p₀ l) (restOf f p₁ (answer r)) (omega (arith, length-body f p₀ l)),
-      rest-put f p₁ r v s,
-      rest-put f p₀ l
-          (put v s (keptEnc f p₁ r)) q,
+      put-swap (put v s (body f p₀ l)) q s (body f p₁ r) (restOf f p₀ (answer l)) (omega (arith, length-body f p₁ r)),
+      rest-put f p₀ l v s,
+      rest-put f p₁ r
+          (put v s (keptEnc f p₀ l)) q,
     )
-    (put-before-at v q s (keptEnc f p₀ l) (keptEnc f p₁ r) (omega (arith, length-keptEnc f p₀ l)))
+    (put-before-at v q s (keptEnc f p₁ r) (keptEnc f p₀ l) (omega (arith, length-keptEnc f p₁ r)))
 
 -- the node over both, where it is a branch point
 module _ (f : ℕ) (v w : List ℕ) (b : ℕ) (p : Bits) (o m e : ℕ) where
-  top-put : (l r : Trie) → bare l r ≡ false → m + keptSize r ≡ e → o + keptSize l ≡ m → keptSize (node l r) < e
-      → w ≡ put v (spot f b o) (keptEnc f (snoc p false) l ++ keptEnc f (snoc p true) r)
+  top-put : (l r : Trie) → bare l r ≡ false → m + keptSize l ≡ e → o + keptSize r ≡ m → keptSize (node l r) < e
+      → w ≡ put v (spot f b o) (keptEnc f (snoc p true) r ++ keptEnc f (snoc p false) l)
       → put w (spot f b (o - 1)) (topWords f p o m e) ≡ put v (spot f b (e - keptSize (node l r))) (keptEnc f p (node l r))
   unfolding topWords keptEnc distance keptSize nodeWords
   top-put none none h em eo lt ew = let z : _≡_ {A = ℕ} 0 1 = cc in absurd (omega arith)
   top-put none (node x y) h em eo lt ew =
       let k : e - (0 + 0 + keptSize (node x y)) ≡ o = omega arith in
-      rw (le-ltb o m (omega arith), k) (put-nil w (spot f b (o - 1)) ∙ ew)
+      rw (lt-ltb o m (omega (arith, keptSize-some (node x y) (some x y))), le-ltb m e (omega arith), k) (put-nil w (spot f b (o - 1)) ∙ ew)
   top-put (node x y) none h em eo lt ew =
       let k : e - (0 + keptSize (node x y) + 0) ≡ o = omega arith in
-      rw (lt-ltb o m (omega (arith, keptSize-some (node x y) (some x y))), le-ltb m e (omega arith), k) (put-nil w (spot f b (o - 1)) ∙ ew)
+      rw (le-ltb o m (omega arith), k) (put-nil w (spot f b (o - 1)) ∙ ew)
   top-put (node x y) (node z u) h em eo lt ew =
       let k : e - (1 + keptSize (node x y) + keptSize (node z u)) ≡ o - 1 = omega arith in
-      let d : m - (o - 1) ≡ 1 + keptSize (node x y) = omega arith in
+      let d : m - (o - 1) ≡ 1 + keptSize (node z u) = omega arith in
       let q : o - 1 + 1 ≡ o = omega arith in
-      rw (lt-ltb o m (omega (arith, keptSize-some (node x y) (some x y))), lt-ltb m e (omega (arith, keptSize-some (node z u) (some z u))), k, d, ew)
-      (put-before-at v (spot f b (o - 1)) (spot f b o) (nodeWords f p (1 + keptSize (node x y))) (keptEnc f (snoc p false) (node x y) ++ keptEnc f (snoc p true)
-      (node z u))
-      (rw (length-nodeWords f p (1 + keptSize (node x y)), spot-next f b (o - 1) (omega arith), q)))
+      rw (lt-ltb o m (omega (arith, keptSize-some (node z u) (some z u))), lt-ltb m e (omega (arith, keptSize-some (node x y) (some x y))), k, d, ew)
+      (put-before-at v (spot f b (o - 1)) (spot f b o) (nodeWords f p (1 + keptSize (node z u))) (keptEnc f (snoc p true) (node z u) ++ keptEnc f (snoc p false)
+      (node x y))
+      (rw (length-nodeWords f p (1 + keptSize (node z u)), spot-next f b (o - 1) (omega arith), q)))
 
 module _ (f : ℕ) (p : Bits) (o m e : ℕ) where
   pub top-low : m ≤ o → topWords f p o m e ≡ []
@@ -202,10 +151,10 @@ pub Node≢ : (k : ℕ) → (Empty ≡ Node k → ⊥) × (Full ≡ Node k → �
 Node≢ k = (λ q. let z : _≡_ {A = ℕ} 0 1 = cc in omega arith, λ q. let z : _≡_ {A = ℕ} 0 1 = cc in omega arith)
 
 still : (f : ℕ) (j : Bool) (b : ℕ) (v : List ℕ) (p p₀ p₁ : Bits) (e s q : ℕ) (l r : Trie) → ((k : ℕ) → answer (glue j l r) ≡ Node k → ⊥)
-    → put (put v s (body f p₁ r)) q (body f p₀ l) ≡ put v (spot f b (e - keptSize (glue j l r))) (body f p (glue j l r))
+    → put (put v s (body f p₀ l)) q (body f p₁ r) ≡ put v (spot f b (e - keptSize (glue j l r))) (body f p (glue j l r))
 unfolding body
 still f j b v p p₀ p₁ e s q = by-glue (λ l r t. ((k : ℕ) → answer t ≡ Node k → ⊥)
-    → put (put v s (body f p₁ r)) q (body f p₀ l) ≡ put v (spot f b (e - keptSize t)) (body f p t)) j
+    → put (put v s (body f p₀ l)) q (body f p₁ r) ≡ put v (spot f b (e - keptSize t)) (body f p t)) j
     (λ g. put-nil (put v s []) q ∙ put-nil v s ∙ sym (put-nil v (spot f b (e - keptSize none)))) (λ h g. put-nil (put v s []) q ∙ put-nil v s
     ∙ sym (put-nil v (spot f b (e - keptSize leaf))))
     (λ l r h g. absurd (g (keptSize (node l r)) (answer-node l r h)))
@@ -222,8 +171,8 @@ bare-mixed l r e = rw e
 pub record Numbers (f n b o m e : ℕ) (x y : Emitted) : Type 0 where
   pub first : o ≤ m
   pub second : m ≤ e
-  pub full-r : y ≡ Full → (1 ≤ m) × (spot f b m + stride f ≤ n)
-  pub full-l : x ≡ Full → (1 ≤ o) × (spot f b o + stride f ≤ n)
+  pub full-l : x ≡ Full → (1 ≤ m) × (spot f b m + stride f ≤ n)
+  pub full-r : y ≡ Full → (1 ≤ o) × (spot f b o + stride f ≤ n)
   pub over : o < m → m < e → (1 < o) × (spot f b (o - 1) + stride f ≤ n)
   pub few : e ≤ 4194305
   pub low : b < 1073741824
@@ -233,25 +182,25 @@ module _ {f : ℕ} {v w : List ℕ} {b : ℕ} {j : Bool} {p : Bits} {e : ℕ} {x
   pub finish-flat : ((k : ℕ) → a ≡ Node k → ⊥) → Emits f v w b p e a (glue j l r)
   finish-flat nn = record {
     answers = answers;
-    wrote = h .wrote ∙ still f j b v p (snoc p false) (snoc p true) e (spot f b (e - keptSize r)) (spot f b
-        (e - keptSize r - keptSize l)) l r (λ k q. nn k (answers ∙ q));
+    wrote = h .wrote ∙ still f j b v p (snoc p false) (snoc p true) e (spot f b (e - keptSize l)) (spot f b
+        (e - keptSize l - keptSize r)) l r (λ k q. nn k (answers ∙ q));
   }
 
-  module _ (k : ℕ) (is : a ≡ Node k) (m o : ℕ) (em : m ≡ e - sizeOf y) (eo : o ≡ m - sizeOf x) where
+  module _ (k : ℕ) (is : a ≡ Node k) (m o : ℕ) (em : m ≡ e - sizeOf x) (eo : o ≡ m - sizeOf y) where
     whole : (glue j l r ≡ node l r) × (bare l r ≡ false)
     whole = answer-glue j k l r (sym answers ∙ is)
 
     enough : (spot f b e ≤ length w) × (keptSize (node l r) < e) × (e ≤ 4194305) × (b < 1073741824)
     enough = let q = whole in rw (q .0) at (h .room (rw (q .0) (bare-mixed l r (q .1))))
 
-    ends : (m + keptSize r ≡ e) × (o + keptSize l ≡ m) × (1 ≤ o)
-    ends = omega (arith, em, eo, size-is x l (h .both .first), size-is y r (h .both .second), halves-le l r, enough)
+    ends : (m + keptSize l ≡ e) × (o + keptSize r ≡ m) × (1 ≤ o)
+    ends = omega (arith, em, eo, size-is x l (h .both .first), size-is y r (h .both .second), keptSize-halves l r, enough)
 
     full-one : (z : Emitted) (t : Trie) → z ≡ answer t → z ≡ Full → 1 ≤ keptSize t
     full-one z t q full = let g : sizeOf z ≡ 1 = rw full in omega (arith, size-is z t q)
 
     two : (l r : Trie) → keptSize (node l r) < e → (keptSize l ≡ 0 → ⊥) → (keptSize r ≡ 0 → ⊥) → 1 + keptSize l + keptSize r < e
-    two l r lt nl nr = omega (arith, size-both l r nl nr)
+    two l r lt nl nr = omega (arith, keptSize-both l r nl nr)
 
     pub numbers : Numbers f (length w) b o m e x y
     numbers =
@@ -260,25 +209,25 @@ module _ {f : ℕ} {v w : List ℕ} {b : ℕ} {j : Bool} {p : Bits} {e : ℕ} {x
         record {
           first = omega arith;
           second = omega arith;
-          full-r = λ z. let k = full-one y r (h .both .second) z in (omega arith, omega (arith, n .0, spot-before f b m e (omega arith) (omega arith)));
-          full-l = λ z. let k = full-one x l (h .both .first) z in (omega arith, omega (arith, n .0, spot-before f b o e (omega arith) (omega arith)));
+          full-l = λ z. let k = full-one x l (h .both .first) z in (omega arith, omega (arith, n .0, spot-before f b m e (omega arith) (omega arith)));
+          full-r = λ z. let k = full-one y r (h .both .second) z in (omega arith, omega (arith, n .0, spot-before f b o e (omega arith) (omega arith)));
           over = λ p q. let k = two l r (n .1) (λ z. omega arith) (λ z. omega arith) in
               (omega arith, omega (arith, n .0, spot-before f b (o - 1) e (omega arith) (omega arith)));
           few = n .2;
           low = n .3;
         }
 
-    pub finish-node : (w₁ w₂ w₃ : List ℕ) → w₁ ≡ put w (spot f b m) (restOf f (snoc p true) y) → w₂ ≡ put w₁ (spot f b o) (restOf f (snoc p false) x)
+    pub finish-node : (w₁ w₂ w₃ : List ℕ) → w₁ ≡ put w (spot f b m) (restOf f (snoc p false) x) → w₂ ≡ put w₁ (spot f b o) (restOf f (snoc p true) y)
         → w₃ ≡ put w₂ (spot f b (o - 1)) (topWords f p o m e) → Emits f v w₃ b p e a (glue j l r)
     unfolding body
     finish-node w₁ w₂ w₃ e₁ e₂ e₃ =
         let d = ends in
         let g = whole in
-        let pm : e - keptSize r ≡ m = omega arith in
-        let po : m - keptSize l ≡ o = omega arith in
-        let z : w₂ ≡ put v (spot f b o) (keptEnc f (snoc p false) l ++ keptEnc f (snoc p true) r) =
+        let pm : e - keptSize l ≡ m = omega arith in
+        let po : m - keptSize r ≡ o = omega arith in
+        let z : w₂ ≡ put v (spot f b o) (keptEnc f (snoc p true) r ++ keptEnc f (snoc p false) l) =
         rw (e₂, e₁, h .wrote, h .both .first, h .both .second, pm, po) (halves-put f v (spot f b o) (spot f b m) (snoc p false) (snoc p true) l r (rw (← d .1) (sym
-        (spot-on f b o (keptSize l) (d .2))))) in
+        (spot-on f b o (keptSize r) (d .2))))) in
         record {
           answers = answers;
           wrote = rw (g .0, bare-mixed l r (g .1)) (e₃ ∙ top-put f v w₂ b p o m e l r (g .1) (d .0) (d .1) (enough .1) z);
@@ -292,9 +241,6 @@ module _ {f : ℕ} {v w : List ℕ} {b : ℕ} {j : Bool} {p : Bits} {e : ℕ} {x
   pub half-within : (c : Bool) → length (snoc p c) ≤ width f
   half-within c = omega (arith, h .short, length-snoc p c)
 
--- the network of a string shorter than the width has halves
-pub path-short : {n : Net} (f : ℕ) (q : Bits) → n ≡ netFrom f q → length q < width f → n .len < width (n .family)
-path-short {n} f q is lt = let g = path-is n f q is in rw (g .1) (omega (arith, g .0))
-
+-- the length of a string's network
 pub len-of : {n : Net} (f : ℕ) (q : Bits) → n ≡ netFrom f q → length q ≡ n .len
 len-of {n} f q is = sym (path-is n f q is .0)

@@ -4,58 +4,36 @@ use mathlib.Core.Bool.{Bool, true, false, cond}
 use mathlib.Core.List.{List, []}
 use mathlib.Core.Logic.{_⊎_, inl, inr, ⊎-elim}
 use Prim.Native.Nat.{ℕ, zero, suc, _+_, _-_, _*_, _≤_, _<_, _^_, max}
-use native.Mathlib.Nat.{mul-add, suc-mul, mul-le-mul-left}
 use native.Mathlib.Omega.{arith}
 use lib.ListN.{length}
 use Rattle.nets.specs.Bits.{Bits}
-use Rattle.nets.specs.Tries.{Trie, none, node, leaf, size, levels, glue, bare, listOf}
+use Rattle.nets.specs.Tries.{Trie, none, node, leaf, size, levels, glue, bare}
 use Rattle.nets.specs.TrieOps.{Kind, flat, mixed, kindOf, verdict, opT, half}
 use Rattle.nets.specs.Networks.{width, netFrom}
 use Rattle.nets.specs.declared.Net.{Net}
 use Rattle.nets.proofs.Glue.{levels-half}
-use Rattle.nets.proofs.Nodes.{nodesL-listOf}
 use Rattle.nets.proofs.Numbers.{width-le}
 use Rattle.nets.proofs.Operate.{flat≢mixed, verdict-levels, opHalf, opT-flat, opT-mixed}
 use Rattle.nodes.specs.Words.{put, Has, Apart}
 use Rattle.nodes.proofs.Put.{length-put, put-nil}
 use Rattle.nodes.proofs.Has.{has-put}
-use Rattle.nodes.proofs.Tries.{some}
 use Rattle.trie_emit.specs.Combine.{opOf, joined, opOn, rank}
 use Rattle.trie_emit.proofs.Answers.{by-kind, by-glue, length-body}
 use Rattle.trie_emit.proofs.Combine.{size-op}
 use Rattle.trie_paths.specs.Spans.{snoc}
 use Rattle.trie_paths.proofs.Paths.{length-snoc}
 use Rattle.branch_points.specs.KeptTries.{kept, keptSize}
-use Rattle.branch_points.proofs.Sizes.{keptSize-some}
-use Rattle.branch_points.proofs.Counts.{keptNodesL-listOf, keptNodesL-le}
+use Rattle.branch_points.proofs.Sizes.{keptSize-halves, size-deep}
+use Rattle.branch_points.proofs.Counts.{keptSize-le}
 use Rattle.kept_nodes.specs.Words.{stride, keptEnc, spot}
 use Rattle.kept_nodes.specs.Parse.{KeptRoom, KeptStands}
-use Rattle.kept_nodes.proofs.Places.{spot-on, length-keptEnc}
+use Rattle.kept_nodes.proofs.Places.{spot-on, spot-le, spot-end, length-keptEnc, room-put}
 use Rattle.kept_sources.specs.Sources.{KeptHere, KeptMeans, nothing, everything, standing}
 use Rattle.kept_emit.specs.Answers.{said, answer, body, Emits, sizeOf, Both, Pending}
 use Rattle.kept_emit.specs.Combine.{Inputs, Gap}
 use Rattle.kept_emit.specs.declared.emitting.Emitted.{Emitted}
 use Rattle.kept_emit.specs.declared.emitting.Emitted.the-variants.{Empty, Full}
-use Rattle.kept_emit.proofs.Answered.{spot-le, spot-end, halves-le, size-is}
-
--- All nodes of a trie of at most k levels are at most k times the kept ones.
-grown : (k s l r x y : ℕ) → x ≤ k * l → y ≤ k * r → l + r ≤ s → 1 ≤ s → k * (l + r) ≤ k * s → 1 + x + y ≤ suc k * s
-grown k s l r x y p q le one m = rw (suc-mul k s) (omega (arith, mul-add k l r))
-
-size-deep : (t : Trie) (k : ℕ) → levels t ≤ k → size t ≤ k * keptSize t
-unfolding size levels
-size-deep none k h = omega arith
-size-deep (node l r) zero h = absurd (omega arith)
-size-deep (node l r) (suc k) h =
-    grown k (keptSize (node l r)) (keptSize l) (keptSize r) (size l) (size r) (size-deep l k (omega arith)) (size-deep r k (omega arith)) (halves-le l r)
-    (keptSize-some (node l r) (some l r))
-    (mul-le-mul-left k (halves-le l r))
-
-pub keptSize-le : (t : Trie) → keptSize t ≤ size t
-keptSize-le t = omega (arith, keptNodesL-listOf t, nodesL-listOf t, keptNodesL-le (listOf t))
-
-room-put : {f : ℕ} {w : List ℕ} {b n : ℕ} (q : ℕ) (ys : List ℕ) → KeptRoom f w b n → KeptRoom f (put w q ys) b n
-room-put {f} {w} q ys r = record { family = r .family; low = r .low; few = r .few; long = rw (length-put w q ys) (r .long) }
+use Rattle.kept_emit.proofs.Answered.{size-is}
 
 module _ {f : ℕ} {w : List ℕ} {b n o e : ℕ} {p : Bits} where
   means-size : n ≤ 4194304 → (i : ℕ) (t : Trie) → KeptMeans f w b n o e p i t → size t ≤ 541065216
@@ -109,12 +87,12 @@ module _ {f : ℕ} {w : List ℕ} {b n o e : ℕ} {p : Bits} where
 
 -- where there is room for a trie there is for its halves
 fits-glue : (j : Bool) (o e : ℕ) → 1 ≤ o → (l r : Trie) → (kindOf (glue j l r) ≡ mixed → o + keptSize (glue j l r) ≤ e)
-    → (kindOf r ≡ mixed → o + keptSize r ≤ e) × (kindOf l ≡ mixed → o + keptSize l ≤ e - keptSize r) × (kindOf (glue j l r) ≡ mixed → keptSize (glue j l r) < e)
-fits-glue j o e one = by-glue (λ l r t. (kindOf t ≡ mixed → o + keptSize t ≤ e) → (kindOf r ≡ mixed → o + keptSize r ≤ e) × (kindOf l ≡ mixed
-    → o + keptSize l ≤ e - keptSize r) × (kindOf t ≡ mixed → keptSize t < e)) j
+    → (kindOf l ≡ mixed → o + keptSize l ≤ e) × (kindOf r ≡ mixed → o + keptSize r ≤ e - keptSize l) × (kindOf (glue j l r) ≡ mixed → keptSize (glue j l r) < e)
+fits-glue j o e one = by-glue (λ l r t. (kindOf t ≡ mixed → o + keptSize t ≤ e) → (kindOf l ≡ mixed → o + keptSize l ≤ e) × (kindOf r ≡ mixed
+    → o + keptSize r ≤ e - keptSize l) × (kindOf t ≡ mixed → keptSize t < e)) j
     (λ f. (λ h. absurd (flat≢mixed false h), λ h. absurd (flat≢mixed false h), λ h. absurd (flat≢mixed false h)))
     (λ q f. (λ h. absurd (flat≢mixed true h), λ h. absurd (flat≢mixed true h), λ h. absurd (flat≢mixed true h)))
-    (λ l r h f. let n = f (rw h) in (λ q. omega (arith, halves-le l r), λ q. omega (arith, halves-le l r), λ q. omega arith))
+    (λ l r h f. let n = f (rw h) in (λ q. omega (arith, keptSize-halves l r), λ q. omega (arith, keptSize-halves l r), λ q. omega arith))
 
 -- One step.
 rank-flat : (k : Kind) (x : Bool) → rank k ≡ rank (flat x) → k ≡ flat x
@@ -225,42 +203,42 @@ module _ {f : ℕ} {w : List ℕ} {b n op a c o e : ℕ} {p : Bits} {fuel : ℕ}
     pub foreseen : (z : Emitted) → ((v n : Trie) → Both x y v n → z ≡ answer (glue (joined op) v n)) → z ≡ answer (opOn op fuel t u)
     foreseen z k = rw step (k (part false) (part true) foreseen-both)
 
-  -- written: the second half, then the first
+  -- written: the first half, then the second
   module _ (g : Gap n o e (opOn op fuel t u)) where
-    fits : (kindOf (part true) ≡ mixed → o + keptSize (part true) ≤ e) × (kindOf (part false) ≡ mixed
-        → o + keptSize (part false) ≤ e - keptSize (part true)) × (kindOf (glue (joined op) (part false) (part true)) ≡ mixed
+    fits : (kindOf (part false) ≡ mixed → o + keptSize (part false) ≤ e) × (kindOf (part true) ≡ mixed
+        → o + keptSize (part true) ≤ e - keptSize (part false)) × (kindOf (glue (joined op) (part false) (part true)) ≡ mixed
         → keptSize (glue (joined op) (part false) (part true)) < e)
     fits = fits-glue (joined op) o e (g .one) (part false) (part true) (rw (← step) (g .fits))
 
     ended : kindOf (glue (joined op) (part false) (part true)) ≡ mixed → spot f b e ≤ length w
     ended h = omega (arith, d .src .hold .long, spot-end f b n e (g .room))
 
-    pub right-gap : Gap n o e (part true)
-    right-gap = record { one = g .one; fits = fits .0; room = g .room }
+    pub left-gap : Gap n o e (part false)
+    left-gap = record { one = g .one; fits = fits .0; room = g .room }
 
-    module _ (w₁ : List ℕ) (y : Emitted) (m : ℕ) (done : Emits f w w₁ b (snoc p true) e y (part true)) (start : m ≡ e - sizeOf y) where
-      middle : m ≡ e - keptSize (part true)
-      middle = start ∙ rw (size-is y (part true) (done .answers))
+    module _ (w₁ : List ℕ) (x : Emitted) (m : ℕ) (done : Emits f w w₁ b (snoc p false) e x (part false)) (start : m ≡ e - sizeOf x) where
+      middle : m ≡ e - keptSize (part false)
+      middle = start ∙ rw (size-is x (part false) (done .answers))
 
-      stays : (i : ℕ) (v : Trie) → KeptMeans f w b n o e (snoc p false) i v → KeptMeans f w₁ b n o m (snoc p false) i v
-      stays i v n = rw (done .wrote, middle) (means-stay (snoc p true) (part true) (g .one) (fits .0) i v n)
+      stays : (i : ℕ) (v : Trie) → KeptMeans f w b n o e (snoc p true) i v → KeptMeans f w₁ b n o m (snoc p true) i v
+      stays i v n = rw (done .wrote, middle) (means-stay (snoc p false) (part false) (g .one) (fits .0) i v n)
 
-      pub rest-inputs : Inputs f w₁ b n al cl o m (snoc p false) (fuel - 1) (half false t) (half false u)
-      rest-inputs = half-inputs w₁ (rw (done .wrote) (room-put (spot f b (e - keptSize (part true))) (body f (snoc p true) (part true))
-          (d .src .hold))) m false al cl (stays al (half false t) (d .left .0), stays cl (half false u) (d .left .1))
+      pub rest-inputs : Inputs f w₁ b n ar cr o m (snoc p true) (fuel - 1) (half true t) (half true u)
+      rest-inputs = half-inputs w₁ (rw (done .wrote) (room-put (spot f b (e - keptSize (part false))) (body f (snoc p false) (part false))
+          (d .src .hold))) m true ar cr (stays ar (half true t) (d .right .0), stays cr (half true u) (d .right .1))
 
       same : length w₁ ≡ length w
-      same = rw (done .wrote) (length-put w (spot f b (e - keptSize (part true))) (body f (snoc p true) (part true)))
+      same = rw (done .wrote) (length-put w (spot f b (e - keptSize (part false))) (body f (snoc p false) (part false)))
 
-      pub rest-gap : Gap n o m (part false)
+      pub rest-gap : Gap n o m (part true)
       rest-gap = record { one = g .one; fits = rw middle (fits .1); room = omega (arith, g .room, middle) }
 
-      module _ (w₂ : List ℕ) (x : Emitted) (done₂ : Emits f w₁ w₂ b (snoc p false) m x (part false)) where
+      module _ (w₂ : List ℕ) (y : Emitted) (done₂ : Emits f w₁ w₂ b (snoc p true) m y (part true)) where
         pub pending : Pending f w w₂ b (joined op) p e x y (part false) (part true)
         pending =
-            let len : length w₂ ≡ length w = rw (done₂ .wrote) (length-put w₁ (spot f b (m - keptSize (part false))) (body f (snoc p false) (part false)) ∙ same) in
+            let len : length w₂ ≡ length w = rw (done₂ .wrote) (length-put w₁ (spot f b (m - keptSize (part true))) (body f (snoc p true) (part true)) ∙ same) in
             record {
-              both = both x y (done₂ .answers) (done .answers);
+              both = both x y (done .answers) (done₂ .answers);
               wrote = rw (done₂ .wrote, done .wrote, middle);
               short = inside;
               room = λ h. (rw len (ended h), fits .2 h, omega (arith, g .room, d .src .hold .few), omega (arith, d .src .hold .low));

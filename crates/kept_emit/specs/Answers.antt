@@ -60,13 +60,13 @@ pub record Both (x y : Emitted) (l r : Trie) : Type 0 where
   pub second : y ≡ answer r
   pub small : keptSize l + keptSize r < 2 ^ 62
 
--- and w is v with what is written of them, the second before node e and the first before it, with room for what is over them, if it is more than a leaf
+-- and w is v with what is written of them, the first before node e and the second before it, with room for what is over them, if it is more than a leaf
 pub record Pending (f : ℕ) (v w : List ℕ) (b : ℕ) (j : Bool) (p : Bits) (e : ℕ) (x y : Emitted) (l r : Trie) : Type 0 where
   pub both : Both x y l r
-  pub wrote : w ≡ put (put v (spot f b (e - keptSize r)) (body f (snoc p true) r)) (spot f b (e - keptSize r - keptSize l)) (body f (snoc p false) l)
+  pub wrote : w ≡ put (put v (spot f b (e - keptSize l)) (body f (snoc p false) l)) (spot f b (e - keptSize l - keptSize r)) (body f (snoc p true) r)
   pub short : length p < width f
   pub room : kindOf (glue j l r) ≡ mixed → (spot f b e ≤ length w) × (keptSize (glue j l r) < e) × (e ≤ 4194305) × (b < 1073741824)
 
--- the node over two tries that begin at o and m, the second of which ends before e
+-- the node over two tries that begin at o and m, of which the one at m ends before e
 unfoldable pub topWords : ℕ → Bits → ℕ → ℕ → ℕ → List ℕ
 topWords f p o m e = ownWords (ltb o m && ltb m e) f p (m - (o - 1))

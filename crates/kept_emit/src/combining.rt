@@ -16,11 +16,11 @@ ghost use Rattle.kept_sources.specs.Sources.{KeptMeans};
 ghost use Rattle.kept_emit.specs.Answers.{answer, Emits};
 ghost use Rattle.kept_emit.specs.Combine.{Inputs, Gap};
 use crate::emitting::Emitted;
-use crate::emitting::child;
 use crate::emitting::finish;
 use crate::emitting::over;
 use crate::emitting::size_of;
 use crate::emitting::start_of;
+use kept_reading::strings::child;
 use kept_sources::EMPTY;
 use kept_sources::FULL;
 use kept_sources::kind;
@@ -155,10 +155,10 @@ pub fn emit(
     }
     let p = halves(w, family, b, n, a, c, d, false);
     let q = halves(w, family, b, n, a, c, d, true);
-    let second = child(path, true);
-    let r = emit(w, family, b, n, op, q.a, q.c, e, second, fuel - 1);
-    let m = start_of(r, e);
     let first = child(path, false);
-    let l = emit(w, family, b, n, op, p.a, p.c, m, first, fuel - 1);
+    let l = emit(w, family, b, n, op, p.a, p.c, e, first, fuel - 1);
+    let m = start_of(l, e);
+    let second = child(path, true);
+    let r = emit(w, family, b, n, op, q.a, q.c, m, second, fuel - 1);
     finish(w, family, b, op != 3, e, l, r, path)
 }

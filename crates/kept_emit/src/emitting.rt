@@ -1,4 +1,4 @@
-// Writing the result of a set operation, lazily and backward: the second half first, from the end down, then the first half, then the node over both if it is a branch point. So no place
+// Writing the result of a set operation, lazily and backward: the first half from the end down, then the second half before it, then the node over both if it is a branch point. So no place
 // is kept for a node that turns out to have one child only.
 ghost use mathlib.Core.Path.{_≡_};
 ghost use mathlib.Core.Bool.{_&&_};
@@ -9,12 +9,11 @@ ghost use Rattle.nets.specs.Bits.{Bits};
 ghost use Rattle.nets.specs.Tries.{Trie, glue};
 ghost use Rattle.nets.specs.Networks.{width, netFrom};
 ghost use Rattle.nodes.specs.Words.{put};
-ghost use Rattle.trie_paths.specs.Spans.{snoc};
 ghost use Rattle.kept_nodes.specs.Words.{spot, stride};
 ghost use Rattle.kept_emit.specs.Answers.{answer, Emits, sizeOf, restOf, isFull, Both, Pending, topWords};
+use kept_reading::strings::child;
 use kept_writing::write_node;
 use nets::Net;
-use trie_paths::halves;
 
 // What was written of a trie: nothing, as it is empty; nothing, as it is a single leaf; or that many nodes.
 pub enum Emitted {
@@ -90,17 +89,6 @@ pub fn over(joined: bool, l: Emitted, r: Emitted) -> Emitted
     Emitted::Node(1 + x + y)
 }
 
-// The half of the network p on the side of the bit.
-pub fn child(p: Net, bit: bool) -> Net
-    requires { ⌜ ((f : ℕ) × (q : Bits) × (p ≡ netFrom f q) × (length q < width f)) ⌝ }
-    ensures { λ r. ⌜ ((f : ℕ) (q : Bits) → p ≡ netFrom f q → r ≡ netFrom f (snoc q bit)) ⌝ }
-{
-    if bit {
-        return halves::second(p);
-    }
-    halves::first(p)
-}
-
 // Writes at node i the leaf that an answer left.
 fn settle(w: &mut [u32], family: u8, b: usize, i: usize, s: Net, x: Emitted)
     requires { ⌜ (x ≡ Emitted.Full → (1 ≤ i) × (spot family b i + stride family ≤ length (now w))) × ((i < 1073741824) × (b < 1073741824)) ⌝ }
@@ -113,7 +101,7 @@ fn settle(w: &mut [u32], family: u8, b: usize, i: usize, s: Net, x: Emitted)
     }
 }
 
-// Writes the node over two tries that begin at o and m, the second of which ends before e, where both have nodes.
+// Writes the node over two tries that begin at o and m, of which the one at m ends before e, where both have nodes.
 fn top(w: &mut [u32], family: u8, b: usize, o: usize, m: usize, e: usize, s: Net)
     requires { ⌜ (o < m → m < e → (1 < o) × (spot family b (o - 1) + stride family ≤ length (now w))) × ((o ≤ m) × ((m ≤ e) × ((e ≤ 4194305) × (b < 1073741824)))) ⌝ }
     ensures { λ _. ⌜ ((p : Bits) → s ≡ netFrom family p → length p ≤ width family → now (w .exit) ≡ put (now (w .entry)) (spot family b (o - 1)) (topWords family p o m e)) ⌝ }
@@ -146,12 +134,12 @@ pub fn finish(
         Emitted::Empty => x,
         Emitted::Full => x,
         Emitted::Node(_) => {
-            let m = start_of(r, e);
-            let o = start_of(l, m);
-            let second = child(path, true);
-            settle(w, family, b, m, second, r);
+            let m = start_of(l, e);
+            let o = start_of(r, m);
             let first = child(path, false);
-            settle(w, family, b, o, first, l);
+            settle(w, family, b, m, first, l);
+            let second = child(path, true);
+            settle(w, family, b, o, second, r);
             top(w, family, b, o, m, e, path);
             x
         }

@@ -68,7 +68,7 @@ module _ (f : ℕ) (w : List ℕ) (b n m i : ℕ) (q : Bits) (c : ℕ) (near : i
   abbrev turned : ℕ → Shown
   turned g =
       cond (onWay f w b i q) (cond (eqb (distAt f w b i) 0) (Member (lenAt f w b i) (c + 1))
-      (cond (eqb (lenAt f w b i) (length q)) (Nothing (c + 1)) (keptWalk f w b n g (lenAt f w b i + 1) (i + side (getD q (lenAt f w b i) false) 1 (distAt f w b i)) q
+      (cond (eqb (lenAt f w b i) (length q)) (Nothing (c + 1)) (keptWalk f w b n g (lenAt f w b i + 1) (i + side (getD q (lenAt f w b i) false) (distAt f w b i) 1) q
       (c + 1)))) (Nothing c)
 
   walk-turn : (j : ℕ) → (j ≡ 0 → ⊥) → keptWalk f w b n j m i q c ≡ turned (j - 1)
@@ -97,7 +97,7 @@ module _ (f : ℕ) (w : List ℕ) (b n : ℕ) where
     way-on = rw (len-is s, string-is s, le-leb (length p) (length (p ++ q)) (omega (arith, length-append p q))) (leads-append p q)
 
     here-turn : (j : ℕ) → (j ≡ 0 → ⊥) → keptWalk f w b n j m i (p ++ q) c ≡ cond (eqb d 0) (Member (length p) (c + 1)) (cond (eqb (length p) (length (p ++ q)))
-        (Nothing (c + 1)) (keptWalk f w b n (j - 1) (length p + 1) (i + side (getD (p ++ q) (length p) false) 1 d) (p ++ q) (c + 1)))
+        (Nothing (c + 1)) (keptWalk f w b n (j - 1) (length p + 1) (i + side (getD (p ++ q) (length p) false) d 1) (p ++ q) (c + 1)))
     here-turn j nz = walk-turn f w b n m i (p ++ q) c (rw (dist-is s) near) (rw (len-is s) le) j nz ∙ rw (way-on, len-is s, dist-is s)
 
   snoc-other : (p : Bits) (e : Bool) (q : Bits) → leads (snoc p e) (p ++ (not e ∷ q)) ≡ false
@@ -139,8 +139,8 @@ module _ (f : ℕ) (w : List ℕ) (b n : ℕ) where
     s .within,
   )) le j (omega arith))
 
-  at-right : {p : Bits} (i k : ℕ) {t : Trie} → KeptStands f w b n p (i + 1 + k) t → KeptStands f w b n p (i + (1 + k)) t
-  at-right i k s = let e : i + 1 + k ≡ i + (1 + k) = omega arith in rw e at s
+  at-left : {p : Bits} (i k : ℕ) {t : Trie} → KeptStands f w b n p (i + 1 + k) t → KeptStands f w b n p (i + (1 + k)) t
+  at-left i k s = let e : i + 1 + k ≡ i + (1 + k) = omega arith in rw e at s
 
   single : (e : Bool) (x y : Trie) (p q : Bits) (j m i c : ℕ) → 1 ≤ i → length q < j → m ≤ length p → KeptStands f w b n p i (fork e (node x y) none)
       → ((r : Bits) → length r < j → Finds (node x y) (snoc p e) r j m i c) → Finds (fork e (node x y) none) p q j m i c
@@ -160,35 +160,35 @@ module _ (f : ℕ) (w : List ℕ) (b n : ℕ) where
 
   -- a branch point
   branch : (x y z u : Trie) (p q : Bits) (j m i c : ℕ) → 1 ≤ i → length q < j → m ≤ length p → KeptStands f w b n p i (node (node x y) (node z u))
-      → ((r : Bits) → length r < j - 1 → Finds (node x y) (snoc p false) r (j - 1) (length p + 1) (i + 1) (c + 1))
-      → ((r : Bits) → length r < j - 1 → Finds (node z u) (snoc p true) r (j - 1) (length p + 1) (i + (1 + keptSize (node x y))) (c + 1))
+      → ((r : Bits) → length r < j - 1 → Finds (node x y) (snoc p false) r (j - 1) (length p + 1) (i + (1 + keptSize (node z u))) (c + 1))
+      → ((r : Bits) → length r < j - 1 → Finds (node z u) (snoc p true) r (j - 1) (length p + 1) (i + 1) (c + 1))
       → Finds (node (node x y) (node z u)) p q j m i c
   unfolding searchT keptStepsT
   branch x y z u p [] j m i c pos lt le s il ir =
       let d = branch-split pos s in
-      let near : i + (1 + keptSize (node x y)) ≤ n = omega (arith, d .right .within, keptSize-some (node z u) (some z u)) in
-      here-turn m i c (1 + keptSize (node x y)) p [] (d .root) near le j (omega arith)
-      ∙ rw (ne-eqb (1 + keptSize (node x y)) 0 (λ e. omega arith), eq-eqb (length p) (length (p ++ [])) (sym (ap length (append-nil p))))
+      let near : i + (1 + keptSize (node z u)) ≤ n = omega (arith, d .left .within, keptSize-some (node x y) (some x y)) in
+      here-turn m i c (1 + keptSize (node z u)) p [] (d .root) near le j (omega arith)
+      ∙ rw (ne-eqb (1 + keptSize (node z u)) 0 (λ e. omega arith), eq-eqb (length p) (length (p ++ [])) (sym (ap length (append-nil p))))
   branch x y z u p (false ∷ q) j m i c pos lt le s il ir =
       let d = branch-split pos s in
-      let near : i + (1 + keptSize (node x y)) ≤ n = omega (arith, d .right .within, keptSize-some (node z u) (some z u)) in
-      here-turn m i c (1 + keptSize (node x y)) p (false ∷ q) (d .root) near le j (omega arith)
+      let near : i + (1 + keptSize (node z u)) ≤ n = omega (arith, d .left .within, keptSize-some (node x y) (some x y)) in
+      here-turn m i c (1 + keptSize (node z u)) p (false ∷ q) (d .root) near le j (omega arith)
       ∙ rw (
-        ne-eqb (1 + keptSize (node x y)) 0 (λ e. omega arith),
+        ne-eqb (1 + keptSize (node z u)) 0 (λ e. omega arith),
         ne-eqb (length p) (length (p ++ (false ∷ q))) (λ e. omega (arith, length-append p (false ∷ q))),
         getD-append-seam p false q false,
       )
-      (down false (node x y) p q (j - 1) (i + 1) c (il q (omega arith)))
+      (down false (node x y) p q (j - 1) (i + (1 + keptSize (node z u))) c (il q (omega arith)))
   branch x y z u p (true ∷ q) j m i c pos lt le s il ir =
       let d = branch-split pos s in
-      let near : i + (1 + keptSize (node x y)) ≤ n = omega (arith, d .right .within, keptSize-some (node z u) (some z u)) in
-      here-turn m i c (1 + keptSize (node x y)) p (true ∷ q) (d .root) near le j (omega arith)
+      let near : i + (1 + keptSize (node z u)) ≤ n = omega (arith, d .left .within, keptSize-some (node x y) (some x y)) in
+      here-turn m i c (1 + keptSize (node z u)) p (true ∷ q) (d .root) near le j (omega arith)
       ∙ rw (
-        ne-eqb (1 + keptSize (node x y)) 0 (λ e. omega arith),
+        ne-eqb (1 + keptSize (node z u)) 0 (λ e. omega arith),
         ne-eqb (length p) (length (p ++ (true ∷ q))) (λ e. omega (arith, length-append p (true ∷ q))),
         getD-append-seam p true q false,
       )
-      (down true (node z u) p q (j - 1) (i + (1 + keptSize (node x y))) c (ir q (omega arith)))
+      (down true (node z u) p q (j - 1) (i + 1) c (ir q (omega arith)))
 
   walk-search : (t : Trie) (p q : Bits) (j m i c : ℕ) → 1 ≤ i → (t ≡ none → ⊥) → length q < j → m ≤ length p → KeptStands f w b n p i t → Finds t p q j m i c
   walk-search none p q j m i c pos ne lt le s = absurd (ne refl)
@@ -202,12 +202,12 @@ module _ (f : ℕ) (w : List ℕ) (b n : ℕ) where
   walk-search (node (node x y) (node z u)) p q j m i c pos ne lt le s =
       let d = branch-split pos s in
       branch x y z u p q j m i c pos lt le s
-      (λ r lr. walk-search (node x y) (snoc p false) r (j - 1) (length p + 1) (i + 1) (c + 1) (omega arith) (some x y) lr (omega (arith, length-snoc p false))
-      (d .left))
-      (λ r lr. walk-search (node z u) (snoc p true) r (j - 1) (length p + 1) (i + (1 + keptSize (node x y))) (c + 1) (omega arith) (some z u) lr (omega (
+      (λ r lr. walk-search (node x y) (snoc p false) r (j - 1) (length p + 1) (i + (1 + keptSize (node z u))) (c + 1) (omega arith) (some x y) lr (omega (
         arith,
-        length-snoc p true,
-      )) (at-right i (keptSize (node x y)) (d .right)))
+        length-snoc p false,
+      )) (at-left i (keptSize (node z u)) (d .left)))
+      (λ r lr. walk-search (node z u) (snoc p true) r (j - 1) (length p + 1) (i + 1) (c + 1) (omega arith) (some z u) lr (omega (arith, length-snoc p true))
+      (d .right))
 
   -- the root of a trie, and of a list: what its words show is its supernet, with its count
   pub walk-trie : (t : Trie) (q : Bits) (i : ℕ) → 1 ≤ i → (t ≡ none → ⊥) → KeptStands f w b n [] i t

@@ -85,7 +85,7 @@ module _ {f : ℕ} {w : List ℕ} {b n root : ℕ} {q : Net} {i least count : �
 
     module _ (ge : least ≤ s .len) where
       abbrev onward : Shown
-      onward = keptWalk f w b n (q .len - count) (lenAt f w b i + 1) (i + side (getD (netBits q) (lenAt f w b i) false) 1 (distAt f w b i)) (netBits q) (count + 1)
+      onward = keptWalk f w b n (q .len - count) (lenAt f w b i + 1) (i + side (getD (netBits q) (lenAt f w b i) false) (distAt f w b i) 1) (netBits q) (count + 1)
 
       here : cond (onWay f w b i (netBits q)) (cond (eqb (distAt f w b i) 0) (Member (lenAt f w b i) (count + 1)) (cond (eqb (lenAt f w b i) (length (netBits q)))
           (Nothing (count + 1)) onward)) (Nothing count) ≡ keptWalkFrom f w b n (netBits q) root
@@ -114,12 +114,12 @@ module _ {f : ℕ} {w : List ℕ} {b n root : ℕ} {q : Net} {i least count : �
           pub down-end : (d ≡ 0 → ⊥) → s .len ≡ q .len → Answer (Nothing (count + 1))
           down-end nz e = rw (ne-eqb d 0 nz, eq-eqb (s .len) (length (netBits q)) (omega (arith, query-length ask))) at led
 
-          pub down-on : (d ≡ 0 → ⊥) → (s .len ≡ q .len → ⊥) → (bit : Bool) (x : ℕ) → bit ≡ getD (netBits q) (s .len) false → x ≡ side bit 1 d
+          pub down-on : (d ≡ 0 → ⊥) → (s .len ≡ q .len → ⊥) → (bit : Bool) (x : ℕ) → bit ≡ getD (netBits q) (s .len) false → x ≡ side bit d 1
               → Down f w b n root q (i + x) (s .len + 1) (count + 1)
           down-on nz ne bit x bt e =
               let k : q .len - count ≡ suc (q .len - (count + 1)) = omega (arith, g .grown, ne) in
               let h = rw (ne-eqb d 0 nz, ne-eqb (s .len) (length (netBits q)) (λ z. ne (omega (arith, query-length ask))), k) at led in
-              let t : x ≡ side (getD (netBits q) (s .len) false) 1 d = rw (← bt) e in
+              let t : x ≡ side (getD (netBits q) (s .len) false) d 1 = rw (← bt) e in
               record {
                 one = omega (arith, g .one);
                 within = near bit e;
@@ -128,7 +128,7 @@ module _ {f : ℕ} {w : List ℕ} {b n root : ℕ} {q : Net} {i least count : �
                 rest = rw (t, len-is, m .dist) h;
               }
             where
-              near : (c : Bool) → x ≡ side c 1 d → i + x ≤ n
+              near : (c : Bool) → x ≡ side c d 1 → i + x ≤ n
               near true u = omega arith
               near false u = omega arith
 
@@ -138,8 +138,8 @@ unfolding keptWalk
 counted-in f w b n zero m i q c = omega arith
 counted-in f w b n (suc k) m i q c =
     go (leb (i + distAt f w b i) n && leb m (lenAt f w b i)) (onWay f w b i q) (eqb (distAt f w b i) 0) (eqb (lenAt f w b i) (length q)) (lenAt f w b i)
-    (keptWalk f w b n k (lenAt f w b i + 1) (i + side (getD q (lenAt f w b i) false) 1 (distAt f w b i)) q (c + 1))
-    (counted-in f w b n k (lenAt f w b i + 1) (i + side (getD q (lenAt f w b i) false) 1 (distAt f w b i)) q (c + 1))
+    (keptWalk f w b n k (lenAt f w b i + 1) (i + side (getD q (lenAt f w b i) false) (distAt f w b i) 1) q (c + 1))
+    (counted-in f w b n k (lenAt f w b i + 1) (i + side (getD q (lenAt f w b i) false) (distAt f w b i) 1) q (c + 1))
   where
     go : (x y z u : Bool) (d : ℕ) (s : Shown) → countedIn s ≤ c + 1 + k → countedIn (cond x (cond y (cond z (Member d (c + 1)) (cond u (Nothing (c + 1)) s))
         (Nothing c)) Damaged) ≤ c + suc k

@@ -28,7 +28,7 @@ keptWalk f w b n (suc k) m i q c =
     (cond (onWay f w b i q)
     (cond (eqb (distAt f w b i) 0) (Member (lenAt f w b i) (c + 1))
     (cond (eqb (lenAt f w b i) (length q)) (Nothing (c + 1))
-    (keptWalk f w b n k (lenAt f w b i + 1) (i + side (getD q (lenAt f w b i) false) 1 (distAt f w b i)) q (c + 1))))
+    (keptWalk f w b n k (lenAt f w b i + 1) (i + side (getD q (lenAt f w b i) false) (distAt f w b i) 1) q (c + 1))))
     (Nothing c))
     Damaged
 

@@ -17,14 +17,14 @@ pub enum Shown {
     Damaged,
 }
 
-// The distance to the child on the side of the bit, where d is the second's.
+// The distance to the child on the side of the bit, where d is the first's.
 fn step(second: bool, d: u32) -> u32
-    ensures { λ r. ⌜ r ≡ side second 1 d ⌝ }
+    ensures { λ r. ⌜ r ≡ side second d 1 ⌝ }
 {
     if second {
-        return d;
+        return 1;
     }
-    1
+    d
 }
 
 // What the path down from the root's number shows, where the nodes 1..=n stand from b on. A string is read where its length is no more than the query's.

@@ -45,8 +45,8 @@ levels-fork true t = omega arith
 pub keptEnc-fork : (f : ℕ) (p : Bits) (c : Bool) (t : Trie) → (t ≡ none → ⊥) → keptEnc f p (fork c t none) ≡ keptEnc f (snoc p c) t
 unfolding keptEnc
 keptEnc-fork f p c none ne = absurd (ne refl)
-keptEnc-fork f p false (node l r) ne = append-nil _
-keptEnc-fork f p true (node l r) ne = refl
+keptEnc-fork f p false (node l r) ne = refl
+keptEnc-fork f p true (node l r) ne = append-nil _
 
 -- and many
 pub hung-some : (q : Bits) (t : Trie) → (t ≡ none → ⊥) → hung q t ≡ none → ⊥

@@ -21,7 +21,7 @@ use Rattle.trie_paths.proofs.Paths.{length-snoc}
 use Rattle.branch_points.specs.KeptTries.{keptSize}
 use Rattle.branch_points.proofs.Members.{leads-snoc}
 use Rattle.kept_nodes.specs.Words.{nodeWords, distance, keptEnc, spot, stride}
-use Rattle.kept_nodes.specs.Parse.{KeptRoom, distAt, stringAt, isNode, hung, lift, second, fits, keptParse, KeptStands}
+use Rattle.kept_nodes.specs.Parse.{KeptRoom, distAt, stringAt, isNode, hung, lift, first, fits, keptParse, KeptStands}
 use Rattle.kept_nodes.proofs.Places.{spot-on, spot-next, spot-within, length-nodeWords, length-keptEnc}
 use Rattle.kept_nodes.proofs.Hung.{leads-drop, drop-snoc, drop-all, hung-some, keptSize-hung, keptSize-fork, levels-hung, levels-fork, keptEnc-hung, keptEnc-fork}
 use Rattle.kept_nodes.proofs.NodeWords.{Says, dist-is, string-is, is-node, node-short, node-says}
@@ -66,8 +66,8 @@ module _ (f : ℕ) (w : List ℕ) (b n : ℕ) where
   unfoldable pub own : ℕ → ℕ → Read
   own k i =
       cond (eqb (distAt f w b i) 0) (ok leaf)
-      (bind (keptParse f w b n k (snoc (stringAt f w b i) false) (i + 1))
-      (λ l. bind (second (distAt f w b i) l (keptParse f w b n k (snoc (stringAt f w b i) true) (i + 1 + keptSize l))) (λ r. ok (node l r))))
+      (bind (keptParse f w b n k (snoc (stringAt f w b i) true) (i + 1))
+      (λ r. bind (first (distAt f w b i) r (keptParse f w b n k (snoc (stringAt f w b i) false) (i + 1 + keptSize r))) (λ l. ok (node l r))))
 
   pub parse-own : (k : ℕ) (p : Bits) (i : ℕ) → Fits f w b n p i → keptParse f w b n (suc k) p i ≡ lift (drop (length p) (stringAt f w b i)) (own k i)
   unfolding keptParse own
@@ -86,9 +86,9 @@ module _ (f : ℕ) (w : List ℕ) (b n : ℕ) where
 
 -- The words of a branch point: its own, and those of its children.
 pub record Split (f : ℕ) (w : List ℕ) (b n : ℕ) (p : Bits) (i : ℕ) (l r : Trie) : Type 0 where
-  pub root : Says f w b i p (1 + keptSize l)
-  pub left : KeptStands f w b n (snoc p false) (i + 1) l
-  pub right : KeptStands f w b n (snoc p true) (i + 1 + keptSize l) r
+  pub root : Says f w b i p (1 + keptSize r)
+  pub right : KeptStands f w b n (snoc p true) (i + 1) r
+  pub left : KeptStands f w b n (snoc p false) (i + 1 + keptSize r) l
 
 module _ {f : ℕ} {w : List ℕ} {b n : ℕ} {p : Bits} {i : ℕ} (pos : 1 ≤ i) where
   -- one child only: the same words, below a longer string
@@ -108,22 +108,22 @@ module _ {f : ℕ} {w : List ℕ} {b n : ℕ} {p : Bits} {i : ℕ} (pos : 1 ≤ 
   branch-split {x} {y} {z} {u} s =
       let l = node x y in
       let r = node z u in
-      let ws = nodeWords f p (1 + keptSize l) in
-      let h : Has w (spot f b i) (ws ++ (keptEnc f (snoc p false) l ++ keptEnc f (snoc p true) r)) = s .has in
-      let k : Has w (spot f b (i + 1)) (keptEnc f (snoc p false) l ++ keptEnc f (snoc p true) r) =
-      has-at (rw (length-nodeWords f p (1 + keptSize l)) (spot-next f b i pos)) (has-back ws _ h) in
+      let ws = nodeWords f p (1 + keptSize r) in
+      let h : Has w (spot f b i) (ws ++ (keptEnc f (snoc p true) r ++ keptEnc f (snoc p false) l)) = s .has in
+      let k : Has w (spot f b (i + 1)) (keptEnc f (snoc p true) r ++ keptEnc f (snoc p false) l) =
+      has-at (rw (length-nodeWords f p (1 + keptSize r)) (spot-next f b i pos)) (has-back ws _ h) in
       record {
         root = record { short = omega (arith, s .deep); has = has-front ws _ h };
-        left = record {
-          deep = omega (arith, s .deep, length-snoc p false);
-          within = omega (arith, s .within);
-          has = has-front (keptEnc f (snoc p false) l) (keptEnc f (snoc p true) r) k;
-        };
         right = record {
           deep = omega (arith, s .deep, length-snoc p true);
           within = omega (arith, s .within);
-          has = has-at (rw (length-keptEnc f (snoc p false) l) (spot-on f b (i + 1) (keptSize l) (omega arith))) (has-back (keptEnc f (snoc p false) l) (keptEnc f
-              (snoc p true) r) k);
+          has = has-front (keptEnc f (snoc p true) r) (keptEnc f (snoc p false) l) k;
+        };
+        left = record {
+          deep = omega (arith, s .deep, length-snoc p false);
+          within = omega (arith, s .within);
+          has = has-at (rw (length-keptEnc f (snoc p true) r) (spot-on f b (i + 1) (keptSize r) (omega arith))) (has-back (keptEnc f (snoc p true) r) (keptEnc f
+              (snoc p false) l) k);
         };
       }
 
@@ -139,10 +139,10 @@ module _ (f : ℕ) (w : List ℕ) (b n : ℕ) where
   unfolding own
   own-leaf k s = rw (dist-is s)
 
-  own-branch : (k : ℕ) {p : Bits} {i : ℕ} (l r : Trie) → Says f w b i p (1 + keptSize l) → keptParse f w b n k (snoc p false) (i + 1) ≡ ok l
-      → keptParse f w b n k (snoc p true) (i + 1 + keptSize l) ≡ ok r → own f w b n k i ≡ ok (node l r)
+  own-branch : (k : ℕ) {p : Bits} {i : ℕ} (l r : Trie) → Says f w b i p (1 + keptSize r) → keptParse f w b n k (snoc p true) (i + 1) ≡ ok r
+      → keptParse f w b n k (snoc p false) (i + 1 + keptSize r) ≡ ok l → own f w b n k i ≡ ok (node l r)
   unfolding own
-  own-branch k l r s x y = rw (dist-is s, string-is s, ne-eqb (1 + keptSize l) 0 (λ e. omega arith), x, eq-eqb (1 + keptSize l) (1 + keptSize l) refl, y)
+  own-branch k l r s x y = rw (dist-is s, string-is s, ne-eqb (1 + keptSize r) 0 (λ e. omega arith), x, eq-eqb (1 + keptSize r) (1 + keptSize r) refl, y)
 
   -- where the words hold a trie, it is what is read
   pub parse-of : (t : Trie) (k : ℕ) (p : Bits) (i : ℕ) → 1 ≤ i → (t ≡ none → ⊥) → suc (width f) ≤ k + length p → KeptStands f w b n p i t
@@ -162,8 +162,8 @@ module _ (f : ℕ) (w : List ℕ) (b n : ℕ) where
       let nz : k ≡ 0 → ⊥ = λ e. omega (arith, s .deep) in
       parse-root k (node (node x y) (node z u)) nz (omega (arith, s .within)) (d .root)
       (own-branch (k - 1) (node x y) (node z u) (d .root)
-      (parse-of (node x y) (k - 1) (snoc p false) (i + 1) (omega arith) (some x y) (omega (arith, nz, length-snoc p false)) (d .left))
-      (parse-of (node z u) (k - 1) (snoc p true) (i + 1 + keptSize (node x y)) (omega arith) (some z u) (omega (arith, nz, length-snoc p true)) (d .right)))
+      (parse-of (node z u) (k - 1) (snoc p true) (i + 1) (omega arith) (some z u) (omega (arith, nz, length-snoc p true)) (d .right))
+      (parse-of (node x y) (k - 1) (snoc p false) (i + 1 + keptSize (node z u)) (omega arith) (some x y) (omega (arith, nz, length-snoc p false)) (d .left)))
 
 -- And what is read stands there.
 module _ {f : ℕ} {w : List ℕ} {b n : ℕ} (room : KeptRoom f w b n) where
@@ -182,8 +182,8 @@ module _ {f : ℕ} {w : List ℕ} {b n : ℕ} (room : KeptRoom f w b n) where
         has = has-join (nodeWords f (stringAt f w b i) 0) [] h (record { fits = omega (arith, spot-within i room pos le); at = λ k l. absurd (omega arith) });
       }
 
-  branch-stands : (i : ℕ) (l r : Trie) → 1 ≤ i → i ≤ n → isNode f w b i ≡ true → distAt f w b i ≡ 1 + keptSize l → (l ≡ none → ⊥) → (r ≡ none → ⊥)
-      → KeptStands f w b n (snoc (stringAt f w b i) false) (i + 1) l → KeptStands f w b n (snoc (stringAt f w b i) true) (i + 1 + keptSize l) r
+  branch-stands : (i : ℕ) (l r : Trie) → 1 ≤ i → i ≤ n → isNode f w b i ≡ true → distAt f w b i ≡ 1 + keptSize r → (l ≡ none → ⊥) → (r ≡ none → ⊥)
+      → KeptStands f w b n (snoc (stringAt f w b i) true) (i + 1) r → KeptStands f w b n (snoc (stringAt f w b i) false) (i + 1 + keptSize r) l
       → KeptStands f w b n (stringAt f w b i) i (node l r)
   unfolding keptEnc distance keptSize levels
   branch-stands i none r pos le e z nl nr p q = absurd (nl refl)
@@ -192,15 +192,15 @@ module _ {f : ℕ} {w : List ℕ} {b n : ℕ} (room : KeptRoom f w b n) where
       let l = node x y in
       let r = node g u in
       let s = stringAt f w b i in
-      let ws = nodeWords f s (1 + keptSize l) in
+      let ws = nodeWords f s (1 + keptSize r) in
       let h : Has w (spot f b i) ws = rw z at (says-at i pos le e .has) in
-      let a : spot f b (i + 1) ≡ spot f b i + length ws = rw (length-nodeWords f s (1 + keptSize l)) (sym (spot-next f b i pos)) in
-      let c : spot f b (i + 1 + keptSize l) ≡ spot f b i + length ws + length (keptEnc f (snoc s false) l) =
-      rw (← a, length-keptEnc f (snoc s false) l) (sym (spot-on f b (i + 1) (keptSize l) (omega arith))) in
+      let a : spot f b (i + 1) ≡ spot f b i + length ws = rw (length-nodeWords f s (1 + keptSize r)) (sym (spot-next f b i pos)) in
+      let c : spot f b (i + 1 + keptSize r) ≡ spot f b i + length ws + length (keptEnc f (snoc s true) r) =
+      rw (← a, length-keptEnc f (snoc s true) r) (sym (spot-on f b (i + 1) (keptSize r) (omega arith))) in
       record {
         deep = omega (arith, p .deep, q .deep, length-snoc s false, length-snoc s true);
         within = omega (arith, q .within);
-        has = has-join ws _ h (has-join (keptEnc f (snoc s false) l) (keptEnc f (snoc s true) r) (has-at a (p .has)) (has-at c (q .has)));
+        has = has-join ws _ h (has-join (keptEnc f (snoc s true) r) (keptEnc f (snoc s false) l) (has-at a (p .has)) (has-at c (q .has)));
       }
 
   hung-stands : (p s : Bits) (i : ℕ) (t : Trie) → leads p s ≡ true → (t ≡ none → ⊥) → KeptStands f w b n s i t → KeptStands f w b n p i (hung (drop (length p) s) t)
@@ -222,22 +222,22 @@ module _ {f : ℕ} {w : List ℕ} {b n : ℕ} (room : KeptRoom f w b n) where
   own-stands k i t pos le e ih h = go (eqb (distAt f w b i) 0) refl h
     where
       rest : Trie → Read
-      rest l = bind (second (distAt f w b i) l (keptParse f w b n k (snoc (stringAt f w b i) true) (i + 1 + keptSize l))) (λ r. ok (node l r))
+      rest r = bind (first (distAt f w b i) r (keptParse f w b n k (snoc (stringAt f w b i) false) (i + 1 + keptSize r))) (λ l. ok (node l r))
 
-      go : (c : Bool) → eqb (distAt f w b i) 0 ≡ c → cond c (ok leaf) (bind (keptParse f w b n k (snoc (stringAt f w b i) false) (i + 1)) rest) ≡ ok t
+      go : (c : Bool) → eqb (distAt f w b i) 0 ≡ c → cond c (ok leaf) (bind (keptParse f w b n k (snoc (stringAt f w b i) true) (i + 1)) rest) ≡ ok t
           → Good (stringAt f w b i) i t
       go true z g = let q : leaf ≡ t = cc g in subst (Good (stringAt f w b i) i) q (leaf-stands i pos le e (eqb-true (distAt f w b i) 0 z), some none none)
       go false z g =
           let x = bind-ok _ rest t g in
-          let l = x .0 in
+          let r = x .0 in
           let y = bind-ok _ _ t (x .2) in
-          let r = y .0 in
-          let m = cond-ok (eqb (distAt f w b i) (1 + keptSize l)) _ r (y .1) in
-          let a = ih (snoc (stringAt f w b i) false) (i + 1) l (omega arith) (x .1) in
-          let c = ih (snoc (stringAt f w b i) true) (i + 1 + keptSize l) r (omega arith) (m .1) in
+          let l = y .0 in
+          let m = cond-ok (eqb (distAt f w b i) (1 + keptSize r)) _ l (y .1) in
+          let a = ih (snoc (stringAt f w b i) true) (i + 1) r (omega arith) (x .1) in
+          let c = ih (snoc (stringAt f w b i) false) (i + 1 + keptSize r) l (omega arith) (m .1) in
           let q : node l r ≡ t = cc (y .2) in
           subst (Good (stringAt f w b i) i) q (
-            branch-stands i l r pos le e (eqb-true (distAt f w b i) (1 + keptSize l) (m .0)) (a .1) (c .1) (a .0) (c .0),
+            branch-stands i l r pos le e (eqb-true (distAt f w b i) (1 + keptSize r) (m .0)) (c .1) (a .1) (a .0) (c .0),
             some l r,
           )
 

@@ -22,7 +22,7 @@ pub record KeptRoom (f : ℕ) (w : List ℕ) (b n : ℕ) : Type 0 where
   pub few : n ≤ 4194304
   pub long : b + stride f * n ≤ length w
 
--- what the words of node i say: the length of its string, the distance to its second child, the two words of the address, the string
+-- what the words of node i say: the length of its string, the distance to its first child, the two words of the address, the string
 abbrev pub headAt : ℕ → List ℕ → ℕ → ℕ → ℕ
 headAt f w b i = getD w (spot f b i) 0
 
@@ -68,9 +68,9 @@ abbrev pub lift : Bits → Read → Read
 lift q bad = bad
 lift q (ok t) = ok (hung q t)
 
--- the second child x, where the distance d says that it stands right behind the first
-abbrev pub second : ℕ → Trie → Read → Read
-second d l x = cond (eqb d (1 + keptSize l)) x bad
+-- the first child x, where the distance d says that it stands right behind the second
+abbrev pub first : ℕ → Trie → Read → Read
+first d r x = cond (eqb d (1 + keptSize r)) x bad
 
 -- the trie that starts at node i, below the string p, with at most k kept nodes on a path and within n nodes
 unfoldable pub keptParse : ℕ → List ℕ → ℕ → ℕ → ℕ → Bits → ℕ → Read
@@ -79,8 +79,8 @@ keptParse f w b n (suc k) p i =
     cond (fits f w b n p i)
     (lift (drop (length p) (stringAt f w b i))
     (cond (eqb (distAt f w b i) 0) (ok leaf)
-    (bind (keptParse f w b n k (snoc (stringAt f w b i) false) (i + 1))
-    (λ l. bind (second (distAt f w b i) l (keptParse f w b n k (snoc (stringAt f w b i) true) (i + 1 + keptSize l))) (λ r. ok (node l r))))))
+    (bind (keptParse f w b n k (snoc (stringAt f w b i) true) (i + 1))
+    (λ r. bind (first (distAt f w b i) r (keptParse f w b n k (snoc (stringAt f w b i) false) (i + 1 + keptSize r))) (λ l. ok (node l r))))))
     bad
 
 -- the number after the trie that starts at node i, or 0

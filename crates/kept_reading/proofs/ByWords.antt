@@ -10,12 +10,13 @@ use lib.ListN.{length, getD}
 use lib.Seq.{getD-take}
 use lib.Pow.{pow-pos, pow-add, shr-shr, high}
 use Rattle.nets.specs.Bits.{Bits, leads, bits}
-use Rattle.nets.specs.Networks.{value, netBits, address, width}
+use Rattle.nets.specs.Networks.{value, netBits, netFrom, address, width}
 use Rattle.nets.specs.declared.Net.{Net}
 use Rattle.nets.proofs.Numbers.{refusalOf-is, length-netBits, bit-at}
 use Rattle.address_order.specs.Streams.{shared}
 use Rattle.address_order.proofs.Streams.{shared-leads}
 use Rattle.trie_paths.specs.Spans.{snoc}
+use Rattle.trie_paths.proofs.Paths.{path-is}
 use Rattle.kept_reading.specs.NodeStrings.{IsString, Both}
 
 -- a digit of the number of two words stands in the high word or in the low one
@@ -89,3 +90,7 @@ module _ {p q : Net} (g : Both p q) (c : Bool) where
   pub extends-bit : (x : Bool) → p .len < q .len → leads (netBits p) (netBits q) ≡ true → x ≡ getD (netBits q) (p .len) false
       → same x c ≡ leads (snoc (netBits p) c) (netBits q)
   extends-bit x lt e h = rw (extends-long lt, e, h)
+
+-- the network of a string shorter than the width has halves
+pub path-short : {n : Net} (f : ℕ) (q : Bits) → n ≡ netFrom f q → length q < width f → n .len < width (n .family)
+path-short {n} f q is lt = let g = path-is n f q is in rw (g .1) (omega (arith, g .0))

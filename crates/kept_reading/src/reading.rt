@@ -9,7 +9,7 @@ use nets::Net;
 use nets::families::width;
 use nets::has_bit_past;
 
-// The first word of node i: the length of its string, and 256 times the distance to its second child.
+// The first word of node i: the length of its string, and 256 times the distance to its first child.
 pub fn head(w: &[u32], family: u8, b: usize, n: u32, i: u32) -> u32
     requires { ⌜ KeptRoom family (now w) b n ⌝ }
     requires { ⌜ (1 ≤ i) × (i ≤ n) ⌝ }
@@ -22,7 +22,7 @@ pub fn head(w: &[u32], family: u8, b: usize, n: u32, i: u32) -> u32
     w[b + 5 * (k - 1)]
 }
 
-// The distance from node i to its second child, 0 where it has none.
+// The distance from node i to its first child, 0 where it has none.
 pub fn distance(w: &[u32], family: u8, b: usize, n: u32, i: u32) -> u32
     requires { ⌜ KeptRoom family (now w) b n ⌝ }
     requires { ⌜ (1 ≤ i) × (i ≤ n) ⌝ }

@@ -22,49 +22,21 @@ use Rattle.branch_points.proofs.Sizes.{keptSize-some}
 use Rattle.kept_nodes.specs.Parse.{KeptRoom, headAt, lenAt, distAt, netAt, stringAt, KeptStands}
 use Rattle.kept_nodes.proofs.Hung.{keptSize-fork}
 use Rattle.kept_nodes.proofs.NodeWords.{Says, len-is, dist-is}
-use Rattle.kept_nodes.proofs.Parsed.{Split, leaf-says, branch-split, fork-stands}
-use Rattle.kept_nodes.proofs.Heads.{Head, head-of, head-short}
+use Rattle.kept_nodes.proofs.Parsed.{Split}
+use Rattle.kept_nodes.proofs.Heads.{head-is, by-shape, bit-behind, edge-head, edge-len, head-short}
 use Rattle.kept_reading.specs.NodeStrings.{IsString, ReadAs}
 use Rattle.kept_reading.proofs.Found.{read-len, read-string}
 use Rattle.kept_sources.specs.Sources.{KeptHere, KeptMeans, nothing, everything, standing}
-
--- the head of a node by what it says
-head-is : {f : ℕ} {w : List ℕ} {b i d : ℕ} {s : Bits} → Says f w b i s d → headAt f w b i ≡ length s + 256 * d
-head-is h = omega (arith, len-is h, dist-is h)
-
--- A trie below p is a leaf, a branch point, or one that goes on with one bit only.
-by-shape : {f : ℕ} {w : List ℕ} {b n : ℕ} {p : Bits} {i : ℕ} (P : Trie → Type 0) → 1 ≤ i
-    → (Says f w b i p 0 → P leaf)
-    → ((x y z u : Trie) → Split f w b n p i (node x y) (node z u) → P (node (node x y) (node z u)))
-    → ((c : Bool) (x y : Trie) → KeptStands f w b n (snoc p c) i (node x y) → P (fork c (node x y) none))
-    → (l r : Trie) → KeptStands f w b n p i (node l r) → P (node l r)
-by-shape P pos lf br ed none none s = lf (leaf-says pos s)
-by-shape P pos lf br ed none (node x y) s = ed true x y (fork-stands pos true (node x y) (some x y) s)
-by-shape P pos lf br ed (node x y) none s = ed false x y (fork-stands pos false (node x y) (some x y) s)
-by-shape P pos lf br ed (node x y) (node z u) s = br x y z u (branch-split pos s)
 
 fork-mixed : (c : Bool) (x y : Trie) → kindOf (fork c (node x y) none) ≡ mixed
 fork-mixed false x y = refl
 fork-mixed true x y = refl
 
--- the bit behind p in a string that begins with p and that bit
-bit-behind : (p : Bits) (c : Bool) (s : Bits) → leads (snoc p c) s ≡ true → getD s (length p) false ≡ c
-bit-behind [] c [] e = let z : _≡_ {A = ℕ} 0 1 = cc in absurd (omega arith)
-bit-behind [] c (d ∷ s) e = sym (same-is c d (and-left (same c d) true e))
-bit-behind (a ∷ p) c [] e = let z : _≡_ {A = ℕ} 0 1 = cc in absurd (omega arith)
-bit-behind (a ∷ p) c (d ∷ s) e = bit-behind p c s (and-right (same a d) (leads (snoc p c) s) e)
-
 module _ {f : ℕ} {w : List ℕ} {b n : ℕ} (p : Bits) {i : ℕ} (pos : 1 ≤ i) where
-  edge-head : (c : Bool) {x y : Trie} → KeptStands f w b n (snoc p c) i (node x y) → Head f w b n (snoc p c) i
-  edge-head c {x} {y} s = head-of f w b n (node x y) (snoc p c) i pos (some x y) s
-
-  edge-len : (c : Bool) {x y : Trie} → KeptStands f w b n (snoc p c) i (node x y) → length p < lenAt f w b i
-  edge-len c s = let h = edge-head c s in omega (arith, h .len, leads-length (snoc p c) (stringAt f w b i) (h .begins), length-snoc p c)
-
   leaf-test : (l r : Trie) → KeptStands f w b n p i (node l r) → headAt f w b i ≡ length p → 2 ≡ rank (kindOf (node l r))
   leaf-test l r s = by-shape (λ t. headAt f w b i ≡ length p → 2 ≡ rank (kindOf t)) pos (λ y e. refl)
       (λ x y z u d e. absurd (omega (arith, head-is (d .root))))
-      (λ c x y d e. absurd (omega (arith, edge-len c d))) l r s
+      (λ c x y d e. absurd (omega (arith, edge-len p pos c d))) l r s
 
   inner-test : (l r : Trie) → KeptStands f w b n p i (node l r) → (headAt f w b i ≡ length p → ⊥) → 1 ≡ rank (kindOf (node l r))
   inner-test l r s = by-shape (λ t. (headAt f w b i ≡ length p → ⊥) → 1 ≡ rank (kindOf t)) pos (λ y e. absurd (e (head-is y ∙ omega arith)))
@@ -116,18 +88,18 @@ inside h s le fit = standing (record { stands = s; one = omega (arith, h .one); 
 
 module _ {f : ℕ} {w : List ℕ} {b n o g : ℕ} (p : Bits) where
   branch-piece : (s : Bool) (i : ℕ) (x y z u : Trie) → KeptHere f w b n o g p i (node (node x y) (node z u)) → Split f w b n p i (node x y) (node z u)
-      → KeptMeans f w b n o g (snoc p s) (i + side s 1 (distAt f w b i)) (side s (node x y) (node z u))
+      → KeptMeans f w b n o g (snoc p s) (i + side s (distAt f w b i) 1) (side s (node x y) (node z u))
   unfolding keptSize
-  branch-piece false i x y z u h d = inside h (d .left) (omega arith) (omega arith)
-  branch-piece true i x y z u h d =
-      let e : i + 1 + keptSize (node x y) ≡ i + (1 + keptSize (node x y)) = omega arith in
-      rw (dist-is (d .root), ← e) (inside h (d .right) (omega arith) (omega arith))
+  branch-piece true i x y z u h d = inside h (d .right) (omega arith) (omega arith)
+  branch-piece false i x y z u h d =
+      let e : i + 1 + keptSize (node z u) ≡ i + (1 + keptSize (node z u)) = omega arith in
+      rw (dist-is (d .root), ← e) (inside h (d .left) (omega arith) (omega arith))
 
   -- the node's own string is p
   at-piece : (s : Bool) (i : ℕ) (l r : Trie) → KeptHere f w b n o g p i (node l r) → 1 ≡ rank (kindOf (node l r)) → lenAt f w b i ≡ length p
-      → KeptMeans f w b n o g (snoc p s) (i + side s 1 (distAt f w b i)) (half s (node l r))
+      → KeptMeans f w b n o g (snoc p s) (i + side s (distAt f w b i) 1) (half s (node l r))
   at-piece s i l r h = by-shape (λ t. KeptHere f w b n o g p i t → 1 ≡ rank (kindOf t) → lenAt f w b i ≡ length p
-      → KeptMeans f w b n o g (snoc p s) (i + side s 1 (distAt f w b i)) (half s t)) (h .one)
+      → KeptMeans f w b n o g (snoc p s) (i + side s (distAt f w b i) 1) (half s t)) (h .one)
       (λ y n k e. absurd (omega arith)) (λ x y z u d n k e. branch-piece s i x y z u n d) (λ c x y d n k e. absurd (omega (arith, edge-len p (h .one) c d))) l r
       (h .stands) h
 
@@ -176,8 +148,8 @@ module _ {f : ℕ} {w : List ℕ} {b n o g : ℕ} {p : Bits} (s : Bool) (i : ℕ
     pub piece-place : (1 ≤ i) × (i ≤ n)
     piece-place = by-fork (λ i t. (1 ≤ i) × (i ≤ n)) (λ i l r h e. (h .one, omega (arith, h .stands .within, keptSize-some (node l r) (some l r))))
 
-    piece-at : lenAt f w b i ≡ length p → KeptMeans f w b n o g (snoc p s) (i + side s 1 (distAt f w b i)) (half s t)
-    piece-at = by-fork (λ i t. lenAt f w b i ≡ length p → KeptMeans f w b n o g (snoc p s) (i + side s 1 (distAt f w b i)) (half s t))
+    piece-at : lenAt f w b i ≡ length p → KeptMeans f w b n o g (snoc p s) (i + side s (distAt f w b i) 1) (half s t)
+    piece-at = by-fork (λ i t. lenAt f w b i ≡ length p → KeptMeans f w b n o g (snoc p s) (i + side s (distAt f w b i) 1) (half s t))
         (λ i l r h e. at-piece p s i l r h e)
 
     piece-edge : (lenAt f w b i ≡ length p → ⊥)
@@ -199,7 +171,7 @@ module _ {f : ℕ} {w : List ℕ} {b n o g : ℕ} {p : Bits} (s : Bool) (i : ℕ
 
     -- the head x of node i is read, and p has d bits
     module _ (x d : ℕ) (ex : x ≡ headAt f w b i) (ed : length p ≡ d) where
-      pub at-is : x % 256 ≡ d → (y : ℕ) → y ≡ side s 1 (x / 256) → KeptMeans f w b n o g (snoc p s) (i + y) (half s t)
+      pub at-is : x % 256 ≡ d → (y : ℕ) → y ≡ side s (x / 256) 1 → KeptMeans f w b n o g (snoc p s) (i + y) (half s t)
       at-is e y ey = rw (ey, ex) (piece-at (rw (← ex) (e ∙ sym ed)))
 
       module _ (ne : x % 256 ≡ d → ⊥) where

@@ -40,14 +40,14 @@ pub fn kind(w: &[u32], family: u8, b: usize, n: u32, i: usize, d: u8) -> usize
     MIXED
 }
 
-// The distance from a branch point to a child, by the distance to its second.
+// The distance from a branch point to a child, by the distance to its first.
 fn toward(second: bool, x: u32) -> usize
-    ensures { λ r. ⌜ r ≡ side second 1 x ⌝ }
+    ensures { λ r. ⌜ r ≡ side second x 1 ⌝ }
 {
     if second {
-        return x as usize;
+        return 1;
     }
-    1
+    x as usize
 }
 
 // The number of a half of what the number i means, below one bit more.

@@ -5,7 +5,7 @@ use Prim.Native.Nat.{ℕ, _+_, _-_, _*_, _/_, _%_, _^_, _≤_, _<_}
 use native.Mathlib.Nat.{mod-eq-of-lt}
 use native.Mathlib.Omega.{arith}
 use lib.Dec.{eqb}
-use lib.ListN.{length, set}
+use lib.ListN.{length, set, take, drop}
 use lib.Pow.{shl-lt}
 use borrow.Author.Tests.{eq-eqb, ne-eqb}
 use Rattle.nets.specs.Bits.{Bits, val}
@@ -18,7 +18,7 @@ use Rattle.nodes.proofs.Put.{set-put, put-behind-at}
 use Rattle.kept_nodes.specs.Words.{stride, fourWords, addressWords, nodeWords, spot}
 use Rattle.kept_nodes.proofs.Places.{stride-4, stride-6, spot-4, spot-6}
 use Rattle.kept_nodes.proofs.NodeWords.{netFrom-words}
-use Rattle.kept_writing.specs.Writes.{Writable, Writes}
+use Rattle.kept_writing.specs.Writes.{Writable, Writes, Movable}
 
 pub put-two : (w : List ℕ) (p x y : ℕ) → set (set w p x) (p + 1) y ≡ put w p (x ∷ y ∷ [])
 put-two w p x y = rw (set-put w p x, set-put _ (p + 1) y) (put-behind-at w p (p + 1) (x ∷ []) (y ∷ []) refl)
@@ -73,3 +73,18 @@ module _ (f : ℕ) (w v : List ℕ) (b i d : ℕ) (s : Net) where
       let k : s .len ≡ length p = ap (λ z. z .len) n in
       let t : netFrom f p .family ≡ f = ap (λ z. z .family) (netFrom-words f p) in
       h ∙ rw (spot-6 f b i e, l, a, k, t, ne-eqb f 4 e)
+
+-- A move, by the family.
+module _ {f : ℕ} {w : List ℕ} {b i o k : ℕ} (g : Movable f w b i o k) where
+  pub moves-short : f ≡ 4 → (b + 2 * (i - 1) + 2 * k ≤ length w) × (b + 2 * (o - 1) + 2 * k ≤ length w)
+  moves-short e = (rw (spot-4 f b i e, ← stride-4 f e) (g .fits), rw (spot-4 f b o e, ← stride-4 f e) (g .to-fits))
+
+  pub moves-long : (f ≡ 4 → ⊥) → (b + 5 * (i - 1) + 5 * k ≤ length w) × (b + 5 * (o - 1) + 5 * k ≤ length w)
+  moves-long e = (rw (spot-6 f b i e, ← stride-6 f e) (g .fits), rw (spot-6 f b o e, ← stride-6 f e) (g .to-fits))
+
+module _ (f : ℕ) (w v : List ℕ) (b i o k : ℕ) where
+  pub moved-short : f ≡ 4 → v ≡ put w (b + 2 * (o - 1)) (take (2 * k) (drop (b + 2 * (i - 1)) w)) → v ≡ put w (spot f b o) (take (stride f * k) (drop (spot f b i) w))
+  moved-short e h = h ∙ rw (spot-4 f b o e, spot-4 f b i e, stride-4 f e)
+
+  pub moved-long : (f ≡ 4 → ⊥) → v ≡ put w (b + 5 * (o - 1)) (take (5 * k) (drop (b + 5 * (i - 1)) w)) → v ≡ put w (spot f b o) (take (stride f * k) (drop (spot f b i) w))
+  moved-long e h = h ∙ rw (spot-6 f b o e, spot-6 f b i e, stride-6 f e)

@@ -20,10 +20,11 @@ use Rattle.pool_state.specs.Changes.{setAt, listAt, setsWith, withSet, setWith}
 use Rattle.pool_state.proofs.Claims.{isState-size, isSize-is}
 use Rattle.pool_state.proofs.Decoded.{decode-state}
 use Rattle.pool_state.proofs.WithSet.{withSet-length, withSet-list, withSet-other}
-use Rattle.lines.specs.Lines.{lineFeed, addNo, addWords, lineNo, trimmedIn, wordsWith, Result, taken, withNets, netsOf, withLines}
-use Rattle.lines.specs.Reading.{kept, pushed, ended, stepped, passed, closed, checked, fed, finished}
-use Rattle.lines.specs.declared.Reader.{Reader}
-use Rattle.lines.proofs.Taking.{wordsWith-refused}
+use Rattle.lines_take.specs.Lines.{lineFeed, addNo, addWords, lineNo, trimmedIn, wordsWith, Result, taken, withNets, netsOf, withLines}
+use Rattle.lines_reader.specs.Kept.{kept, pushed}
+use Rattle.lines.specs.Reading.{ended, stepped, passed, closed, checked, fed, finished}
+use Rattle.lines_reader.specs.declared.Reader.{Reader}
+use Rattle.lines_take.proofs.Taking.{wordsWith-refused}
 use Rattle.lines.proofs.Lists.{decode-added, line-added}
 
 -- from the words w on the networks ns are added to set 0, one after the other, each of them granted, which leaves v

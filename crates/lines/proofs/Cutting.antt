@@ -4,9 +4,9 @@ use mathlib.Core.List.{List, [], _∷_, _++_, map}
 use mathlib.Core.Path.{_≡_, refl, ap}
 use Prim.Native.Nat.{ℕ}
 use lib.Dec.{eqb}
-use Rattle.text.specs.Spans.{leadingOf}
+use Rattle.text_decimal.specs.Spans.{leadingOf}
 use Rattle.text_either.specs.First.{firstLine}
-use Rattle.lines.specs.Lines.{lineFeed, inFront, linesOf}
+use Rattle.lines_take.specs.Lines.{lineFeed, inFront, linesOf}
 
 -- no byte of it is a line feed
 abbrev pub Plain : List ℕ → Type 0

@@ -8,11 +8,11 @@ use Rattle.nets.specs.Bits.{Bits, bits, before}
 use Rattle.nets.specs.Tries.{size, levels, listOf, insertT, trieOf, simplifyT}
 use Rattle.nets.specs.Lists.{nodesL, addL, simplifyL}
 use Rattle.nets.specs.Networks.{netBits, hasBitPast, width}
-use Rattle.text.specs.Spans.{allOf, leadingOf, behindOf}
-use Rattle.text.specs.Decimal.{isDigit, decimalFrom, plain, isNumber, readNumber}
+use Rattle.text_decimal.specs.Spans.{allOf, leadingOf, behindOf}
+use Rattle.text_decimal.specs.Decimal.{isDigit, decimalFrom, plain, isNumber, readNumber}
 use Rattle.text.specs.Ipv4.{address, ipv4, readNext, readQuad, readLine}
 use Rattle.text_either.specs.Either.{readEither, enteredEither}
-use Rattle.lines.specs.Lines.{linesOf, trimmedIn, withNets, withLines}
+use Rattle.lines_take.specs.Lines.{linesOf, trimmedIn, withNets, withLines}
 
 abbrev bytes : String → List ℕ
 bytes String.[] = []

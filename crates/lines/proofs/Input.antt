@@ -9,12 +9,13 @@ use lib.Dec.{eqb, ltb}
 use lib.ListN.{length, take, set, length-set}
 use borrow.Author.Tests.{eqb-true, eqb-false, eq-eqb, ne-eqb}
 use Rattle.pool_state.specs.Decode.{Decoded, damaged, sound, decode}
-use Rattle.lines.specs.Lines.{lineFeed, linesOf, lineNo, trimmedIn, wordsWith, Result, taken, poolNo, allTaken}
-use Rattle.lines.specs.Reading.{places, begun, kept, pushed, stopped, ended, stepped, passed, closed, checked, fed, finished, fedAll, allRead}
-use Rattle.lines.specs.declared.Reader.{Reader}
+use Rattle.lines_take.specs.Lines.{lineFeed, linesOf, lineNo, trimmedIn, wordsWith, Result, taken, poolNo, allTaken}
+use Rattle.lines_reader.specs.Kept.{places, begun, kept, pushed, stopped}
+use Rattle.lines.specs.Reading.{ended, stepped, passed, closed, checked, fed, finished, fedAll, allRead}
+use Rattle.lines_reader.specs.declared.Reader.{Reader}
 use Rattle.lines.proofs.Steps.{passed-refused, closed-refused, closed-none, closed-line, checked-refused, checked-sound, checked-damaged, two}
 use Rattle.lines.proofs.Lists.{poolNo-line}
-use Rattle.lines.proofs.Taking.{wordsWith-refused}
+use Rattle.lines_take.proofs.Taking.{wordsWith-refused}
 use Rattle.lines.proofs.Keeping.{kept-pushed, take-more, lineNo-kept, trimmedIn-kept, wordsWith-kept}
 use Rattle.lines.proofs.Cutting.{Plain, plain-more, linesOf-feed, linesOf-rest}
 

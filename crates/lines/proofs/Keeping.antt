@@ -11,9 +11,9 @@ use lib.Seq.{take-all, take-suc-set, take-append-le, length-take-le}
 use borrow.Author.Tests.{leb-true, leb-false, ltb-true, ltb-false}
 use Rattle.text_either.specs.Either.{readEither, enteredEither}
 use Rattle.text_either.proofs.Firsts.{readEither-kept}
-use Rattle.lines.specs.Lines.{lineNo, trimmedIn, wordsWith}
-use Rattle.lines.specs.Reading.{places, kept, pushed}
-use Rattle.lines.specs.declared.Reader.{Reader}
+use Rattle.lines_take.specs.Lines.{lineNo, trimmedIn, wordsWith}
+use Rattle.lines_reader.specs.Kept.{places, kept, pushed}
+use Rattle.lines_reader.specs.declared.Reader.{Reader}
 
 -- A byte more.
 push-room : (l : List ℕ) (n b : ℕ) → length l ≡ 50 → n < 50 → take (n + 1) (set l n b) ≡ take 50 (take n l ++ (b ∷ []))

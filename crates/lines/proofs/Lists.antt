@@ -20,8 +20,8 @@ use Rattle.pool_state.proofs.Claims.{isSize-is, isState-size}
 use Rattle.pool_state.proofs.Decoded.{decode-state}
 use Rattle.change.specs.Calls.{listWith, Added}
 use Rattle.change.proofs.Outcomes.{add-leaves}
-use Rattle.lines.specs.Lines.{addNo, addWords, lineNo, wordsWith, poolNo}
-use Rattle.lines.proofs.Taking.{wordsWith-refused}
+use Rattle.lines_take.specs.Lines.{addNo, addWords, lineNo, wordsWith, poolNo}
+use Rattle.lines_take.proofs.Taking.{wordsWith-refused}
 
 -- An added network: it is a granted call of add, and leaves the state with the network in the list of set 0.
 module _ (w : List ℕ) (S : State) (n : Net) (d : decode w ≡ sound S) (e : addNo w n ≡ 0) where

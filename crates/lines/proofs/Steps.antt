@@ -13,12 +13,14 @@ use Rattle.pool_state.specs.Rules.{surveyOf}
 use Rattle.pool_state.specs.Steps.{Surveyed}
 use Rattle.pool_state.specs.declared.Survey.{Survey}
 use Rattle.pool_state.proofs.Seen.{survey-sound, survey-damaged}
-use Rattle.lines.specs.Lines.{lineFeed, trimmedIn, poolNo}
-use Rattle.lines.specs.Reading.{kept, pushed, stopped, ended, stepped, passed, closed, checked, fed, finished}
-use Rattle.lines.specs.Steps.{Takes, Leads}
-use Rattle.lines.specs.declared.Going.{Going}
-use Rattle.lines.specs.declared.Reader.{Reader}
-use Rattle.lines.specs.declared.Took.{Took}
+use Rattle.lines_take.specs.Lines.{lineFeed, trimmedIn, poolNo}
+use Rattle.lines_reader.specs.Kept.{kept, pushed, stopped}
+use Rattle.lines.specs.Reading.{ended, stepped, passed, closed, checked, fed, finished}
+use Rattle.lines_take.specs.Taking.{Takes}
+use Rattle.lines.specs.Steps.{Leads}
+use Rattle.lines_take.specs.declared.Going.{Going}
+use Rattle.lines_reader.specs.declared.Reader.{Reader}
+use Rattle.lines_take.specs.declared.Took.{Took}
 
 module _ (w : List ℕ) (r : Reader) where
   module _ {t : Took} {v : List ℕ} (h : Takes w (kept r) t v) where

@@ -1,9 +1,5 @@
--- What the calls do: the reader and the pool's words after each byte. Of the line that is being read the first 50 bytes are kept.
+-- What the calls do: the reader and the pool's words after each byte. begun, kept, pushed and stopped are lines_reader's.
 --
---   begun              before the first byte
---   kept r             the bytes kept of the line
---   pushed r b         one byte more of the line
---   stopped r x        the reading ends with the refusal x
 --   ended w r          the line has ended: its network is added and the next line begins, or the reading ends here
 --   stepped w r b      a byte of the input
 --   passed w r s       the bytes s, up to the first line that is refused
@@ -14,26 +10,11 @@
 use mathlib.Core.Bool.{cond}
 use mathlib.Core.List.{List, [], _∷_}
 use Prim.Native.Nat.{ℕ, _+_, _%_, _^_}
-use lib.Dec.{eqb, ltb}
-use lib.ListN.{take, set, replicate}
+use lib.Dec.{eqb}
 use Rattle.pool_state.specs.Decode.{decode}
-use Rattle.lines.specs.Lines.{lineFeed, lineNo, trimmedIn, wordsWith, poolNo}
-use Rattle.lines.specs.declared.Reader.{Reader}
-
-abbrev pub places : ℕ
-places = 50
-
-abbrev pub begun : Reader
-begun = record { line = replicate places 0; len = 0; number = 1; trimmed = 0; no = 0 }
-
-abbrev pub kept : Reader → List ℕ
-kept r = take (r .len) (r .line)
-
-unfoldable pub pushed : Reader → ℕ → Reader
-pushed r b = cond (ltb (r .len) places) (record { line = set (r .line) (r .len) b; len = r .len + 1; number = r .number; trimmed = r .trimmed; no = r .no }) r
-
-abbrev pub stopped : Reader → ℕ → Reader
-stopped r x = record { line = r .line; len = r .len; number = r .number; trimmed = r .trimmed; no = x }
+use Rattle.lines_take.specs.Lines.{lineFeed, lineNo, trimmedIn, wordsWith, poolNo}
+use Rattle.lines_reader.specs.Kept.{begun, kept, pushed, stopped}
+use Rattle.lines_reader.specs.declared.Reader.{Reader}
 
 -- by the refusal x of the line, or 0, and t, which is 1 where it was trimmed; numbers go on from 0 behind the largest
 abbrev pub endedAs : ℕ → ℕ → Reader → Reader

@@ -1,22 +1,12 @@
--- What the inner functions leave. One pass over the pool serves a call, and each line hands on what a pass would find after it.
+-- What the inner functions leave. One pass over the pool serves a call.
 --
---   Takes w l t v      the line l is taken from the words w: its refusal, or 0, whether a set bit was cut, and the words v, of which t has the survey
 --   Leads x g v        the reading g with the words v is x, and g has the survey of v
 use mathlib.Core.List.{List}
 use mathlib.Core.Path.{_≡_}
 use Prim.Native.Nat.{ℕ}
 use Rattle.pool_state.specs.Steps.{Surveyed}
-use Rattle.text_either.specs.Either.{enteredEither}
-use Rattle.lines.specs.Lines.{lineNo, wordsWith}
-use Rattle.lines.specs.declared.Going.{Going}
-use Rattle.lines.specs.declared.Reader.{Reader}
-use Rattle.lines.specs.declared.Took.{Took}
-
-pub record Takes (w l : List ℕ) (t : Took) (v : List ℕ) : Type 0 where
-  pub no : t .no ≡ lineNo w l
-  pub cut : t .cut ≡ enteredEither l .1 .1
-  pub words : v ≡ wordsWith w l
-  pub found : Surveyed v 0 (t .found)
+use Rattle.lines_reader.specs.declared.Reader.{Reader}
+use Rattle.lines_take.specs.declared.Going.{Going}
 
 pub record Leads (x : Reader × List ℕ) (g : Going) (v : List ℕ) : Type 0 where
   pub comes : (g .reader, v) ≡ x

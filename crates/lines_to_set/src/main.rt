@@ -4,10 +4,10 @@
 // standard error says which and why, and no file is written. The set has at most 100,000 nodes: a line that needs more is refused, OverLimit.
 use libc::STDERR_FILENO;
 use pool_state::Answer;
-use tool_io::BYTES;
+use tool_files::BYTES;
+use tool_files::NODES;
+use tool_files::WORDS;
 use tool_io::Input;
-use tool_io::NODES;
-use tool_io::WORDS;
 
 // Lays the pool out, and adds the networks of the lines to its set. Whether none is refused.
 fn take(fd: i32, path: &[u8], pool: &mut [u32]) -> bool {
@@ -16,11 +16,11 @@ fn take(fd: i32, path: &[u8], pool: &mut [u32]) -> bool {
     match input {
         Input::Added(_) => true,
         Input::Refused(number, no) => {
-            tool_io::say_refused_line(b"lines-to-set", number, no);
+            tool_files::say_refused_line(b"lines-to-set", number, no);
             false
         }
         Input::Unreadable => {
-            tool_io::say_failed(b"lines-to-set", path);
+            tool_files::say_failed(b"lines-to-set", path);
             false
         }
     }
@@ -31,12 +31,12 @@ fn take_file(pool: &mut [u32]) -> bool {
     let mut path = io::buffer();
     let n = os::arg(1, &mut path);
     if os::errno() != 0 {
-        tool_io::say_failed(b"lines-to-set", b"LINES");
+        tool_files::say_failed(b"lines-to-set", b"LINES");
         return false;
     }
-    let fd = tool_io::open_source(&path[..n]);
+    let fd = tool_files::open_source(&path[..n]);
     if fd < 0 {
-        tool_io::say_failed(b"lines-to-set", &path[..n]);
+        tool_files::say_failed(b"lines-to-set", &path[..n]);
         return false;
     }
     take(fd, &path[..n], pool)
@@ -44,8 +44,8 @@ fn take_file(pool: &mut [u32]) -> bool {
 
 // Writes a file, and says so where that failed.
 fn write(path: &[u8], bytes: &[u8]) {
-    if !tool_io::write_file(path, bytes) {
-        tool_io::say_failed(b"lines-to-set", path);
+    if !tool_files::write_file(path, bytes) {
+        tool_files::say_failed(b"lines-to-set", path);
     }
 }
 
@@ -54,7 +54,7 @@ fn save(pool: &[u32], path: &[u8], bytes: &mut [u8]) {
     let saved = setfile::save(pool, 0, bytes);
     match saved {
         Answer::Refused(no) => {
-            tool_io::say_refused(b"lines-to-set", no.number());
+            tool_files::say_refused(b"lines-to-set", no.number());
         }
         Answer::Granted(k) => {
             let n = k as usize;
@@ -68,7 +68,7 @@ fn save_file(pool: &[u32], bytes: &mut [u8]) {
     let mut path = io::buffer();
     let n = os::arg(2, &mut path);
     if os::errno() != 0 {
-        tool_io::say_failed(b"lines-to-set", b"SETFILE");
+        tool_files::say_failed(b"lines-to-set", b"SETFILE");
         return;
     }
     save(pool, &path[..n], bytes);

@@ -6,7 +6,7 @@ use Prim.Native.Nat.{ℕ, _≤_, _<_}
 use native.Mathlib.Omega.{arith}
 use lib.Dec.{eqb, ltb}
 use lib.ListN.{getD}
-use borrow.Author.Tests.{lt-ltb, le-ltb, le-leb, lt-leb, eq-eqb, ne-eqb}
+use borrow.Author.Tests.{lt-ltb, le-ltb, ltb-true, le-leb, lt-leb, eq-eqb, ne-eqb}
 use Rattle.nets.specs.Refusals.{number, answered}
 use Rattle.nets.specs.Networks.{width, refusalOf, noNet, takenAs, bitsLeft, startOf, noBits, prefixAs}
 use Rattle.nets.specs.declared.Net.{Net}
@@ -20,11 +20,10 @@ use Rattle.nets.specs.declared.Refusal.the-variants.{Damaged, NoSet, WrongFamil
 use Rattle.nets.proofs.Strings.{cond-both}
 use Rattle.nets.proofs.Answers.{number-some}
 use Rattle.nets.proofs.Numbers.{bitsLeft-start, refusalOf-is}
-use Rattle.pool_state.specs.Decode.{recordAt, base, isHeader}
+use Rattle.pool_state.specs.Decode.{recordAt, isHeader}
 use Rattle.pool_state.specs.declared.Answer.{Answer}
 use Rattle.pool_state.specs.declared.Answer.the-variants as answer
-use Rattle.lookup.specs.Walks.{walkFrom}
-use Rattle.lookup.specs.Rules.{onRoot, query, lookup, memberOf, isMember, supernetRule, containsRule, emptyAt, emptyRule}
+use Rattle.lookup.specs.Rules.{onRoot, pathOf, query, lookup, memberOf, isMember, supernetRule, containsRule, emptyAt, emptyRule}
 use Rattle.lookup.specs.declared.walking.Shown.{Shown}
 use Rattle.lookup.specs.declared.walking.Shown.the-variants.{Refused}
 use Rattle.lookup.proofs.Cuts.{Cut, lookup-cut}
@@ -63,7 +62,7 @@ module _ (w : List ℕ) (k : ℕ) (a : Answer) (e : a ≡ onRoot w k answer.Refu
 
   pub lookup-refused : (n : Net) (x : Refusal) → a ≡ answer.Refused x → Refused x ≡ lookup w k n
   unfolding lookup
-  lookup-refused n x h = rw h at (onRoot-by Refused (query w n))
+  lookup-refused n x h = rw h at (onRoot-by Refused (λ r. query w k n))
 
   pub empty-refused : (x : Refusal) → a ≡ answer.Refused x → (number x, false) ≡ emptyRule w k
   unfolding emptyRule
@@ -78,9 +77,17 @@ module _ (w : List ℕ) (k : ℕ) (a : Answer) (e : a ≡ onRoot w k answer.Refu
         go true q d = q
         go false q d = let z : _≡_ {A = ℕ} 0 1 = cc in absurd (omega arith)
 
-    pub lookup-root : (n : Net) → query w n r ≡ lookup w k n
+    pub lookup-root : (n : Net) → query w k n ≡ lookup w k n
     unfolding lookup
-    lookup-root n = rw h at (onRoot-by Refused (query w n))
+    lookup-root n = rw h at (onRoot-by Refused (λ r. query w k n))
+
+    pub root-known : k < getD w 2 0
+    unfolding onRoot
+    root-known = go (ltb k (getD w 2 0)) refl (rw root-header at (sym e ∙ h))
+      where
+        go : (t : Bool) → ltb k (getD w 2 0) ≡ t → cond t (answer.Granted (getD w (recordAt k) 0)) (answer.Refused NoSet) ≡ answer.Granted r → k < getD w 2 0
+        go true q d = ltb-true k (getD w 2 0) q
+        go false q d = let z : _≡_ {A = ℕ} 0 1 = cc in absurd (omega arith)
 
     empty-root : emptyAt (getD w 3 0) r ≡ emptyRule w k
     unfolding emptyRule
@@ -109,18 +116,18 @@ prefix-few p n s e h =
 prefix-refused : (p : Prefix) (n : Net) (r : Refusal) → prefixAs p ≡ answered (refusalOf n) noBits (startOf n) → p ≡ prefix.Refused r → refusalOf n ≡ 0 → ⊥
 prefix-refused p n r e h z = number-some r (ap (λ x. x .0) (sym (ap prefixAs h) ∙ e) ∙ z)
 
-pub query-family : (w : List ℕ) (n : Net) (r : ℕ) → (n .family ≡ getD w 1 0 → ⊥) → Refused WrongFamily ≡ query w n r
+pub query-family : (w : List ℕ) (k : ℕ) (n : Net) → (n .family ≡ getD w 1 0 → ⊥) → Refused WrongFamily ≡ query w k n
 unfolding query
-query-family w n r ne = rw (ne-eqb (n .family) (getD w 1 0) ne)
+query-family w k n ne = rw (ne-eqb (n .family) (getD w 1 0) ne)
 
-module _ (w : List ℕ) (n : Net) (same : n .family ≡ getD w 1 0) (p : Prefix) (e : prefixAs p ≡ answered (refusalOf n) noBits (startOf n)) where
-  pub query-refused : (x : Refusal) (r : ℕ) → p ≡ prefix.Refused x → Refused BadNetwork ≡ query w n r
+module _ (w : List ℕ) (k : ℕ) (n : Net) (same : n .family ≡ getD w 1 0) (p : Prefix) (e : prefixAs p ≡ answered (refusalOf n) noBits (startOf n)) where
+  pub query-refused : (x : Refusal) → p ≡ prefix.Refused x → Refused BadNetwork ≡ query w k n
   unfolding query
-  query-refused x r h = rw (eq-eqb (n .family) (getD w 1 0) same, ne-eqb (refusalOf n) 0 (prefix-refused p n x e h))
+  query-refused x h = rw (eq-eqb (n .family) (getD w 1 0) same, ne-eqb (refusalOf n) 0 (prefix-refused p n x e h))
 
-  pub query-walk : (s : PrefixBits) (r : ℕ) (x : Shown) → p ≡ prefix.Bits s → x ≡ walkFrom w (base (getD w 2 0)) (getD w 3 0) (bitsLeft s) r → x ≡ query w n r
+  pub query-path : (s : PrefixBits) (x : Shown) → p ≡ prefix.Bits s → x ≡ pathOf w k (bitsLeft s) → x ≡ query w k n
   unfolding query
-  query-walk s r x h d =
+  query-path s x h d =
       let g = prefix-bits p n s e h in
       rw (d, eq-eqb (n .family) (getD w 1 0) same, eq-eqb (refusalOf n) 0 (g .0), g .1, bitsLeft-start n (g .0))
 

@@ -1,13 +1,13 @@
 -- A member that a path shows is at most as long as the query: the query cut to its length is a network, and never more nodes are read than the query has bits, plus one. Assumes nothing.
-use mathlib.Core.Bool.{Bool, true, false, cond}
+use mathlib.Core.Bool.{Bool, true, false, cond, _&&_, _||_}
 use mathlib.Core.List.{List, [], _∷_}
 use mathlib.Core.Path.{_≡_, refl, _∙_}
-use Prim.Native.Nat.{ℕ, _+_, _≤_}
+use Prim.Native.Nat.{ℕ, _+_, _-_, _/_, _%_, _≤_}
 use native.Mathlib.Omega.{arith}
 use lib.Dec.{eqb, leb, ltb}
-use lib.ListN.{length, getD}
-use borrow.Author.Tests.{eqb-true}
-use Rattle.nets.specs.Bits.{Bits}
+use lib.ListN.{length, getD, take, drop, length-drop}
+use borrow.Author.Tests.{eqb-true, leb-true, ltb-false}
+use Rattle.nets.specs.Bits.{Bits, val}
 use Rattle.nets.specs.Networks.{netBits, refusalOf, withLen, withLenNo}
 use Rattle.nets.specs.declared.Net.{Net}
 use Rattle.nets.specs.declared.Refusal.the-variants.{Damaged, NoSet, WrongFamily, BadNetwork}
@@ -16,8 +16,10 @@ use Rattle.nets.proofs.Numbers.{refusalOf-is, is-refusalOf, length-netBits, wid
 use Rattle.nets.proofs.Answers.{withLenNo-net}
 use Rattle.nodes.specs.Words.{wordAt}
 use Rattle.pool_state.specs.Decode.{recordAt, base, isHeader}
-use Rattle.lookup.specs.Walks.{areNodes, toward, shows, walk, walkFrom}
-use Rattle.lookup.specs.Rules.{onRoot, query, lookup, memberOf, supernetRule}
+use Rattle.pool_state.specs.Rules.{tagIn}
+use Rattle.pool_state.specs.Steps.{indexIn}
+use Rattle.lookup.specs.Walks.{areNodes, toward, shows, walk, walkFrom, isNode, nodeShows, standsOn}
+use Rattle.lookup.specs.Rules.{onRoot, pathOf, query, lookup, memberOf, supernetRule}
 use Rattle.lookup.specs.declared.walking.Shown.{Shown}
 use Rattle.lookup.specs.declared.walking.Shown.the-variants.{Member, Nothing, Refused}
 
@@ -46,6 +48,50 @@ module _ (w : List ℕ) (b n m : ℕ) where
       cond-both (AtMost m) (eqb r 0) (Nothing 0) (cond (leb r n) (walk w b n 0 r q) (Refused Damaged)) (omega arith)
       (cond-both (AtMost m) (leb r n) (walk w b n 0 r q) (Refused Damaged) (walk-within q 0 r (omega arith)) tt)
 
+  nodeShows-within : (d i : ℕ) (q : Bits) → d ≤ 8 → 8 + length q ≤ m → AtMost m (nodeShows w b n d i q)
+  unfolding nodeShows
+  nodeShows-within d i q le fit =
+      cond-both (AtMost m) (eqb d 8) (walk w b n 8 i q) (cond (eqb (wordAt w b i) 0) (Member d) (Refused Damaged)) (walk-within q 8 i fit)
+      (cond-both (AtMost m) (eqb (wordAt w b i) 0) (Member d) (Refused Damaged) (omega arith) tt)
+
+  standsOn-within : (r x : ℕ) (q : Bits) → 8 + length q ≤ m → AtMost m (standsOn w b n r x q)
+  unfolding standsOn
+  standsOn-within r x q fit = go (leb 16 x) (leb x 24) (leb (x % 32) 8) refl refl
+    where
+      inner : (d : Bool) → leb (x % 32) 8 ≡ d → AtMost m (cond (d && isNode n (r + x / 32)) (nodeShows w b n (x % 32) (r + x / 32) q) (Refused Damaged))
+      inner false z = tt
+      inner true z =
+          cond-both (AtMost m) (isNode n (r + x / 32)) (nodeShows w b n (x % 32) (r + x / 32) q) (Refused Damaged) (nodeShows-within (x % 32) (r + x / 32) q (leb-true (x % 32) 8 z) fit) tt
+
+      go : (a c d : Bool) → leb x 24 ≡ c → leb (x % 32) 8 ≡ d
+          → AtMost m (cond (a && c) (Nothing (x - 16)) (cond (d && isNode n (r + x / 32)) (nodeShows w b n (x % 32) (r + x / 32) q) (Refused Damaged)))
+      go true true d e f = omega (arith, leb-true x 24 e)
+      go true false d e f = inner d f
+      go false c d e f = inner d f
+
+path-within : (w : List ℕ) (m k : ℕ) (q : Bits) → length q ≤ m → AtMost m (pathOf w k q)
+unfolding pathOf
+path-within w m k q le = go (eqb (tagIn w k) 0) (ltb (length q) 8) refl
+  where
+    b : ℕ
+    b = base (getD w 2 0)
+
+    n : ℕ
+    n = getD w 3 0
+
+    r : ℕ
+    r = getD w (recordAt k) 0
+
+    x : ℕ
+    x = getD w (indexIn w k + val (take 8 q)) 0
+
+    go : (a c : Bool) → ltb (length q) 8 ≡ c → AtMost m (cond (a || c) (walkFrom w b n q r) (cond (leb (tagIn w k) (getD w 4 0)) (standsOn w b n r x (drop 8 q)) (Refused Damaged)))
+    go true c e = walkFrom-within w b n m q r le
+    go false true e = walkFrom-within w b n m q r le
+    go false false e =
+        cond-both (AtMost m) (leb (tagIn w k) (getD w 4 0)) (standsOn w b n r x (drop 8 q)) (Refused Damaged)
+        (standsOn-within w b n m r x (drop 8 q) (omega (arith, ltb-false (length q) 8 e, length-drop 8 q))) tt
+
 -- what is shown keeps this, and the query n, cut to the length of the member that is shown, is a network
 abbrev pub Cut : Net → Shown → Type 0
 Cut n (Member d) = (withLenNo n d ≡ 0) × (d ≤ 128) × (d ≤ n .len)
@@ -60,25 +106,25 @@ module _ (n : Net) where
   cut e (Nothing s) h = h
   cut e (Refused r) h = tt
 
-  query-cut : (w : List ℕ) (r : ℕ) → Cut n (query w n r)
+  query-cut : (w : List ℕ) (k : ℕ) → Cut n (query w k n)
   unfolding query
-  query-cut w r = cond-both (Cut n) (eqb (n .family) (getD w 1 0)) (cond (eqb (refusalOf n) 0) s (Refused BadNetwork)) (Refused WrongFamily) (go (eqb (refusalOf n) 0) refl) tt
+  query-cut w k = cond-both (Cut n) (eqb (n .family) (getD w 1 0)) (cond (eqb (refusalOf n) 0) s (Refused BadNetwork)) (Refused WrongFamily) (go (eqb (refusalOf n) 0) refl) tt
     where
       s : Shown
-      s = walkFrom w (base (getD w 2 0)) (getD w 3 0) (netBits n) r
+      s = pathOf w k (netBits n)
 
       go : (t : Bool) → eqb (refusalOf n) 0 ≡ t → Cut n (cond t s (Refused BadNetwork))
       go true e =
           let h = eqb-true (refusalOf n) 0 e in
-          cut h s (walkFrom-within w (base (getD w 2 0)) (getD w 3 0) (n .len) (netBits n) r (omega (arith, length-netBits n h)))
+          cut h s (path-within w (n .len) k (netBits n) (omega (arith, length-netBits n h)))
       go false e = tt
 
   pub lookup-cut : (w : List ℕ) (k : ℕ) → Cut n (lookup w k n)
   unfolding lookup onRoot
   lookup-cut w k =
-      let s = query w n (getD w (recordAt k) 0) in
+      let s = query w k n in
       cond-both (Cut n) (isHeader w) (cond (ltb k (getD w 2 0)) s (Refused NoSet)) (Refused Damaged)
-      (cond-both (Cut n) (ltb k (getD w 2 0)) s (Refused NoSet) (query-cut w (getD w (recordAt k) 0)) tt)
+      (cond-both (Cut n) (ltb k (getD w 2 0)) s (Refused NoSet) (query-cut w k) tt)
       tt
 
   -- so on any words

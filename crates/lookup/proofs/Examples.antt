@@ -11,9 +11,9 @@ use Rattle.nets.specs.declared.Net.{Net}
 use Rattle.nodes.specs.Words.{put}
 use Rattle.nodes.specs.Parse.{parse}
 use Rattle.pool_state.specs.Kept.{readL}
-use Rattle.pool_state.specs.Decode.{mark, damaged, isHeader, readSet, readSets, decode}
-use Rattle.lookup.specs.Walks.{walk, walkFrom}
-use Rattle.lookup.specs.Rules.{unsought, onRoot, query, lookup, supernetRule, emptyRule}
+use Rattle.pool_state.specs.Decode.{mark, damaged, isHeader, readSet, readSets, readPool, decode}
+use Rattle.lookup.specs.Walks.{walk, walkFrom, nodeShows, standsOn}
+use Rattle.lookup.specs.Rules.{unsought, onRoot, pathOf, query, lookup, supernetRule, emptyRule}
 
 -- an IPv4 pool of three nodes with one set, by the number of its root and the words of its nodes: 5, 0, 0 hold 0.0.0.0/1 and 128.0.0.0/1
 abbrev words : ℕ → List ℕ → List ℕ
@@ -32,7 +32,7 @@ pub answers : (supernetRule (words 1 (5 ∷ 0 ∷ 0 ∷ [])) 0 (ten 8) ≡ (0, (
     × (supernetRule (words 4 []) 0 (ten 8) ≡ (2, unsought))
     × (emptyRule (words 4 []) 0 ≡ (2, false))
     × (emptyRule (words 0 []) 0 ≡ (0, true))
-unfolding put isHeader onRoot query lookup walkFrom walk supernetRule emptyRule width bits netBits netFrom inRange refusalOf cleared hasBitPast
+unfolding put isHeader onRoot pathOf query lookup walkFrom walk supernetRule emptyRule width bits netBits netFrom inRange refusalOf cleared hasBitPast
 answers = (refl, refl, refl, refl, refl, refl, refl, refl)
 
 -- The number of the other child is looked at too: 1 + 7 is no node's. What stands beside the path is not: the pool is damaged, and the lookup says what its path shows.
@@ -41,5 +41,20 @@ pub beside : (supernetRule (words 1 (15 ∷ 0 ∷ 0 ∷ [])) 0 (ten 8) ≡ (2, u
     × (decode (words 1 (5 ∷ 0 ∷ 7 ∷ [])) ≡ damaged)
     × (supernetRule (words 1 (5 ∷ 0 ∷ 7 ∷ [])) 0 (ten 8) ≡ (0, (true, (netWords 4 0 0 1, (2, false)))))
     × (emptyRule (words 1 (5 ∷ 0 ∷ 7 ∷ [])) 0 ≡ (0, false))
-unfolding put isHeader onRoot query lookup walkFrom walk supernetRule emptyRule width bits netBits netFrom inRange refusalOf cleared hasBitPast decode readSets readSet readL parse size
+unfolding put isHeader onRoot pathOf query lookup walkFrom walk supernetRule emptyRule width bits netBits netFrom inRange refusalOf cleared hasBitPast decode readPool readSets readSet readL parse size
 beside = (refl, refl, refl, refl, refl)
+
+-- The same set, indexed, by the word of the byte 10: a leaf after 1 bit, its own; a leaf after 0 bits, which counts as the word says; an absence. None of the three, no leaf, no node.
+-- A query of seven bits does not look at it.
+abbrev indexed : ℕ → List ℕ
+indexed x = put (put (put (put (replicate 352 0) 0 (mark ∷ 4 ∷ 1 ∷ 3 ∷ 1 ∷ [])) 64 (1 ∷ 3 ∷ 3 ∷ 0 ∷ 1 ∷ [])) 72 (5 ∷ 0 ∷ 0 ∷ [])) 106 (x ∷ [])
+
+pub from-index : (supernetRule (indexed 33) 0 (ten 8) ≡ (0, (true, (netWords 4 0 0 1, (2, false)))))
+    × (supernetRule (indexed 32) 0 (ten 8) ≡ (0, (true, (netWords 4 0 0 0, (1, false)))))
+    × (supernetRule (indexed 24) 0 (ten 8) ≡ (0, (false, (noNet, (8, false)))))
+    × (supernetRule (indexed 25) 0 (ten 8) ≡ (2, unsought))
+    × (supernetRule (indexed 1) 0 (ten 8) ≡ (2, unsought))
+    × (supernetRule (indexed 104) 0 (ten 8) ≡ (2, unsought))
+    × (supernetRule (indexed 25) 0 (ten 7) ≡ (0, (true, (netWords 4 0 0 1, (2, false)))))
+unfolding put isHeader onRoot pathOf query lookup walkFrom walk nodeShows standsOn supernetRule width bits netBits netFrom inRange refusalOf cleared hasBitPast
+from-index = (refl, refl, refl, refl, refl, refl, refl)

@@ -1,41 +1,51 @@
 -- On sound words each lookup is the list's: the number by the state alone, and the member, the truth, the steps or the emptiness by the set's list; the report is that of the query. Assumes nothing.
-use mathlib.Core.Bool.{Bool, true, false, not, cond, _&&_, false≢true}
+use mathlib.Core.Bool.{Bool, true, false, not, cond, _&&_, _||_, false≢true}
 use mathlib.Core.List.{List, [], _∷_}
 use mathlib.Core.Path.{_≡_, refl, ap, sym, _∙_}
 use Prim.Native.Nat.{ℕ, suc, _+_, _≤_, _<_}
-use native.Mathlib.Nat.{zero-add}
+use native.Mathlib.Nat.{zero-add, add-zero}
 use native.Mathlib.Numerals.{add-one}
 use native.Mathlib.Omega.{arith}
 use lib.Dec.{eqb, leb, ltb}
-use lib.ListN.{length, getD, take}
-use lib.Seq.{take-take}
-use borrow.Author.Tests.{ltb-true, ltb-false, leb-false, le-leb, lt-leb, eqb-true}
-use Rattle.nets.specs.Bits.{Bits, leads, bits}
-use Rattle.nets.specs.Tries.{listOf, trieOf}
+use lib.ListN.{length, getD, take, drop, take-append-drop}
+use lib.Seq.{take-take, length-take-le}
+use borrow.Author.Tests.{eqb-false, ltb-true, ltb-false, leb-false, le-leb, lt-leb, eqb-true}
+use Rattle.nets.specs.Bits.{Bits, digit, val, leads, bits}
+use Rattle.nets.specs.Tries.{none, listOf, trieOf}
+use Rattle.nets.specs.TrieOps.{searchT, stepsT}
 use Rattle.nets.specs.Lists.{Found, found, missing, isFound, supernetL, containsL, stepsL}
 use Rattle.nets.specs.Refusals.{number, answered}
 use Rattle.nets.specs.Networks.{width, address, netBits, netFrom, refusalOf, withLen, cleared, hasBitPast}
 use Rattle.nets.specs.declared.Net.{Net}
 use Rattle.nets.specs.declared.Refusal.{Refusal}
-use Rattle.nets.specs.declared.Refusal.the-variants.{NoSet, WrongFamily, BadNetwork}
+use Rattle.nets.specs.declared.Refusal.the-variants.{Damaged, NoSet, WrongFamily, BadNetwork}
 use Rattle.nets.proofs.Strings.{and-left, leads-head, leads-tail, leads-length}
-use Rattle.nets.proofs.Numbers.{length-netBits}
+use Rattle.nets.proofs.Numbers.{length-netBits, bits-val}
+use Rattle.nets.proofs.Order.{val-high}
 use Rattle.nets.proofs.TrieOf.{listOf-trieOf}
 use Rattle.nets.proofs.Lookups.{supernetL-found, searchT-listOf}
 use Rattle.nets.proofs.Steps.{stepsT-listOf, stepsL-found}
-use Rattle.pool_state.specs.States.{State, held}
-use Rattle.pool_state.specs.Decode.{recordAt, base, decode, sound}
-use Rattle.pool_state.specs.Rules.{firstNode}
+use Rattle.pool_state.specs.States.{State, held, indexedOf}
+use Rattle.pool_state.specs.Kept.{indexL}
+use Rattle.pool_state.specs.Decode.{recordAt, base, tagOf, indexesAt, decode, sound}
+use Rattle.pool_state.specs.Rules.{firstNode, tagIn}
+use Rattle.pool_state.specs.Steps.{indexIn}
 use Rattle.pool_state.specs.Changes.{setAt, listAt, netRules}
 use Rattle.pool_state.proofs.Claims.{isList-listAt}
-use Rattle.pool_state.proofs.Encoded.{HeaderOf}
+use Rattle.pool_state.proofs.Holds.{rootAt-some}
+use Rattle.pool_state.proofs.Indexed.{indexes-tag, indexes-at, indexed-before}
+use Rattle.pool_state.proofs.Whole.{HeaderOf, decode-whole}
 use Rattle.pool_state.proofs.Decoded.{decode-header, decode-state, decode-root, decode-parts}
 use Rattle.pool_state.proofs.OnTries.{decode-at}
-use Rattle.lookup.specs.Walks.{walkFrom}
-use Rattle.lookup.specs.Rules.{unsought, unheld, onRoot, query, lookup, memberOf, isMember, supernetRule, containsRule, emptyAt, emptyRule, setNo, lookupNo, foundAs}
+use Rattle.lookup.specs.Walks.{walkFrom, standsOn}
+use Rattle.lookup.specs.Rules.{unsought, unheld, onRoot, pathOf, query, lookup, memberOf, isMember, supernetRule, containsRule, emptyAt, emptyRule, setNo, lookupNo, foundAs}
 use Rattle.lookup.specs.declared.walking.Shown.{Shown}
 use Rattle.lookup.specs.declared.walking.Shown.the-variants.{Refused}
-use Rattle.lookup.proofs.Searched.{shown, rootAt-node, walkFrom-search}
+use Rattle.nodes.specs.Words.{Has}
+use Rattle.nodes.proofs.Has.{has-at}
+use Rattle.trie_index.specs.Index.{standing, indexT}
+use Rattle.trie_index.proofs.Fill.{length-fill, getD-fill}
+use Rattle.lookup.proofs.Searched.{shown, At, rootAt-node, walkFrom-search, standing-search}
 
 -- The member that is found is the query, cut to the member's length.
 take-leads : (p q : Bits) → leads p q ≡ true → take (length p) q ≡ p
@@ -49,6 +59,10 @@ cleared-cut n p e h =
     let B = bits (width (n .family)) (address n) in
     let le : length p ≤ n .len = omega (arith, leads-length p (netBits n) h, length-netBits n e) in
     ap (netFrom (n .family)) (sym (take-take (length p) (n .len) B le) ∙ take-leads p (netBits n) h)
+
+trie-nil : trieOf [] ≡ none
+unfolding trieOf
+trie-nil = refl
 
 module _ (w : List ℕ) (S : State) (e : decode w ≡ sound S) (k : ℕ) where
   head : HeaderOf w S
@@ -73,12 +87,76 @@ module _ (w : List ℕ) (S : State) (e : decode w ≡ sound S) (k : ℕ) where
     one : 1 ≤ firstNode k 1 (S .sets)
     one = omega (arith, decode-parts w S e k lt .1)
 
+    root-at : (trieOf (listAt S k) ≡ none → ⊥) → At w (base (getD w 2 0)) (getD w 3 0) (getD w (recordAt k) 0 + 0) (trieOf (listAt S k))
+    root-at ne =
+        let s = decode-at w S e k lt in
+        let z : listAt S k ≡ [] → ⊥ = λ q. ne (ap trieOf q ∙ trie-nil) in
+        rw (add-zero (getD w (recordAt k) 0), head .sets, head .nodes, decode-root w S e k lt, rootAt-some (firstNode k 1 (S .sets)) (listAt S k) z)
+        (record { one = one; within = s .within; has = s .has })
+
     walk-sound : (q : Bits) → walkFrom w (base (getD w 2 0)) (getD w 3 0) q (getD w (recordAt k) 0) ≡ shown 0 (supernetL (listAt S k) q) (stepsL (listAt S k) q)
     walk-sound q =
         let t = trieOf (listAt S k) in
         rw (head .sets, head .nodes, decode-root w S e k lt)
         (walkFrom-search one (listAt S k) q (decode-at w S e k lt)
         ∙ rw (← searchT-listOf q t, ← stepsT-listOf q t) (ap (λ l. shown 0 (supernetL l q) (stepsL l q)) list-of))
+
+    -- an indexed set: its tag, and the word of its index for the first eight bits of a query
+    its-tag : tagIn w k ≡ tagOf (setAt S k .indexed) (indexedOf (take k (S .sets)))
+    its-tag = rw (zero-add k, zero-add (indexedOf (take k (S .sets)))) at (indexes-tag w (indexesAt S) k 0 0 (S .sets) lt (decode-whole w S e .indexes))
+
+    module _ (some : tagIn w k ≡ 0 → ⊥) where
+      indexed : (setAt S k .indexed ≡ true) × (tagIn w k ≡ suc (indexedOf (take k (S .sets))))
+      indexed = go (setAt S k .indexed) its-tag
+        where
+          go : (c : Bool) → tagIn w k ≡ tagOf c (indexedOf (take k (S .sets))) → (c ≡ true) × (tagIn w k ≡ suc (indexedOf (take k (S .sets))))
+          go true q = (refl, q)
+          go false q = absurd (some q)
+
+      tag-few : tagIn w k ≤ getD w 4 0
+      tag-few = omega (arith, indexed .1, indexed-before k (S .sets) lt, ap digit (indexed .0), head .indexed)
+
+      index-has : Has w (indexIn w k) (indexL (listAt S k))
+      index-has =
+          let h = indexes-at w (indexesAt S) k 0 0 (S .sets) lt (decode-whole w S e .indexes) in
+          let g = ap (λ c. cond c (indexL (listAt S k)) []) (indexed .0) in
+          has-at (omega (arith, indexed .1, head .sets, head .nodes)) (rw g at h)
+
+      word-is : (q : Bits) → 8 ≤ length q → getD w (indexIn w k + val (take 8 q)) 0 ≡ standing (take 8 q) 0 0 (trieOf (listAt S k))
+      unfolding indexL indexT
+      word-is q le =
+          let n : length (take 8 q) ≡ 8 = length-take-le 8 q le in
+          let f : ℕ → ℕ = λ v. standing (bits 8 v) 0 0 (trieOf (listAt S k)) in
+          let lo : val (take 8 q) < 256 = rw n at (val-high (take 8 q)) in
+          index-has .at (val (take 8 q)) (rw (length-fill f 256 0) lo) ∙ getD-fill f 256 0 (val (take 8 q)) lo
+          ∙ ap (λ v. standing (bits 8 v) 0 0 (trieOf (listAt S k))) (zero-add (val (take 8 q)))
+          ∙ ap (λ p. standing p 0 0 (trieOf (listAt S k))) (bits-val 8 (take 8 q) n)
+
+      index-sound : (q : Bits) → 8 ≤ length q → standsOn w (base (getD w 2 0)) (getD w 3 0) (getD w (recordAt k) 0) (getD w (indexIn w k + val (take 8 q)) 0) (drop 8 q)
+          ≡ shown 0 (supernetL (listAt S k) q) (stepsL (listAt S k) q)
+      index-sound q le =
+          let t = trieOf (listAt S k) in
+          let n : length (take 8 q) ≡ 8 = length-take-le 8 q le in
+          rw (word-is q le)
+          (standing-search w (base (getD w 2 0)) (getD w 3 0) (getD w (recordAt k) 0) (take 8 q) (drop 8 q) 0 0 t (omega (arith, n)) root-at
+          ∙ ap (λ p. shown 0 (searchT p t) (stepsT p t)) (take-append-drop 8 q)
+          ∙ rw (← searchT-listOf q t, ← stepsT-listOf q t) (ap (λ l. shown 0 (supernetL l q) (stepsL l q)) list-of))
+
+    path-sound : (q : Bits) → pathOf w k q ≡ shown 0 (supernetL (listAt S k) q) (stepsL (listAt S k) q)
+    unfolding pathOf
+    path-sound q = go (eqb (tagIn w k) 0) (ltb (length q) 8) refl refl
+      where
+        go : (a c : Bool) → eqb (tagIn w k) 0 ≡ a → ltb (length q) 8 ≡ c
+            → cond (a || c) (walkFrom w (base (getD w 2 0)) (getD w 3 0) q (getD w (recordAt k) 0))
+            (cond (leb (tagIn w k) (getD w 4 0))
+            (standsOn w (base (getD w 2 0)) (getD w 3 0) (getD w (recordAt k) 0) (getD w (indexIn w k + val (take 8 q)) 0) (drop 8 q))
+            (Refused Damaged))
+            ≡ shown 0 (supernetL (listAt S k) q) (stepsL (listAt S k) q)
+        go true c f g = walk-sound q
+        go false true f g = walk-sound q
+        go false false f g =
+            let some : tagIn w k ≡ 0 → ⊥ = eqb-false (tagIn w k) 0 f in
+            rw (le-leb (tagIn w k) (getD w 4 0) (tag-few some)) (index-sound some q (ltb-false (length q) 8 g))
 
     root-sound : (getD w (recordAt k) 0 ≤ getD w 3 0) × (eqb (getD w (recordAt k) 0) 0 ≡ eqb (length (listAt S k)) 0)
     root-sound = rw (head .nodes, decode-root w S e k lt) (rootAt-node one (listAt S k) (decode-at w S e k lt))
@@ -95,11 +173,11 @@ module _ (w : List ℕ) (S : State) (e : decode w ≡ sound S) (k : ℕ) where
 
   lookup-sound : (n : Net) → lookup w k n ≡ whole n (leb (length (S .sets)) k) (eqb (n .family) (S .family)) (eqb (refusalOf n) 0)
   unfolding lookup query
-  lookup-sound n = onRoot-sound Refused (query w n) ∙ go (leb (length (S .sets)) k) refl
+  lookup-sound n = onRoot-sound Refused (λ r. query w k n) ∙ go (leb (length (S .sets)) k) refl
     where
-      go : (a : Bool) → leb (length (S .sets)) k ≡ a → cond a (Refused NoSet) (query w n (getD w (recordAt k) 0)) ≡ whole n a (eqb (n .family) (S .family)) (eqb (refusalOf n) 0)
+      go : (a : Bool) → leb (length (S .sets)) k ≡ a → cond a (Refused NoSet) (query w k n) ≡ whole n a (eqb (n .family) (S .family)) (eqb (refusalOf n) 0)
       go true h = refl
-      go false h = rw (head .family, walk-sound (leb-false (length (S .sets)) k h) (netBits n))
+      go false h = rw (head .family, path-sound (leb-false (length (S .sets)) k h) (netBits n))
 
   -- an answer by what is shown is an answer by the table
   module _ {A : Type 0} (n : Net) (z v : A) (F : Shown → ℕ × A) (no-value : (r : Refusal) → F (Refused r) ≡ (number r, z)) (value : n .family ≡ S .family → refusalOf n ≡ 0 → F (path n) ≡ (0, v)) where

@@ -1,13 +1,13 @@
 -- On words that hold a trie the walk finds what the trie's search finds, and reads the nodes on its way, by induction on the bits over the child on the side of the bit. Assumes nothing.
-use mathlib.Core.Bool.{Bool, true, false, cond}
-use mathlib.Core.List.{List, [], _∷_}
+use mathlib.Core.Bool.{Bool, true, false, cond, _&&_}
+use mathlib.Core.List.{List, [], _∷_, _++_}
 use mathlib.Core.Path.{_≡_, refl, ap, sym, _∙_}
-use Prim.Native.Nat.{ℕ, suc, _+_, _≤_}
+use Prim.Native.Nat.{ℕ, suc, _+_, _-_, _*_, _/_, _%_, _≤_, _<_}
 use native.Mathlib.Nat.{add-zero}
 use native.Mathlib.Omega.{arith}
-use lib.Dec.{eqb}
+use lib.Dec.{eqb, leb}
 use lib.ListN.{length}
-use borrow.Author.Tests.{ne-eqb}
+use borrow.Author.Tests.{ne-eqb, le-leb, lt-leb, leb-true}
 use Rattle.nets.specs.Bits.{Bits}
 use Rattle.nets.specs.Tries.{Trie, none, node, leaf, size, bare, side, fork, insertT, trieOf}
 use Rattle.nets.specs.Lists.{Found, found, missing}
@@ -17,7 +17,8 @@ use Rattle.nodes.specs.Parse.{Stands}
 use Rattle.nodes.proofs.Has.{has-at}
 use Rattle.nodes.proofs.Tries.{some, word-first, word-second, word-le, word-leaf, Split, apart}
 use Rattle.pool_state.specs.Decode.{rootAt}
-use Rattle.lookup.specs.Walks.{areNodes, toward, shows, walk, walkFrom}
+use Rattle.lookup.specs.Walks.{areNodes, toward, shows, walk, walkFrom, nodeShows, standsOn}
+use Rattle.trie_index.specs.Index.{nodeAt, absentAt, standing}
 use Rattle.lookup.specs.declared.walking.Shown.{Shown}
 use Rattle.lookup.specs.declared.walking.Shown.the-variants.{Member, Nothing}
 use Rattle.lookup.proofs.Turns.{walkFrom-none, walkFrom-node, areNodes-in, onward, walk-shows}
@@ -36,15 +37,19 @@ unfolding searchT stepsT
 search-none [] = (refl, refl)
 search-none (b ∷ q) = (refl, refl)
 
+search-on : (c : Bool) (q : Bits) (l r : Trie) (d : ℕ) → bare l r ≡ false → shown d (searchT (c ∷ q) (node l r)) (stepsT (c ∷ q) (node l r)) ≡ shown d (under c (searchT q (side c l r))) (suc (stepsT q (side c l r)))
+unfolding searchT stepsT
+search-on c q l r d e = rw e
+
 -- The child on the side of the bit: how far it is, and its words.
 abbrev step : Bool → Trie → ℕ
 step c l = side c 1 (1 + size l)
 
 -- the trie t stands at node i of n
-record At (w : List ℕ) (b n i : ℕ) (t : Trie) : Type 0 where
-  one : 1 ≤ i
-  within : i + size t ≤ suc n
-  has : Has w (place b i) (enc t)
+pub record At (w : List ℕ) (b n i : ℕ) (t : Trie) : Type 0 where
+  pub one : 1 ≤ i
+  pub within : i + size t ≤ suc n
+  pub has : Has w (place b i) (enc t)
 
 module _ {w : List ℕ} {b n i : ℕ} {l r : Trie} (h : At w b n i (node l r)) where
   split : Split w b i l r
@@ -91,6 +96,62 @@ module _ (w : List ℕ) (b n : ℕ) where
       ∙ shows-search w b n d i l r (onward w b n d i (c ∷ q)) (under c (searchT q (side c l r))) (suc (stepsT q (side c l r))) h
       (rw (split h .root) (e ∙ shown-under c d (searchT q (side c l r)) (stepsT q (side c l r))))
 
+-- From the word of an index the same is found: of the bits p, eight with the d before, it says where the walk stands, and the bits q are still to come.
+standsOn-absent : (w : List ℕ) (b n r d : ℕ) (q : Bits) → d ≤ 8 → standsOn w b n r (absentAt d) q ≡ Nothing d
+unfolding standsOn
+standsOn-absent w b n r d q le = let e : 16 + d - 16 ≡ d = omega arith in rw (le-leb 16 (16 + d) (omega arith), le-leb (16 + d) 24 (omega arith), e)
+
+standsOn-node : (w : List ℕ) (b n root d r : ℕ) (q : Bits) → d ≤ 8 → 1 ≤ root + r → root + r ≤ n → standsOn w b n root (nodeAt d r) q ≡ nodeShows w b n d (root + r) q
+unfolding standsOn
+standsOn-node w b n root d r q le one in-n =
+    let m : (32 * r + d) % 32 ≡ d = omega arith in
+    let v : (32 * r + d) / 32 ≡ r = omega arith in
+    let z : (leb 16 (32 * r + d) && leb (32 * r + d) 24) ≡ false = off (leb 16 (32 * r + d)) refl in
+    rw (z, m, v, le-leb d 8 le, le-leb 1 (root + r) one, le-leb (root + r) n in-n)
+  where
+    off : (c : Bool) → leb 16 (32 * r + d) ≡ c → (c && leb (32 * r + d) 24) ≡ false
+    off false e = refl
+    off true e = lt-leb (32 * r + d) 24 (omega (arith, leb-true 16 (32 * r + d) e))
+
+leaf-search : (q : Bits) (l r : Trie) → bare l r ≡ true → searchT q (node l r) ≡ found []
+unfolding searchT
+leaf-search [] l r e = rw e
+leaf-search (c ∷ q) l r e = rw e
+
+module _ (w : List ℕ) (b n root : ℕ) where
+  at-node : {i : ℕ} (l r : Trie) → At w b n i (node l r) → (1 ≤ i) × (i ≤ n)
+  at-node l r h = (h .one, omega (arith, size-node h))
+
+  leaf-shows : (d i : ℕ) (q p : Bits) (l r : Trie) → (d ≡ 8 → ⊥) → At w b n i (node l r) → bare l r ≡ true → nodeShows w b n d i q ≡ shown d (searchT p (node l r)) (stepsT p (node l r))
+  unfolding nodeShows
+  leaf-shows d i q p l r ne h e =
+      rw (ne-eqb d 8 ne, split h .root, word-leaf l r, e, leaf-search p l r e) (ap Member (sym (add-zero d)))
+
+  standing-step : (c : Bool) (p q : Bits) (d r : ℕ) (x y : Trie) → d < 8 → At w b n (root + r) (node x y)
+      → standsOn w b n root (standing p (d + 1) (r + side c 1 (1 + size x)) (side c x y)) q ≡ shown (d + 1) (searchT (p ++ q) (side c x y)) (stepsT (p ++ q) (side c x y))
+      → standsOn w b n root (cond (bare x y) (nodeAt d r) (standing p (d + 1) (r + side c 1 (1 + size x)) (side c x y))) q ≡ shown d (searchT (c ∷ (p ++ q)) (node x y)) (stepsT (c ∷ (p ++ q)) (node x y))
+  standing-step c p q d r x y lt g next = go (bare x y) refl
+    where
+      go : (a : Bool) → bare x y ≡ a → standsOn w b n root (cond a (nodeAt d r) (standing p (d + 1) (r + side c 1 (1 + size x)) (side c x y))) q
+          ≡ shown d (searchT (c ∷ (p ++ q)) (node x y)) (stepsT (c ∷ (p ++ q)) (node x y))
+      go true z = let f = at-node x y g in standsOn-node w b n root d r q (omega arith) (f .0) (f .1) ∙ leaf-shows d (root + r) q (c ∷ (p ++ q)) x y (λ e. omega arith) g z
+      go false z = next ∙ shown-under c d (searchT (p ++ q) (side c x y)) (stepsT (p ++ q) (side c x y)) ∙ sym (search-on c (p ++ q) x y d z)
+
+  pub standing-search : (p q : Bits) (d r : ℕ) (t : Trie) → d + length p ≡ 8 → ((t ≡ none → ⊥) → At w b n (root + r) t)
+      → standsOn w b n root (standing p d r t) q ≡ shown d (searchT (p ++ q) t) (stepsT (p ++ q) t)
+  unfolding standing nodeShows
+  standing-search [] q d r none e h = standsOn-absent w b n root d q (omega arith) ∙ rw (search-none q .0, search-none q .1) (ap Nothing (sym (add-zero d)))
+  standing-search [] q d r (node x y) e h =
+      let g = h (some x y) in
+      let z : d ≡ 8 = omega arith in
+      let f = at-node x y g in
+      standsOn-node w b n root d r q (omega arith) (f .0) (f .1) ∙ rw (z) (walk-search w b n q (node x y) 8 (root + r) (some x y) g)
+  standing-search (c ∷ p) q d r none e h = standsOn-absent w b n root d q (omega arith) ∙ rw (search-none (c ∷ (p ++ q)) .0, search-none (c ∷ (p ++ q)) .1) (ap Nothing (sym (add-zero d)))
+  standing-search (c ∷ p) q d r (node x y) e h =
+      let u : root + (r + side c 1 (1 + size x)) ≡ root + r + side c 1 (1 + size x) = omega arith in
+      standing-step c p q d r x y (omega arith) (h (some x y))
+      (standing-search p q (d + 1) (r + side c 1 (1 + size x)) (side c x y) (omega arith) (λ ne. rw u (at-child (h (some x y)) c)))
+
 -- The root of a list.
 insertT-some : (p : Bits) (t : Trie) → insertT p t ≡ none → ⊥
 unfolding insertT
@@ -120,5 +181,5 @@ module _ {w : List ℕ} {b n f i : ℕ} (pos : 1 ≤ i) where
   unfolding trieOf
   walkFrom-search [] q s = sym (walkFrom-none w b n q 0 refl) ∙ rw (search-none q .0, search-none q .1)
   walkFrom-search (p ∷ l) q s =
-      sym (walkFrom-node w b n q i (omega arith) (rootAt-node (p ∷ l) s .0))
+      sym (walkFrom-node w b n q i 0 refl (omega arith) (rootAt-node (p ∷ l) s .0))
       ∙ walk-search w b n q (insertT p (trieOf l)) 0 i (insertT-some p (trieOf l)) (record { one = pos; within = s .within; has = s .has })

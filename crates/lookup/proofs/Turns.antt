@@ -32,9 +32,9 @@ module _ (w : List ℕ) (b n : ℕ) (q : Bits) (r : ℕ) where
   unfolding walkFrom
   walkFrom-over lt = rw (ne-eqb r 0 (omega arith), lt-leb r n lt)
 
-  pub walkFrom-node : (r ≡ 0 → ⊥) → r ≤ n → walk w b n 0 r q ≡ walkFrom w b n q r
+  pub walkFrom-node : (d : ℕ) → d ≡ 0 → (r ≡ 0 → ⊥) → r ≤ n → walk w b n d r q ≡ walkFrom w b n q r
   unfolding walkFrom
-  walkFrom-node nz le = rw (ne-eqb r 0 nz, le-leb r n le)
+  walkFrom-node d e nz le = rw (e, ne-eqb r 0 nz, le-leb r n le)
 
 -- The numbers of the children are in the pool exactly where the code's tests say so.
 childAt-in : (n i x : ℕ) → i + x ≤ n → leb (childAt i x) n ≡ true
@@ -149,11 +149,11 @@ pub record Seen (w : List ℕ) (b n : ℕ) (s : Shown) (all p : ℕ) (left : Pre
   pub next : nextOf left ≡ nextAs (Bit bit later)
 
 -- the root's place
-pub placed-start : {w : List ℕ} {b n root : ℕ} {bits : PrefixBits} → 1 ≤ root → root ≤ n → bits .len ≤ 128 → Placed w b n (walk w b n 0 root (bitsLeft bits)) (bits .len) (b + (root - 1)) bits
-placed-start {w} {b} {n} {root} {bits} one le few =
+pub placed-start : {w : List ℕ} {b n root len : ℕ} {bits : PrefixBits} → 1 ≤ root → root ≤ n → bits .len ≤ len → len ≤ 128
+    → Placed w b n (walk w b n (len - bits .len) root (bitsLeft bits)) len (b + (root - 1)) bits
+placed-start {w} {b} {n} {root} {len} {bits} one le in-len few =
     let i : b + (root - 1) + 1 - b ≡ root = omega arith in
-    let d : bits .len - bits .len ≡ 0 = omega arith in
-    record { low = omega arith; behind = omega arith; down = rw (i, d) (record { one = one; within = le; few = omega arith; rest = refl }) }
+    record { low = omega arith; behind = in-len; down = rw i (record { one = one; within = le; few = omega arith; rest = refl }) }
 
 placed-word : {w : List ℕ} {b n : ℕ} {s : Shown} {all p : ℕ} {left : PrefixBits} → Placed w b n s all p left → getD w p 0 ≡ wordAt w b (p + 1 - b)
 placed-word {w} {b} {p = p} g = ap (λ k. getD w k 0) (let e : p ≡ b + (p + 1 - b - 1) = omega (arith, g .low) in e)

@@ -1,14 +1,17 @@
 -- The rules of the lookups, as functions of the words: the header first, then the arguments, then the path and nothing else.
 --
 --   onRoot w k refuse f     2 no header of a pool, 3 no such set; else what f says of the number of the set's root
+--   fromRoot, fromIndex     what the path of the bits q shows in set k from the root on, and from their word of the index at place p on
+--   pathOf w k q            what the path of the bits q shows in set k: from the root on, or where the set is indexed and there are eight bits, from their word of the index on
 --   query, lookup           6 another family than the pool's, 7 no network; else what the path shows
 --   supernetRule, containsRule, emptyRule      the number and the values of each answer;  Sought, Held: those values, of supernet and of contains
 --   setNo, lookupNo, foundAs                   the same of a sound pool, by its lists: proofs/OnLists.antt
-use mathlib.Core.Bool.{Bool, true, false, cond}
+use mathlib.Core.Bool.{Bool, true, false, cond, _||_}
 use mathlib.Core.List.{List, [], _∷_}
 use Prim.Native.Nat.{ℕ, _+_}
 use lib.Dec.{eqb, leb, ltb}
-use lib.ListN.{getD}
+use lib.ListN.{length, getD, take, drop}
+use Rattle.nets.specs.Bits.{Bits, val}
 use Rattle.nets.specs.Lists.{Found, found, missing}
 use Rattle.nets.specs.Refusals.{number, firstNo}
 use Rattle.nets.specs.Networks.{netBits, netFrom, refusalOf, noNet, withLen, cleared, hasBitPast}
@@ -17,9 +20,10 @@ use Rattle.nets.specs.declared.Refusal.{Refusal}
 use Rattle.nets.specs.declared.Refusal.the-variants.{Damaged, NoSet, WrongFamily, BadNetwork}
 use Rattle.pool_state.specs.States.{State}
 use Rattle.pool_state.specs.Decode.{recordAt, base, isHeader}
-use Rattle.pool_state.specs.Rules.{unknown}
+use Rattle.pool_state.specs.Rules.{unknown, tagIn}
+use Rattle.pool_state.specs.Steps.{indexIn}
 use Rattle.pool_state.specs.Changes.{netRules}
-use Rattle.lookup.specs.Walks.{walkFrom}
+use Rattle.lookup.specs.Walks.{walkFrom, standsOn}
 use Rattle.lookup.specs.declared.walking.Shown.{Shown}
 use Rattle.lookup.specs.declared.walking.Shown.the-variants.{Member, Nothing, Refused}
 use Rattle.lookup.specs.declared.Covering.{Covering}
@@ -30,14 +34,24 @@ use Rattle.lookup.specs.declared.Contained.the-variants as contained
 unfoldable pub onRoot : {A : Type 0} → List ℕ → ℕ → (Refusal → A) → (ℕ → A) → A
 onRoot w k refuse f = cond (isHeader w) (cond (ltb k (getD w 2 0)) (f (getD w (recordAt k) 0)) (refuse NoSet)) (refuse Damaged)
 
-unfoldable pub query : List ℕ → Net → ℕ → Shown
-query w n r =
+abbrev pub fromRoot : List ℕ → ℕ → Bits → Shown
+fromRoot w k q = walkFrom w (base (getD w 2 0)) (getD w 3 0) q (getD w (recordAt k) 0)
+
+abbrev pub fromIndex : List ℕ → ℕ → ℕ → Bits → Shown
+fromIndex w k p q = standsOn w (base (getD w 2 0)) (getD w 3 0) (getD w (recordAt k) 0) (getD w (p + val (take 8 q)) 0) (drop 8 q)
+
+unfoldable pub pathOf : List ℕ → ℕ → Bits → Shown
+pathOf w k q =
+    cond (eqb (tagIn w k) 0 || ltb (length q) 8) (fromRoot w k q) (cond (leb (tagIn w k) (getD w 4 0)) (fromIndex w k (indexIn w k) q) (Refused Damaged))
+
+unfoldable pub query : List ℕ → ℕ → Net → Shown
+query w k n =
     cond (eqb (n .family) (getD w 1 0))
-    (cond (eqb (refusalOf n) 0) (walkFrom w (base (getD w 2 0)) (getD w 3 0) (netBits n) r) (Refused BadNetwork))
+    (cond (eqb (refusalOf n) 0) (pathOf w k (netBits n)) (Refused BadNetwork))
     (Refused WrongFamily)
 
 unfoldable pub lookup : List ℕ → ℕ → Net → Shown
-lookup w k n = onRoot w k Refused (query w n)
+lookup w k n = onRoot w k Refused (λ r. query w k n)
 
 -- the number and the values of an answer: a refusal has its number and zeros. The values of a lookup stand in pairs to the right, so that one more goes behind the last:
 -- found or not, the member, the nodes that were read, and whether a set bit past the query's length was cut

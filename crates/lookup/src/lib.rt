@@ -15,6 +15,7 @@ ghost use Rattle.nets.specs.Networks.{withLen, withLenNo, cleared, hasBitPast};
 ghost use Rattle.pool_state.specs.Rules.{toldAs};
 ghost use Rattle.lookup.specs.Rules.{supernetAs, containsAs, supernetRule, containsRule, emptyRule};
 
+pub mod beginning;
 pub mod walking;
 
 // What supernet answers: the member that contains the query, or that there is none; how many nodes were read; and whether a set bit past the query's length was cut.

@@ -1,4 +1,5 @@
 // The walk of a lookup: header, arguments, and then down by the bits of the query, one word a level.
+use crate::beginning::path;
 use nets::Net;
 use nets::NextBit;
 use nets::Prefix;
@@ -9,6 +10,7 @@ use pool_check::HEAD;
 use pool_check::RECORD;
 use pool_check::is_header;
 use pool_state::Answer;
+use trie_index::turn;
 ghost use mathlib.Core.Bool.{true};
 ghost use mathlib.Core.Path.{_≡_};
 ghost use Prim.Native.Nat.{_+_, _-_, _≤_, _<_};
@@ -16,7 +18,8 @@ ghost use Rattle.nets.specs.Networks.{bitsLeft};
 ghost use Rattle.nets.specs.Tries.{side};
 ghost use Rattle.nodes.specs.Parse.{Room};
 ghost use Rattle.pool_state.specs.Decode.{isHeader};
-ghost use Rattle.lookup.specs.Walks.{toward, walk, walkFrom};
+ghost use lib.ListN.{getD};
+ghost use Rattle.lookup.specs.Walks.{walk, walkFrom};
 ghost use Rattle.lookup.specs.Rules.{onRoot, query, lookup};
 
 // What a path shows: a member of that length, which is one less than the nodes read; nothing, and how many nodes were read; or why there is no answer.
@@ -37,16 +40,6 @@ pub fn root(w: &[u32], set: u32) -> Answer
         return Answer::Refused(Refusal::NoSet);
     }
     Answer::Granted(w[HEAD + RECORD * (set as usize)])
-}
-
-// The distance to the child on the side of the bit, by the word x of a node.
-pub fn turn(bit: bool, x: u32) -> u32
-    ensures { λ r. ⌜ r ≡ toward bit x ⌝ }
-{
-    if bit {
-        return x / 2;
-    }
-    x % 2
 }
 
 // What the path down from the node at place p shows, d bits down, where the nodes 1..=n stand from b on: with every test at every node.
@@ -105,18 +98,18 @@ fn child(bit: bool, p: usize, q: usize) -> usize
     p + 1
 }
 
-// What the path down from node root shows. One test at a node says that both its children are nodes: the second, at q, stands before the last. Where that is not
-// so, where a word is of no node, and where the query ends, every test is made. Nodes with one child have a branch of their own, so that a processor goes on
-// before it has their words: the child stands right behind.
-fn walk_down(w: &[u32], b: usize, n: u32, root: u32, bits: PrefixBits) -> Shown
-    requires { ⌜ Room (now w) b n × (1 ≤ root) × (root ≤ n) × (bits .len ≤ 128) ⌝ }
-    ensures { λ r. ⌜ r ≡ walk (now (w .entry)) b n 0 root (bitsLeft bits) ⌝ }
+// What the path down from node root shows, where of a query of len bits these are still to come. One test at a node says that both its children are nodes: the
+// second, at q, stands before the last. Where that is not so, where a word is of no node, and where the query ends, every test is made. Nodes with one child
+// have a branch of their own, so that a processor goes on before it has their words: the child stands right behind.
+pub fn walk_down(w: &[u32], b: usize, n: u32, root: u32, len: u8, bits: PrefixBits) -> Shown
+    requires { ⌜ Room (now w) b n × (1 ≤ root) × (root ≤ n) × (bits .len ≤ len) × (len ≤ 128) ⌝ }
+    ensures { λ r. ⌜ r ≡ walk (now (w .entry)) b n (len - bits .len) root (bitsLeft bits) ⌝ }
 {
     let last = b + (n as usize - 1);
     let mut p = b + (root as usize - 1);
     let mut left = bits;
     loop {
-        let d = bits.len - left.len;
+        let d = len - left.len;
         let next = left.next();
         match next {
             NextBit::End => return walk_tested(w, b, n, p, d, left),
@@ -147,7 +140,7 @@ fn walk_down(w: &[u32], b: usize, n: u32, root: u32, bits: PrefixBits) -> Shown
 }
 
 // What the path down from the root's number shows.
-fn walk_from(w: &[u32], b: usize, n: u32, root: u32, bits: PrefixBits) -> Shown
+pub fn walk_from(w: &[u32], b: usize, n: u32, root: u32, bits: PrefixBits) -> Shown
     requires { ⌜ Room (now w) b n × (bits .len ≤ 128) ⌝ }
     ensures { λ r. ⌜ r ≡ walkFrom (now (w .entry)) b n (bitsLeft bits) root ⌝ }
 {
@@ -157,20 +150,20 @@ fn walk_from(w: &[u32], b: usize, n: u32, root: u32, bits: PrefixBits) -> Shown
     if n < root {
         return Shown::Refused(Refusal::Damaged);
     }
-    walk_down(w, b, n, root, bits)
+    walk_down(w, b, n, root, bits.len, bits)
 }
 
-// What the path of a query shows, down from the root's number.
-pub fn query(w: &[u32], net: Net, root: u32) -> Shown
-    requires { ⌜ isHeader (now w) ≡ true ⌝ }
-    ensures { λ r. ⌜ r ≡ query (now (w .entry)) net root ⌝ }
+// What the path of a query shows in a set.
+pub fn query(w: &[u32], set: u32, net: Net) -> Shown
+    requires { ⌜ (isHeader (now w) ≡ true) × (set < getD (now w) 2 0) ⌝ }
+    ensures { λ r. ⌜ r ≡ query (now (w .entry)) set net ⌝ }
 {
     if net.family as u32 != w[1] {
         return Shown::Refused(Refusal::WrongFamily);
     }
     let p = net.prefix_bits();
     match p {
-        Prefix::Bits(bits) => walk_from(w, HEAD + RECORD * (w[2] as usize), w[3], root, bits),
+        Prefix::Bits(bits) => path(w, set, bits),
         Prefix::Refused(_) => Shown::Refused(Refusal::BadNetwork),
     }
 }
@@ -181,7 +174,7 @@ pub fn lookup(w: &[u32], set: u32, net: Net) -> Shown
 {
     let a = root(w, set);
     match a {
-        Answer::Granted(r) => query(w, net, r),
+        Answer::Granted(_) => query(w, set, net),
         Answer::Refused(no) => Shown::Refused(no),
     }
 }

@@ -15,8 +15,9 @@ use Rattle.pool_state.specs.declared.Answer.{Answer}
 use Rattle.pool_state.specs.declared.Answer.the-variants as answer
 use Rattle.lookup.specs.Rules.{onRoot, isMember, containsRule}
 use Rattle.lookup.proofs.Asked.{onRoot-by, lookup-root}
-use Rattle.lookup_many.specs.Rules.{queryAt, inOne, fill, answersOf, allNo, answersAfter, ContainsAll, asked, askedOf}
-use Rattle.lookup_many.proofs.Rows.{fill-same}
+use Rattle.lookup_many.specs.Rules.{queryAt, inOne, answersOf, allNo, answersAfter, ContainsAll, asked, askedOf}
+use Rattle.trie_index.specs.Index.{fill}
+use Rattle.trie_index.proofs.Fill.{fill-same}
 
 module _ (w : List ℕ) (k f : ℕ) (qs v : List ℕ) where
   all-no : (x : Refusal) → allNo w k f qs (length v) ≡ number x → ContainsAll w k f qs v (answer.Refused x) v
@@ -40,12 +41,12 @@ module _ (w : List ℕ) (k f : ℕ) (qs v : List ℕ) where
         pub all-short : length v < length qs / 3 → ContainsAll w k f qs v (answer.Refused ShortBuffer) v
         all-short lt = all-no ShortBuffer (rw (eq-eqb f (getD w 1 0) same, lt-leb (length qs / 3) (length v) lt) at by-root)
 
-        answers-are : fill (askedOf w r f qs) 0 (length qs / 3) ≡ answersOf w k f qs
+        answers-are : fill (askedOf w k f qs) 0 (length qs / 3) ≡ answersOf w k f qs
         unfolding answersOf askedOf asked containsRule
-        answers-are = fill-same (askedOf w r f qs) (λ i. inOne (containsRule w k (queryAt f qs i)))
+        answers-are = fill-same (askedOf w k f qs) (λ i. inOne (containsRule w k (queryAt f qs i)))
             (λ i. ap (λ t. inOne (isMember (queryAt f qs i) t)) (lookup-root w k a e r h (queryAt f qs i))) (length qs / 3) 0
 
-        pub all-granted : length qs / 3 ≤ length v → {u : List ℕ} → u ≡ put v 0 (fill (askedOf w r f qs) 0 (length qs / 3)) → ContainsAll w k f qs v (answer.Granted 0) u
+        pub all-granted : length qs / 3 ≤ length v → {u : List ℕ} → u ≡ put v 0 (fill (askedOf w k f qs) 0 (length qs / 3)) → ContainsAll w k f qs v (answer.Granted 0) u
         unfolding answersAfter
         all-granted le d =
             let z = rw (eq-eqb f (getD w 1 0) same, le-leb (length qs / 3) (length v) le) at by-root in

@@ -26,19 +26,21 @@ use Rattle.lookup.specs.Rules.{query, isMember}
 use Rattle.lookup.specs.declared.walking.Shown.{Shown}
 use Rattle.lookup.specs.declared.walking.Shown.the-variants.{Refused}
 use Rattle.lookup.proofs.Turns.{walkFrom-node}
-use Rattle.lookup.proofs.Asked.{prefix-bits, prefix-few, query-refused, query-walk}
+use Rattle.lookup.proofs.Asked.{prefix-bits, prefix-few, query-refused, query-path}
 use Rattle.lookup_many.specs.Rules.{queryAt, inOne, asked}
-use Rattle.lookup_many.specs.Lanes.{clipped, On, Goes, FourOn, FourGo, laneOf, fourOf, Seat, Fits}
+use Rattle.lookup_many.specs.Lanes.{clipped, On, Goes, FourOn, FourGo, laneOf, fourOf, rootIn, placeIn, Seat, Fits}
+use Rattle.pool_state.specs.Rules.{tagIn}
+use Rattle.lookup.proofs.Beginnings.{path-plain}
 use Rattle.lookup_many.specs.declared.lanes.Lane.{Lane}
 use Rattle.lookup_many.specs.declared.lanes.Four.{Four}
 
 abbrev lane : ℕ → PrefixBits → Lane
 lane p s = record { p = p; bits = s }
 
-pub seated : {w : List ℕ} {b n root f : ℕ} → isHeader w ≡ true → b ≡ base (getD w 2 0) → n ≡ getD w 3 0 → (root ≡ 0 → ⊥) → root ≤ n → f ≡ getD w 1 0 → Seat w b n root f
-seated h b n nz le f = record { header = h; from = b; nodes = n; one = omega arith; within = le; family = f }
+pub seated : {w : List ℕ} {b n k f : ℕ} → isHeader w ≡ true → k < getD w 2 0 → tagIn w k ≡ 0 → b ≡ base (getD w 2 0) → n ≡ getD w 3 0 → (rootIn w k ≡ 0 → ⊥) → rootIn w k ≤ n → f ≡ getD w 1 0 → Seat w b n k f
+seated h lt t b n nz le f = record { header = h; known = lt; plain = t; from = b; nodes = n; one = omega arith; within = le; family = f }
 
-pub seat-room : {w : List ℕ} {b n root f : ℕ} → Seat w b n root f → Room w b n
+pub seat-room : {w : List ℕ} {b n k f : ℕ} → Seat w b n k f → Room w b n
 seat-room {w} s = rw (s .from, s .nodes) (header-room (isHeader-header w (s .header)))
 
 -- the beginning of a walk, by the bits that prefix_bits hands out, or by their refusal
@@ -53,11 +55,11 @@ module _ (p : ℕ) (q : Net) (x : Prefix) (e : prefixAs x ≡ answered (refusalO
   pub laneOf-none : {y : Refusal} → x ≡ prefix.Refused y → lane p noBits ≡ laneOf p q
   laneOf-none h = ap (λ t. lane p (prefixAs t .1)) (sym h) ∙ laneOf-bits
 
-module _ (q : Net) {w : List ℕ} {b n root : ℕ} {l : Lane} (s : Seat w b n root (q .family)) (g : Goes w b n (laneOf (b + (root - 1)) q) l)
+module _ (q : Net) {w : List ℕ} {b n k : ℕ} {l : Lane} (s : Seat w b n k (q .family)) (g : Goes w b n (laneOf (placeIn w b k) q) l)
     {x : Prefix} (e : prefixAs x ≡ answered (refusalOf q) noBits (startOf q)) where
   module _ {bits : PrefixBits} (h : x ≡ prefix.Bits bits) where
-    from-start : Goes w b n (lane (b + (root - 1)) bits) l
-    from-start = rw (← laneOf-some (b + (root - 1)) q x e h) at g
+    from-start : Goes w b n (lane (placeIn w b k) bits) l
+    from-start = rw (← laneOf-some (placeIn w b k) q x e h) at g
 
     pub end-less : l .bits .len ≤ bits .len
     end-less = from-start .less
@@ -65,21 +67,21 @@ module _ (q : Net) {w : List ℕ} {b n root : ℕ} {l : Lane} (s : Seat w b n ro
     pub end-asks : Room w b n × (b ≤ l .p) × (l .p < b + n) × (l .bits .len + (bits .len - l .bits .len) ≤ 128)
     end-asks = (seat-room s, g .on .low, g .on .within, omega (arith, end-less, prefix-few x q bits e h))
 
-    pub end-walked : (t : Shown) → t ≡ walk w b n (bits .len - l .bits .len) (l .p + 1 - b) (bitsLeft (l .bits)) → inOne (isMember q t) ≡ asked w root q
+    pub end-walked : (t : Shown) → t ≡ walk w b n (bits .len - l .bits .len) (l .p + 1 - b) (bitsLeft (l .bits)) → inOne (isMember q t) ≡ asked w k q
     unfolding asked
     end-walked t d =
-        let i : b + (root - 1) + 1 - b ≡ root = omega (arith, s .one) in
+        let i : placeIn w b k + 1 - b ≡ rootIn w k = omega (arith, s .one) in
         let z : 0 + (bits .len - l .bits .len) ≡ bits .len - l .bits .len = omega arith in
         let f = rw (i, z) at (from-start .shows 0 (omega (arith, prefix-few x q bits e h))) in
-        let k : t ≡ walkFrom w b n (bitsLeft bits) root = d ∙ sym f ∙ walkFrom-node w b n (bitsLeft bits) root (λ z. omega (arith, s .one)) (s .within) in
-        ap (λ y. inOne (isMember q y)) (query-walk w q (s .family) x e bits root t h (rw (s .from, s .nodes) at k))
+        let r : t ≡ walkFrom w b n (bitsLeft bits) (rootIn w k) = d ∙ sym f ∙ walkFrom-node w b n (bitsLeft bits) (rootIn w k) 0 refl (λ z. omega (arith, s .one)) (s .within) in
+        ap (λ y. inOne (isMember q y)) (query-path w k q (s .family) x e bits t h ((rw (s .from, s .nodes) at r) ∙ path-plain w k (bitsLeft bits) (s .plain)))
 
-  pub end-refused : (y : Refusal) → x ≡ prefix.Refused y → inOne (isMember q (Refused BadNetwork)) ≡ asked w root q
+  pub end-refused : (y : Refusal) → x ≡ prefix.Refused y → inOne (isMember q (Refused BadNetwork)) ≡ asked w k q
   unfolding asked
-  end-refused y h = ap (λ t. inOne (isMember q t)) (query-refused w q (s .family) x e y root h)
+  end-refused y h = ap (λ t. inOne (isMember q t)) (query-refused w k q (s .family) x e y h)
 
 -- a query of the row has the family that is asked for; and its walk begins as the query's
-pub seat-query : {w : List ℕ} {b n root f : ℕ} (qs : List ℕ) (i : ℕ) (q : Net) → q ≡ clipped (queryAt f qs i) → Seat w b n root f → Seat w b n root (q .family)
+pub seat-query : {w : List ℕ} {b n k f : ℕ} (qs : List ℕ) (i : ℕ) (q : Net) → q ≡ clipped (queryAt f qs i) → Seat w b n k f → Seat w b n k (q .family)
 seat-query qs i q e s = rw e s
 
 -- the rows, as they are written
@@ -100,8 +102,8 @@ unfolding fourOf
 four-each p f qs i h = (h .a, h .b, h .c, h .d)
 
 -- they begin at a node
-module _ {w : List ℕ} {b n root f : ℕ} (s : Seat w b n root f) where
-  lane-on : (q : Net) → On b n (laneOf (b + (root - 1)) q)
+module _ {w : List ℕ} {b n k f : ℕ} (s : Seat w b n k f) where
+  lane-on : (q : Net) → On b n (laneOf (placeIn w b k) q)
   unfolding laneOf startOf
   lane-on q = record { low = omega arith; within = omega (arith, s .one, s .within); few = go (eqb (refusalOf q) 0) refl }
     where
@@ -109,7 +111,7 @@ module _ {w : List ℕ} {b n root f : ℕ} (s : Seat w b n root f) where
       go true e = omega (arith, refusalOf-is q (eqb-true (refusalOf q) 0 e) .len, width-le (q .family))
       go false e = omega arith
 
-  pub four-start : (qs : List ℕ) (i : ℕ) → FourOn b n (fourOf (b + (root - 1)) f qs i)
+  pub four-start : (qs : List ℕ) (i : ℕ) → FourOn b n (fourOf (placeIn w b k) f qs i)
   unfolding fourOf
   four-start qs i = record {
     a = lane-on (clipped (queryAt f qs i));

@@ -9,8 +9,9 @@ use Rattle.nets.specs.Networks.{width, netBits, inRange, refusalOf, hasBitPast}
 use Rattle.nodes.specs.Words.{put}
 use Rattle.pool_state.specs.Decode.{mark, isHeader}
 use Rattle.lookup.specs.Walks.{walk, walkFrom}
-use Rattle.lookup.specs.Rules.{onRoot, query, lookup, containsRule}
-use Rattle.lookup_many.specs.Rules.{inOne, fill, answersOf, allNo}
+use Rattle.lookup.specs.Rules.{onRoot, pathOf, query, lookup, containsRule}
+use Rattle.trie_index.specs.Index.{fill}
+use Rattle.lookup_many.specs.Rules.{inOne, answersOf, allNo}
 
 -- an IPv4 pool of three nodes with one set, by the number of its root and the words of its nodes: 5, 0, 0 hold 0.0.0.0/1 and 128.0.0.0/1
 abbrev words : ℕ → List ℕ → List ℕ
@@ -23,5 +24,5 @@ row = 0 ∷ 167772160 ∷ 8 ∷ 0 ∷ 167772160 ∷ 0 ∷ 0 ∷ 167772160 ∷ 33
 pub answers : (answersOf (words 1 (5 ∷ 0 ∷ 0 ∷ [])) 0 4 row ≡ (281474976710658 ∷ 562949953421313 ∷ 30064771072 ∷ []))
     × (answersOf (words 4 []) 0 4 row ≡ (8589934592 ∷ 8589934592 ∷ 30064771072 ∷ []))
     × (allNo (words 4 []) 0 4 row 3 ≡ 0) × (allNo (words 4 []) 0 4 row 2 ≡ 11) × (allNo (words 4 []) 0 6 row 2 ≡ 6) × (allNo (words 4 []) 1 6 row 2 ≡ 3) × (allNo [] 1 6 row 2 ≡ 2)
-unfolding put isHeader onRoot query lookup walkFrom walk containsRule width bits netBits inRange refusalOf hasBitPast inOne fill answersOf allNo
+unfolding put isHeader onRoot pathOf query lookup walkFrom walk containsRule width bits netBits inRange refusalOf hasBitPast inOne fill answersOf allNo
 answers = (refl, refl, refl, refl, refl, refl, refl)

@@ -12,17 +12,12 @@ use Rattle.nodes.proofs.Put.{length-put, getD-put-in, getD-put-behind}
 use Rattle.pool_state.specs.declared.Answer.{Answer}
 use Rattle.pool_state.proofs.Determined.{answerAs-one}
 use Rattle.lookup.specs.Rules.{containsRule}
-use Rattle.lookup_many.specs.Rules.{queryAt, inOne, fill, answersOf, allNo, answersAfter, ContainsAll}
-use Rattle.lookup_many.proofs.Rows.{length-fill}
+use Rattle.lookup_many.specs.Rules.{queryAt, inOne, answersOf, allNo, answersAfter, ContainsAll}
+use Rattle.trie_index.specs.Index.{fill}
+use Rattle.trie_index.proofs.Fill.{length-fill, getD-fill}
 
 pub contains-all-determined : {w qs v u t : List ℕ} {k f : ℕ} {r s : Answer} → ContainsAll w k f qs v r u → ContainsAll w k f qs v s t → (r ≡ s) × (u ≡ t)
 contains-all-determined {r = r} {s = s} g h = (answerAs-one r s (g .answer ∙ sym (h .answer)), g .rows ∙ sym (h .rows))
-
-getD-fill : (g : ℕ → ℕ) (m i j : ℕ) → j < m → getD (fill g i m) j 0 ≡ g (i + j)
-unfolding fill
-getD-fill g zero i j lt = absurd (omega arith)
-getD-fill g (suc m) i zero lt = ap g (sym (add-zero i))
-getD-fill g (suc m) i (suc j) lt = getD-fill g m (i + 1) j (omega arith) ∙ ap g (let e : i + 1 + j ≡ i + suc j = omega arith in e)
 
 -- number by number
 module _ {w qs v u : List ℕ} {k f : ℕ} {r : Answer} (h : ContainsAll w k f qs v r u) (z : allNo w k f qs (length v) ≡ 0) where

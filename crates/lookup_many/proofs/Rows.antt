@@ -19,43 +19,17 @@ use Rattle.nets.specs.declared.Refusal.the-variants.{WrongFamily, BadNetwork}
 use Rattle.lookup.specs.Rules.{query, unheld, isMember}
 use Rattle.lookup.specs.declared.walking.Shown.{Shown}
 use Rattle.lookup.specs.declared.walking.Shown.the-variants.{Member, Nothing, Refused}
-use Rattle.lookup_many.specs.Rules.{queryAt, bit, inOne, fill, asked, askedOf}
+use Rattle.lookup_many.specs.Rules.{queryAt, bit, inOne, asked, askedOf}
+use Rattle.trie_index.specs.Index.{fill}
+use Rattle.trie_index.proofs.Fill.{length-fill, fill-append, set-rest}
 use Rattle.lookup_many.specs.Lanes.{clip, clipped}
 
 -- Rows.
 module _ (g : ℕ → ℕ) where
-  pub length-fill : (m i : ℕ) → length (fill g i m) ≡ m
-  unfolding fill
-  length-fill zero i = refl
-  length-fill (suc m) i = ap suc (length-fill m (i + 1))
-
-  pub fill-append : (m i k : ℕ) → fill g i m ++ fill g (i + m) k ≡ fill g i (m + k)
-  unfolding fill
-  fill-append zero i k = rw (add-zero i, zero-add k)
-  fill-append (suc m) i k =
-      let e : i + suc m ≡ i + 1 + m = omega arith in
-      let f : suc m + k ≡ suc (m + k) = omega arith in
-      rw (e, f) (ap (λ t. g i ∷ t) (fill-append m (i + 1) k))
-
   -- numbers written behind those that stand there
   pub put-fill : (v : List ℕ) (i m k j : ℕ) → j ≡ i + m → put (put v i (fill g i m)) j (fill g j k) ≡ put v i (fill g i (m + k))
   put-fill v i m k j e =
-      rw e (put-behind-at v i (i + m) (fill g i m) (fill g (i + m) k) (ap (λ t. i + t) (sym (length-fill m i))) ∙ ap (put v i) (fill-append m i k))
-
-  set-fill : (v : List ℕ) (i x : ℕ) → x ≡ g i → set v i x ≡ put v i (fill g i 1)
-  unfolding fill
-  set-fill v i x e = rw e (set-put v i (g i))
-
-  -- a number stored, and what is left to write
-  pub set-rest : (v : List ℕ) (i m x : ℕ) → i < m → x ≡ g i → put (set v i x) (i + 1) (fill g (i + 1) (m - (i + 1))) ≡ put v i (fill g i (m - i))
-  set-rest v i m x lt e =
-      let k : 1 + (m - (i + 1)) ≡ m - i = omega arith in
-      rw (set-fill v i x e) (put-fill v i 1 (m - (i + 1)) (i + 1) refl ∙ ap (λ t. put v i (fill g i t)) k)
-
-  pub fill-same : (h : ℕ → ℕ) → ((i : ℕ) → g i ≡ h i) → (m i : ℕ) → fill g i m ≡ fill h i m
-  unfolding fill
-  fill-same h e zero i = refl
-  fill-same h e (suc m) i = rw (e i, fill-same h e m (i + 1))
+      rw e (put-behind-at v i (i + m) (fill g i m) (fill g (i + m) k) (ap (λ t. i + t) (sym (length-fill g m i))) ∙ ap (put v i) (fill-append g m i k))
 
 -- A row that is filled from a number on: what is left to write completes it.
 pub record Filling (g : ℕ → ℕ) (m from : ℕ) (v u : List ℕ) (i : ℕ) : Type 0 where
@@ -75,7 +49,7 @@ module _ (g : ℕ → ℕ) (m from : ℕ) (v : List ℕ) where
     le = omega arith;
     room = rw (length-set u i x) (h .room);
     same = length-set u i x ∙ h .same;
-    rest = set-rest g u i m x lt e ∙ h .rest;
+    rest = (rw (zero-add i, zero-add (i + 1)) at (set-rest g u 0 i m x lt e)) ∙ h .rest;
   }
 
   pub filling-end : (u : List ℕ) (i : ℕ) → Filling g m from v u i → m ≤ i → u ≡ put v from (fill g from (m - from))
@@ -160,6 +134,6 @@ pub asked-one : (w : List ℕ) (r f : ℕ) (qs : List ℕ) (i x : ℕ) → x ≡
 unfolding askedOf
 asked-one w r f qs i x e = e ∙ clipped-asked w r (queryAt f qs i)
 
-pub asked-shown : (w : List ℕ) (r f : ℕ) (qs : List ℕ) (i : ℕ) (q : Net) (s : Shown) (x : ℕ) → q ≡ clipped (queryAt f qs i) → s ≡ query w q r → x ≡ inOne (isMember q s) → x ≡ askedOf w r f qs i
+pub asked-shown : (w : List ℕ) (k f : ℕ) (qs : List ℕ) (i : ℕ) (q : Net) (s : Shown) (x : ℕ) → q ≡ clipped (queryAt f qs i) → s ≡ query w k q → x ≡ inOne (isMember q s) → x ≡ askedOf w k f qs i
 unfolding asked
-asked-shown w r f qs i q s x e h k = asked-one w r f qs i x (k ∙ rw (h, e))
+asked-shown w k f qs i q s x e h d = asked-one w k f qs i x (d ∙ rw (h, e))

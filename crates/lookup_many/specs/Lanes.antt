@@ -4,7 +4,8 @@
 --   On b n l             the walk l stands at a node
 --   Goes w b n l r       a walk at l may go on to r: from there the path shows what it shows from l
 --   laneOf p q           the walk of the query q at its beginning;  fourOf: those of four queries of a row
---   Seat w b n root f    what the walks of one call share: the header, where the nodes stand, a root that is a node's number, and the pool's family
+--   rootIn w k, placeIn  the number of the root of set k, and the place of that node
+--   Seat w b n k f       what the walks of one call share: the header, where the nodes stand, a set that is not indexed and whose root's number is a node's, and the pool's family
 --   Fits qs i m v        the m queries from number i on are in the row, and the answers have a place for each
 use mathlib.Core.Bool.{true, cond}
 use mathlib.Core.List.{List}
@@ -15,7 +16,8 @@ use lib.ListN.{length, getD}
 use Rattle.nets.specs.Networks.{withLen, refusalOf, bitsLeft, startOf, noBits}
 use Rattle.nets.specs.Refusals.{answered}
 use Rattle.nets.specs.declared.Net.{Net}
-use Rattle.pool_state.specs.Decode.{base, isHeader}
+use Rattle.pool_state.specs.Decode.{recordAt, base, isHeader}
+use Rattle.pool_state.specs.Rules.{tagIn}
 use Rattle.lookup.specs.Walks.{walk}
 use Rattle.lookup_many.specs.Rules.{queryAt}
 use Rattle.lookup_many.specs.declared.lanes.Lane.{Lane}
@@ -65,12 +67,20 @@ fourOf p f qs i = record {
   d = laneOf p (clipped (queryAt f qs (i + 3)));
 }
 
-pub record Seat (w : List ℕ) (b n root f : ℕ) : Type 0 where
+abbrev pub rootIn : List ℕ → ℕ → ℕ
+rootIn w k = getD w (recordAt k) 0
+
+abbrev pub placeIn : List ℕ → ℕ → ℕ → ℕ
+placeIn w b k = b + (rootIn w k - 1)
+
+pub record Seat (w : List ℕ) (b n k f : ℕ) : Type 0 where
   pub header : isHeader w ≡ true
+  pub known : k < getD w 2 0
+  pub plain : tagIn w k ≡ 0
   pub from : b ≡ base (getD w 2 0)
   pub nodes : n ≡ getD w 3 0
-  pub one : 1 ≤ root
-  pub within : root ≤ n
+  pub one : 1 ≤ rootIn w k
+  pub within : rootIn w k ≤ n
   pub family : f ≡ getD w 1 0
 
 pub record Fits (qs : List ℕ) (i m : ℕ) (v : List ℕ) : Type 0 where

@@ -2,21 +2,21 @@
 --
 --   queryAt f qs i            query i of the row qs: three numbers for each, high word, low word and length, of the family f
 --   inOne a                   an answer of contains in one number: bits 0 to 31 the nodes read, from bit 32 on the number of the refusal, bit 48 yes, bit 49 the report
---   fill g i m                g i, g (i + 1) and so on, m numbers
 --   answersOf w k f qs        the answers to the whole queries of the row, each that of contains
 --   allNo w k f qs n          the refusal: 2 and 3 as contains, 6 another family than the pool's, 11 fewer than n numbers for the answers
 --   ContainsAll               the answer and the rows afterwards, as the call's contract
---   asked w r n, askedOf      the answer to the query n, and to query i of a row, by the number r of the set's root
+--   asked w k n, askedOf      the answer to the query n in set k, and to query i of a row
 use mathlib.Core.Bool.{Bool, cond}
-use mathlib.Core.List.{List, [], _∷_}
+use mathlib.Core.List.{List}
 use mathlib.Core.Path.{_≡_}
-use Prim.Native.Nat.{ℕ, zero, suc, _+_, _*_, _/_}
+use Prim.Native.Nat.{ℕ, _+_, _*_, _/_}
 use lib.Dec.{eqb, leb}
 use lib.ListN.{length, getD}
 use Rattle.nets.specs.Networks.{netWords}
 use Rattle.nets.specs.Refusals.{number}
 use Rattle.nets.specs.declared.Net.{Net}
 use Rattle.nodes.specs.Words.{put}
+use Rattle.trie_index.specs.Index.{fill}
 use Rattle.pool_state.specs.Rules.{answerAs}
 use Rattle.pool_state.specs.declared.Answer.{Answer}
 use Rattle.lookup.specs.Rules.{onRoot, query, Held, isMember, containsRule}
@@ -29,10 +29,6 @@ bit b = cond b 1 0
 
 unfoldable pub inOne : ℕ × Held → ℕ
 inOne a = a .1 .1 .0 + 4294967296 * a .0 + 281474976710656 * bit (a .1 .0) + 562949953421312 * bit (a .1 .1 .1)
-
-unfoldable pub fill : (ℕ → ℕ) → ℕ → ℕ → List ℕ
-fill g i zero = []
-fill g i (suc m) = g i ∷ fill g (i + 1) m
 
 unfoldable pub answersOf : List ℕ → ℕ → ℕ → List ℕ → List ℕ
 answersOf w k f qs = fill (λ i. inOne (containsRule w k (queryAt f qs i))) 0 (length qs / 3)
@@ -49,7 +45,7 @@ pub record ContainsAll (w : List ℕ) (k f : ℕ) (qs v : List ℕ) (r : Answer)
   pub rows : u ≡ answersAfter v w k f qs
 
 unfoldable pub asked : List ℕ → ℕ → Net → ℕ
-asked w r n = inOne (isMember n (query w n r))
+asked w k n = inOne (isMember n (query w k n))
 
 unfoldable pub askedOf : List ℕ → ℕ → ℕ → List ℕ → ℕ → ℕ
-askedOf w r f qs i = asked w r (queryAt f qs i)
+askedOf w k f qs i = asked w k (queryAt f qs i)

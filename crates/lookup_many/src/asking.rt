@@ -6,12 +6,13 @@ use nets::has_bit_past;
 ghost use mathlib.Core.Bool.{true};
 ghost use mathlib.Core.Path.{_≡_};
 ghost use Prim.Native.Nat.{_+_, _-_, _*_, _/_, _≤_, _<_};
-ghost use lib.ListN.{length};
+ghost use lib.ListN.{length, getD};
 ghost use Rattle.nets.specs.Networks.{hasBitPast};
 ghost use Rattle.nodes.specs.Words.{put};
 ghost use Rattle.pool_state.specs.Decode.{isHeader};
 ghost use Rattle.lookup.specs.Rules.{isMember};
-ghost use Rattle.lookup_many.specs.Rules.{queryAt, bit, inOne, fill, askedOf};
+ghost use Rattle.lookup_many.specs.Rules.{queryAt, bit, inOne, askedOf};
+ghost use Rattle.trie_index.specs.Index.{fill};
 ghost use Rattle.lookup_many.specs.Lanes.{clip, clipped};
 
 // A length as a byte: none above 254 is that of a network.
@@ -62,19 +63,19 @@ pub fn number_of(net: Net, s: Shown) -> u64
 // Answers the queries from number `from` on.
 pub fn one_by_one(
     pool: &[u32],
-    root: u32,
+    set: u32,
     family: u8,
     queries: &[u64],
     from: usize,
     answers: &mut [u64],
 )
-    requires { ⌜ (isHeader (now pool) ≡ true) × (from ≤ length (now queries) / 3) × (length (now queries) / 3 ≤ length (now answers)) ⌝ }
-    ensures { λ _. ⌜ now (answers .exit) ≡ put (now (answers .entry)) from (fill (askedOf (now (pool .entry)) root family (now (queries .entry))) from (length (now (queries .entry)) / 3 - from)) ⌝ }
+    requires { ⌜ (isHeader (now pool) ≡ true) × (set < getD (now pool) 2 0) × (from ≤ length (now queries) / 3) × (length (now queries) / 3 ≤ length (now answers)) ⌝ }
+    ensures { λ _. ⌜ now (answers .exit) ≡ put (now (answers .entry)) from (fill (askedOf (now (pool .entry)) set family (now (queries .entry))) from (length (now (queries .entry)) / 3 - from)) ⌝ }
 {
     let mut i = from;
     while i < queries.len() / 3 {
         let net = query_at(queries, i, family);
-        answers[i] = number_of(net, query(pool, net, root));
+        answers[i] = number_of(net, query(pool, set, net));
         i += 1;
     }
 }

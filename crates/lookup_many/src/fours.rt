@@ -14,12 +14,13 @@ use pool_check::HEAD;
 use pool_check::RECORD;
 ghost use mathlib.Core.Bool.{true};
 ghost use mathlib.Core.Path.{_≡_};
-ghost use Prim.Native.Nat.{_+_, _-_, _/_, _≤_};
+ghost use Prim.Native.Nat.{_+_, _/_, _≤_, _<_};
 ghost use lib.ListN.{length, getD};
 ghost use Rattle.nodes.specs.Words.{put};
 ghost use Rattle.pool_state.specs.Decode.{isHeader};
-ghost use Rattle.lookup_many.specs.Rules.{queryAt, asked, fill, askedOf};
-ghost use Rattle.lookup_many.specs.Lanes.{clipped, laneOf, fourOf, Goes, FourGo, Seat, Fits};
+ghost use Rattle.lookup_many.specs.Rules.{queryAt, asked, askedOf};
+ghost use Rattle.trie_index.specs.Index.{fill};
+ghost use Rattle.lookup_many.specs.Lanes.{clipped, laneOf, fourOf, Goes, FourGo, placeIn, Seat, Fits};
 
 const NO_BITS: PrefixBits = PrefixBits {
     hi: 0,
@@ -52,9 +53,9 @@ fn start(queries: &[u64], i: usize, family: u8, p: usize) -> Four
 }
 
 // The answer to a query whose walk has come to l: every test is made from there on.
-fn end(w: &[u32], b: usize, n: u32, root: u32, net: Net, l: Lane) -> u64
-    requires { ⌜ Seat (now w) b n root (net .family) × Goes (now w) b n (laneOf (b + (root - 1)) net) l ⌝ }
-    ensures { λ r. ⌜ r ≡ asked (now (w .entry)) root net ⌝ }
+fn end(w: &[u32], b: usize, n: u32, set: u32, net: Net, l: Lane) -> u64
+    requires { ⌜ Seat (now w) b n set (net .family) × Goes (now w) b n (laneOf (placeIn (now w) b set) net) l ⌝ }
+    ensures { λ r. ⌜ r ≡ asked (now (w .entry)) set net ⌝ }
 {
     let q = net.prefix_bits();
     match q {
@@ -71,18 +72,18 @@ fn end_at(
     w: &[u32],
     b: usize,
     n: u32,
-    root: u32,
+    set: u32,
     family: u8,
     queries: &[u64],
     i: usize,
     l: Lane,
     answers: &mut [u64],
 )
-    requires { ⌜ Seat (now w) b n root family × Fits (now queries) i 1 (now answers) × Goes (now w) b n (laneOf (b + (root - 1)) (clipped (queryAt family (now queries) i))) l ⌝ }
-    ensures { λ _. ⌜ now (answers .exit) ≡ put (now (answers .entry)) i (fill (askedOf (now (w .entry)) root family (now (queries .entry))) i 1) ⌝ }
+    requires { ⌜ Seat (now w) b n set family × Fits (now queries) i 1 (now answers) × Goes (now w) b n (laneOf (placeIn (now w) b set) (clipped (queryAt family (now queries) i))) l ⌝ }
+    ensures { λ _. ⌜ now (answers .exit) ≡ put (now (answers .entry)) i (fill (askedOf (now (w .entry)) set family (now (queries .entry))) i 1) ⌝ }
 {
     let net = query_at(queries, i, family);
-    answers[i] = end(w, b, n, root, net, l);
+    answers[i] = end(w, b, n, set, net, l);
 }
 
 // Writes the answers to four queries from number i on, whose walks have come to f.
@@ -90,23 +91,23 @@ fn end_four(
     w: &[u32],
     b: usize,
     n: u32,
-    root: u32,
+    set: u32,
     family: u8,
     queries: &[u64],
     i: usize,
     f: Four,
     answers: &mut [u64],
 )
-    requires { ⌜ Seat (now w) b n root family × Fits (now queries) i 4 (now answers) × FourGo (now w) b n (fourOf (b + (root - 1)) family (now queries) i) f ⌝ }
-    ensures { λ _. ⌜ now (answers .exit) ≡ put (now (answers .entry)) i (fill (askedOf (now (w .entry)) root family (now (queries .entry))) i 4) ⌝ }
+    requires { ⌜ Seat (now w) b n set family × Fits (now queries) i 4 (now answers) × FourGo (now w) b n (fourOf (placeIn (now w) b set) family (now queries) i) f ⌝ }
+    ensures { λ _. ⌜ now (answers .exit) ≡ put (now (answers .entry)) i (fill (askedOf (now (w .entry)) set family (now (queries .entry))) i 4) ⌝ }
 {
     let second = i + 1;
     let third = i + 2;
     let fourth = i + 3;
-    end_at(w, b, n, root, family, queries, i, f.a, answers);
-    end_at(w, b, n, root, family, queries, second, f.b, answers);
-    end_at(w, b, n, root, family, queries, third, f.c, answers);
-    end_at(w, b, n, root, family, queries, fourth, f.d, answers);
+    end_at(w, b, n, set, family, queries, i, f.a, answers);
+    end_at(w, b, n, set, family, queries, second, f.b, answers);
+    end_at(w, b, n, set, family, queries, third, f.c, answers);
+    end_at(w, b, n, set, family, queries, fourth, f.d, answers);
 }
 
 // Answers four queries from number i on.
@@ -114,28 +115,34 @@ fn four(
     w: &[u32],
     b: usize,
     n: u32,
-    root: u32,
+    set: u32,
     family: u8,
     queries: &[u64],
     i: usize,
     answers: &mut [u64],
 )
-    requires { ⌜ Seat (now w) b n root family × Fits (now queries) i 4 (now answers) ⌝ }
-    ensures { λ _. ⌜ now (answers .exit) ≡ put (now (answers .entry)) i (fill (askedOf (now (w .entry)) root family (now (queries .entry))) i 4) ⌝ }
+    requires { ⌜ Seat (now w) b n set family × Fits (now queries) i 4 (now answers) ⌝ }
+    ensures { λ _. ⌜ now (answers .exit) ≡ put (now (answers .entry)) i (fill (askedOf (now (w .entry)) set family (now (queries .entry))) i 4) ⌝ }
 {
+    let root = w[HEAD + RECORD * (set as usize)];
     let p = b + (root as usize - 1);
     let f = descend(w, b, n, start(queries, i, family, p));
-    end_four(w, b, n, root, family, queries, i, f, answers);
+    end_four(w, b, n, set, family, queries, i, f, answers);
 }
 
-// Answers the queries in fours, as many as there are, and says how many queries those were: none where the root's number is no node's.
-pub fn by_fours(w: &[u32], root: u32, family: u8, queries: &[u64], answers: &mut [u64]) -> usize
-    requires { ⌜ (isHeader (now w) ≡ true) × (family ≡ getD (now w) 1 0) × (length (now queries) / 3 ≤ length (now answers)) ⌝ }
-    ensures { λ r. ⌜ (r ≤ length (now (queries .entry)) / 3) × (now (answers .exit) ≡ put (now (answers .entry)) 0 (fill (askedOf (now (w .entry)) root family (now (queries .entry))) 0 r)) ⌝ }
+// Answers the queries in fours, as many as there are, and says how many queries those were: none where the set is indexed, or the root's number is no node's.
+pub fn by_fours(w: &[u32], set: u32, family: u8, queries: &[u64], answers: &mut [u64]) -> usize
+    requires { ⌜ (isHeader (now w) ≡ true) × (set < getD (now w) 2 0) × (family ≡ getD (now w) 1 0) × (length (now queries) / 3 ≤ length (now answers)) ⌝ }
+    ensures { λ r. ⌜ (r ≤ length (now (queries .entry)) / 3) × (now (answers .exit) ≡ put (now (answers .entry)) 0 (fill (askedOf (now (w .entry)) set family (now (queries .entry))) 0 r)) ⌝ }
 {
     let b = HEAD + RECORD * (w[2] as usize);
     let n = w[3];
+    let root = w[HEAD + RECORD * (set as usize)];
+    let tag = w[HEAD + RECORD * (set as usize) + 4];
     let mut i = 0;
+    if tag != 0 {
+        return 0;
+    }
     if root == 0 {
         return 0;
     }
@@ -143,7 +150,7 @@ pub fn by_fours(w: &[u32], root: u32, family: u8, queries: &[u64], answers: &mut
         return 0;
     }
     while i + 4 <= queries.len() / 3 {
-        four(w, b, n, root, family, queries, i, answers);
+        four(w, b, n, set, family, queries, i, answers);
         i += 4;
     }
     i

@@ -1,7 +1,7 @@
 // Four walks side by side. Each round moves every walk that can go on by one node: the reads of a round do not wait for each other.
-use lookup::walking::turn;
 use nets::NextBit;
 use nets::PrefixBits;
+use trie_index::turn;
 ghost use mathlib.Core.Path.{_≡_};
 ghost use Prim.Native.Nat.{_<_};
 ghost use Rattle.nodes.specs.Parse.{Room};

@@ -25,15 +25,15 @@ pub fn contains_all(
     let a = root(pool, set);
     match a {
         Answer::Refused(no) => Answer::Refused(no),
-        Answer::Granted(r) => {
+        Answer::Granted(_) => {
             if family as u32 != pool[1] {
                 return Answer::Refused(Refusal::WrongFamily);
             }
             if answers.len() < queries.len() / 3 {
                 return Answer::Refused(Refusal::ShortBuffer);
             }
-            let done = by_fours(pool, r, family, queries, answers);
-            one_by_one(pool, r, family, queries, done, answers);
+            let done = by_fours(pool, set, family, queries, answers);
+            one_by_one(pool, set, family, queries, done, answers);
             Answer::Granted(0)
         }
     }

@@ -44,6 +44,7 @@ module _ (S : State) (k : ℕ) where
       public = ap (isPublic (S .family)) (rules-empty z) ∙ isPublic-nil (S .family);
       room = claim-roomOf S k e lt;
     },
+    refl,
   )
 
   -- it is granted exactly where the set is empty, and else gets 8

@@ -13,7 +13,7 @@ const WORDS: usize = 8072;
 // Says so where standard output was not written.
 fn tell(is_written: bool) {
     if !is_written {
-        tool_io::say_failed(b"netlist", b"standard output");
+        tool_files::say_failed(b"netlist", b"standard output");
     }
 }
 
@@ -23,11 +23,11 @@ fn main() {
     let input = lines.input;
     match input {
         Input::Unreadable => {
-            tool_io::say_failed(b"netlist", b"standard input");
+            tool_files::say_failed(b"netlist", b"standard input");
         }
         Input::Refused(number, no) => {
             tell(report::refused(number, no));
-            tool_io::say_refused_line(b"netlist", number, no);
+            tool_files::say_refused_line(b"netlist", number, no);
         }
         Input::Added(trimmed) => {
             change::simplify(&mut pool, 0);

@@ -35,5 +35,5 @@ pub fn set(pool: &[u32], family: u8, trimmed: u64) -> bool {
         return false;
     }
     let mut rows = [0u64; ROWS];
-    tool_io::print_set(pool, family, 0, &mut rows)
+    tool_print::print_set(pool, family, 0, &mut rows)
 }

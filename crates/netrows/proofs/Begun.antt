@@ -23,9 +23,9 @@ use Rattle.pool_state.proofs.OnTries.{trieAt}
 use Rattle.trie_paths.specs.Spans.{Spans}
 use Rattle.listing.proofs.Seats.{Sits}
 use Rattle.nodes.specs.declared.seats.Seat.{Seat}
-use Rattle.trie_next.specs.Spots.{beforeAll, goneOn, StandsIn}
-use Rattle.trie_next.specs.declared.spots.Spot.{Spot}
-use Rattle.trie_next.proofs.Onward.{stands-nowhere, seat-gone}
+use Rattle.trie_spots.specs.Spots.{beforeAll, goneOn, StandsIn}
+use Rattle.trie_spots.specs.declared.spots.Spot.{Spot}
+use Rattle.trie_spots.proofs.Onward.{stands-nowhere, seat-gone}
 use Rattle.netrows.specs.Rows.{filled, rowRules, rowRule, rowAfter, Listed}
 use Rattle.netrows.specs.Turns.{idle, Begins}
 

@@ -11,9 +11,9 @@ use Rattle.nets.specs.Tries.{listOf}
 use Rattle.nets.specs.Networks.{netFrom}
 use Rattle.nets.specs.declared.Net.{Net}
 use Rattle.nodes.specs.declared.seats.Seat.{Seat}
-use Rattle.trie_next.specs.Spots.{beforeAll, goneOn, StandsIn}
-use Rattle.trie_next.specs.declared.spots.Spot.{Spot}
-use Rattle.trie_next.proofs.Onward.{Lists, lists-trie, seat-gone, ahead, ahead-all, Arrives, gone-more, gone-last}
+use Rattle.trie_spots.specs.Spots.{beforeAll, goneOn, StandsIn}
+use Rattle.trie_spots.specs.declared.spots.Spot.{Spot}
+use Rattle.trie_spots.proofs.Onward.{Lists, lists-trie, seat-gone, ahead, ahead-all, Arrives, gone-more, gone-last}
 use Rattle.netrows.specs.Rows.{filled, Listed}
 use Rattle.netrows.specs.Turns.{turnAfter, Stores, Begins}
 use Rattle.netrows.specs.declared.turns.Turn.{Turn}

@@ -14,7 +14,7 @@ use Rattle.nets.specs.Tries.{Trie, listOf}
 use Rattle.nets.specs.declared.Net.{Net}
 use Rattle.nets.specs.Networks.{isFamily}
 use Rattle.pool_state.specs.declared.Answer.{Answer}
-use Rattle.trie_next.specs.Spots.{nowhere, beforeAll, goneOn, StandsIn, Goes}
+use Rattle.trie_spots.specs.Spots.{nowhere, beforeAll, goneOn, StandsIn, Goes}
 use Rattle.netrows.specs.Rows.{filled, Listed}
 use Rattle.netrows.specs.declared.turns.Turn.{Turn}
 

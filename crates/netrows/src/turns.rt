@@ -1,17 +1,17 @@
 // The turns of the listing: every decision is made here, so that what goes through the row only stores a network and takes the next turn.
 ghost use mathlib.Core.Path.{_≡_};
 ghost use Rattle.nets.specs.Tries.{Trie, listOf};
-ghost use Rattle.trie_next.specs.Spots.{StandsIn};
+ghost use Rattle.trie_spots.specs.Spots.{StandsIn};
 ghost use Rattle.netrows.specs.Turns.{idle, turnAfter, Stores, Begins};
 use nets::Refusal;
 use pool_check::seats::seat_of;
 use pool_state::Answer;
 use pool_state::Seated;
 use trie_list::rows::count;
-use trie_next::spots::Spot;
-use trie_next::spots::before_all;
-use trie_next::spots::go_on;
-use trie_next::spots::nowhere;
+use trie_spots::spots::Spot;
+use trie_spots::spots::before_all;
+use trie_spots::spots::go_on;
+use trie_spots::spots::nowhere;
 
 // How far the listing has come, the entry of the network that it is at, and what it will answer.
 pub struct Turn {

@@ -4,6 +4,7 @@ use nodes::reading::zeros_at;
 use pool_check::HEAD;
 use pool_check::RECORD;
 use pool_check::is_size;
+use pool_check::least_words;
 use pool_check::seats::seat_of;
 use pool_check::survey;
 pub use pool_state::Answer;
@@ -17,17 +18,20 @@ ghost use Rattle.pool.specs.Words.{wordsRule};
 
 mod laying;
 
-// How many words a pool of so many sets and nodes needs.
-pub fn words(sets: u32, nodes: u32) -> Answer
-    ensures { λ r. ⌜ answerAs r ≡ wordsRule sets nodes ⌝ }
+// How many words a pool of so many sets and nodes needs, of which so many sets are indexed.
+pub fn words(sets: u32, nodes: u32, indexed: u32) -> Answer
+    ensures { λ r. ⌜ answerAs r ≡ wordsRule sets nodes indexed ⌝ }
 {
-    if is_size(sets, nodes) {
-        return Answer::Granted(laying::least_words(sets, nodes) as u32);
+    if !is_size(sets, nodes) {
+        return Answer::Refused(Refusal::BadSetup);
     }
-    Answer::Refused(Refusal::BadSetup)
+    if sets < indexed {
+        return Answer::Refused(Refusal::BadSetup);
+    }
+    Answer::Granted(least_words(sets, nodes, indexed) as u32)
 }
 
-// Lays out a pool of empty sets in the lent words, a share and a limit for each set. A refusal changes no word, and no word past the smallest buffer is touched.
+// Lays out a pool of empty sets in the lent words, a share and a limit for each set; bit s of `indexed` says whether set s is indexed by its networks' first eight bits. A refusal changes no word, and no word past the smallest buffer is touched.
 pub fn layout(
     pool: &mut [u32],
     family: u8,
@@ -35,16 +39,21 @@ pub fn layout(
     nodes: u32,
     shares: &[u32],
     limits: &[u32],
+    indexed: u64,
 ) -> Answer
-    ensures { λ r. ⌜ Laid (now (pool .entry)) (setup family sets nodes (now (shares .entry)) (now (limits .entry))) (answerAs r) (now (pool .exit)) ⌝ }
+    ensures { λ r. ⌜ Laid (now (pool .entry)) (setup family sets nodes (now (shares .entry)) (now (limits .entry)) indexed) (answerAs r) (now (pool .exit)) ⌝ }
 {
-    if laying::is_setup(pool.len(), family, sets, nodes, shares, limits) {
-        laying::clear(pool, laying::least_words(sets, nodes));
-        laying::header(pool, family, sets, nodes);
-        laying::records(pool, shares, limits);
-        return Answer::Granted(0);
+    if !laying::is_setup(pool.len(), family, sets, nodes, shares, limits, indexed) {
+        return Answer::Refused(Refusal::BadSetup);
     }
-    Answer::Refused(Refusal::BadSetup)
+    laying::clear(
+        pool,
+        least_words(sets, nodes, laying::count_marks(sets, indexed)),
+    );
+    laying::header(pool, family, sets, nodes);
+    laying::records(pool, shares, limits);
+    laying::indexes(pool, least_words(sets, nodes, 0), sets, indexed);
+    Answer::Granted(0)
 }
 
 // The free nodes of a pool.

@@ -1,12 +1,14 @@
-// After the nodes of one set changed: moving the words of the sets behind it, putting the roots right, and the answer.
+// After the nodes of one set changed: moving the words of the sets behind it, putting the roots and its index right, and the answer.
 use nodes::writing::shift;
 use pool_state::Answer;
 use pool_state::Survey;
+use trie_index::INDEX;
+use trie_index::write_index;
 ghost use mathlib.Core.Path.{_≡_};
 ghost use Prim.Native.Nat.{_+_};
 ghost use Rattle.nodes.specs.Words.{put, place};
 ghost use Rattle.pool_state.specs.Rules.{answerAs};
-ghost use Rattle.pool_state.specs.Steps.{behindAt, Shiftable, ownRoot, movedRoot, relinked, Movable, Relink};
+ghost use Rattle.pool_state.specs.Steps.{behindAt, Shiftable, ownRoot, movedRoot, relinked, Movable, Relink, Indexable, Settle, Reindexed, Settled};
 
 // Moves the words of the sets behind a set to where they stand once the set has n nodes.
 pub fn shift_behind(w: &mut [u32], b: usize, v: Survey, n: u32)
@@ -54,11 +56,27 @@ fn relink(w: &mut [u32], set: u32, at: u32, old: u32, new: u32)
     }
 }
 
-// Puts the roots right once the nodes of the result, n of them, are written; answers n.
+// Puts the index of a set right, where it has one: it has n nodes now, from node `at` on. Its words are relative to the root, so those of the sets behind it stay.
+fn reindex(w: &mut [u32], set: u32, at: u32, n: u32)
+    requires { ⌜ Indexable (now w) set at n ⌝ }
+    ensures { λ _. ⌜ Reindexed (now (w .entry)) set at n (now (w .exit)) ⌝ }
+{
+    let tag = w[64 + 8 * (set as usize) + 4];
+    if tag == 0 {
+        return;
+    }
+    let b = 64 + 8 * (w[2] as usize);
+    let nodes = w[3];
+    let p = b + 8 * (nodes as usize) + INDEX * (tag as usize - 1);
+    write_index(w, b, nodes, own_root(at, n), p);
+}
+
+// Puts the roots and the index right once the nodes of the result, n of them, are written; answers n.
 pub fn granted(w: &mut [u32], set: u32, v: Survey, n: u32) -> Answer
-    requires { ⌜ Relink (now w) set (v .held) n ⌝ }
-    ensures { λ r. ⌜ (answerAs r ≡ (0, n)) × (now (w .exit) ≡ relinked (now (w .entry)) set (v .at) (v .held) n) ⌝ }
+    requires { ⌜ Settle (now w) set (v .at) (v .held) n ⌝ }
+    ensures { λ r. ⌜ (answerAs r ≡ (0, n)) × Settled (now (w .entry)) set (v .at) (v .held) n (now (w .exit)) ⌝ }
 {
     relink(w, set, v.at, v.held, n);
+    reindex(w, set, v.at, n);
     Answer::Granted(n)
 }

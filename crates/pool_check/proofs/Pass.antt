@@ -13,7 +13,7 @@ use Rattle.nets.specs.Bits.{Bits}
 use Rattle.nets.proofs.Strings.{cond-both}
 use Rattle.nodes.specs.Parse.{Room, parse, after}
 use Rattle.pool_state.specs.Kept.{heldL, ReadList, badList, okList, endL}
-use Rattle.pool_state.specs.Decode.{recordAt, base, isHeader, readSet, isRight, decode}
+use Rattle.pool_state.specs.Decode.{recordAt, base, isHeader, readSet, isRight, readPool}
 use Rattle.pool_state.specs.Rules.{shareIn, noSurvey, surveyOf}
 use Rattle.pool_state.proofs.Kept.{heldL-nil, endL-parse}
 use Rattle.pool_state.proofs.Header.{isHeader-header, header-room}
@@ -43,7 +43,7 @@ pub record Pass (w : List ℕ) (k sets n b f s i c a h : ℕ) : Type 0 where
   pub past : s ≤ sets
   pub pos : 1 ≤ i
   pub within : c ≤ n
-  pub is : scan w b n (getD w 1 0) k (sets - s) s i c (a, h) ≡ surveyOf (decode w) k
+  pub is : scan w b n (getD w 1 0) k (sets - s) s i c (a, h) ≡ surveyOf (readPool w) k
 
 width-few : (f : ℕ) → width f ≤ 128
 unfolding width
@@ -81,7 +81,7 @@ picked true x y a h = refl
 picked false x y a h = refl
 
 module _ {w : List ℕ} {k sets n b f s i c a h : ℕ} (o : Pass w k sets n b f s i c a h) where
-  pub pass-done : sets ≤ s → found i c (a, h) ≡ surveyOf (decode w) k
+  pub pass-done : sets ≤ s → found i c (a, h) ≡ surveyOf (readPool w) k
   unfolding scan
   pass-done le = let e : sets - s ≡ 0 = omega arith in rw e at (o .is)
 
@@ -89,7 +89,7 @@ module _ {w : List ℕ} {k sets n b f s i c a h : ℕ} (o : Pass w k sets n b f 
     left : sets - s ≡ suc (sets - (s + 1))
     left = omega arith
 
-    pub pass-bad : e ≡ 0 → noSurvey ≡ surveyOf (decode w) k
+    pub pass-bad : e ≡ 0 → noSurvey ≡ surveyOf (readPool w) k
     unfolding scan
     pass-bad z = rw (left, scan, ← o .fuel, lost i (readSet w b n f s i) (o .pos) (sym z ∙ end)) at (o .is)
 
@@ -103,7 +103,7 @@ module _ {w : List ℕ} {k sets n b f s i c a h : ℕ} (o : Pass w k sets n b f 
       pub pass-up : i ≤ e
       pass-up = omega (arith, there .2)
 
-      opened : turn w b n (getD w 1 0) k (scan w b n (getD w 1 0) k (sets - (s + 1)) (s + 1)) s i c (a, h) (there .0) ≡ surveyOf (decode w) k
+      opened : turn w b n (getD w 1 0) k (scan w b n (getD w 1 0) k (sets - (s + 1)) (s + 1)) s i c (a, h) (there .0) ≡ surveyOf (readPool w) k
       unfolding scan
       opened = rw (left, scan, ← o .fuel, there .1) at (o .is)
 
@@ -111,17 +111,17 @@ module _ {w : List ℕ} {k sets n b f s i c a h : ℕ} (o : Pass w k sets n b f 
         is-right : r ≡ isRight w (getD w 1 0) s (there .0)
         is-right = right f (there .0) (there .1) (there .2)
 
-        pub pass-off : not r ≡ true → noSurvey ≡ surveyOf (decode w) k
+        pub pass-off : not r ≡ true → noSurvey ≡ surveyOf (readPool w) k
         pass-off out = rw (sym is-right ∙ not-true r out) at opened
 
         module _ (fit : not r ≡ false) {q : ℕ} (claim : q ≡ max (shareIn w s) (e - i)) where
-          allowed : cond (leb (c + q) n) (scan w b n (getD w 1 0) k (sets - (s + 1)) (s + 1) e (c + q) (cond (eqb s k) i a, cond (eqb s k) (e - i) h)) noSurvey ≡ surveyOf (decode w) k
+          allowed : cond (leb (c + q) n) (scan w b n (getD w 1 0) k (sets - (s + 1)) (s + 1) e (c + q) (cond (eqb s k) i a, cond (eqb s k) (e - i) h)) noSurvey ≡ surveyOf (readPool w) k
           allowed =
               let z : i + (e - i) ≡ e = omega (arith, pass-up) in
               let y : heldL (there .0) ≡ e - i = omega (arith, there .2) in
               rw (sym is-right ∙ not-false r fit, y, ← claim, picked (eqb s k) i (e - i) a h, z) at opened
 
-          pub pass-over : n - c < q → noSurvey ≡ surveyOf (decode w) k
+          pub pass-over : n - c < q → noSurvey ≡ surveyOf (readPool w) k
           pass-over lt = rw (lt-leb (c + q) n (omega arith)) at allowed
 
           pub pass-on : q ≤ n - c → Pass w k sets n b f (s + 1) e (c + q) (cond (eqb s k) i a) (cond (eqb s k) (e - i) h)

@@ -14,7 +14,7 @@ use Rattle.nets.specs.Bits.{Bits}
 use Rattle.pool_state.specs.Kept.{heldL, ReadList, badList, okList}
 use Rattle.pool_state.proofs.Kept.{heldL-nil}
 use Rattle.pool_state.specs.States.{SetState, held, claim, used, claimed}
-use Rattle.pool_state.specs.Decode.{base, damaged, sound, ReadSets, badSets, okSets, setOf, isRight, setBefore, isHeader, readSet, readSets, judged, decode}
+use Rattle.pool_state.specs.Decode.{base, damaged, sound, ReadSets, badSets, okSets, setOf, isRight, setBefore, isHeader, readSet, readSets, judged, readPool}
 use Rattle.pool_state.specs.Rules.{shareIn, noSet, noSurvey, firstNode, surveyOf}
 use Rattle.pool_state.specs.declared.Survey.{Survey}
 
@@ -114,15 +114,11 @@ finish-judged w b f k (okSets xs) = rw (zero-add (claimed xs)) (go (leb (claimed
     go true = let e : 1 + used xs - 1 ≡ used xs = omega arith in rw (start, e)
     go false = refl
 
--- From the first set on, the pass finds what the decoded state says; without a header there is nothing to find.
-pub scan-survey : (w : List ℕ) (k : ℕ) → isHeader w ≡ true → scan w (base (getD w 2 0)) (getD w 3 0) (getD w 1 0) k (getD w 2 0) 0 1 0 (0, 0) ≡ surveyOf (decode w) k
-unfolding decode
+-- From the first set on, the pass finds what the state that is read says.
+pub scan-survey : (w : List ℕ) (k : ℕ) → isHeader w ≡ true → scan w (base (getD w 2 0)) (getD w 3 0) (getD w 1 0) k (getD w 2 0) 0 1 0 (0, 0) ≡ surveyOf (readPool w) k
+unfolding readPool
 scan-survey w k h =
     let b = base (getD w 2 0) in
     let n = getD w 3 0 in
     let f = getD w 1 0 in
     scan-finish w b n f k (getD w 2 0) 0 1 0 (0, 0) (omega arith) ∙ rw h (finish-judged w b f k (readSets w b n f (getD w 2 0) 0 1))
-
-pub surveyOf-headless : (w : List ℕ) (k : ℕ) → isHeader w ≡ false → noSurvey ≡ surveyOf (decode w) k
-unfolding decode surveyOf
-surveyOf-headless w k h = rw h

@@ -1,22 +1,25 @@
-// The check of a whole pool, in one pass over its sets, and the seat of one of them. Of a public-only set the ways down to the inner networks are read, and no list.
+// The check of a whole pool, in one pass over its sets, and the seat of one of them. Of a public-only set the ways down to the inner networks are read, and no list; of an indexed one the
+// top eight levels once more.
 use claims::claim_at;
 use nets::families::is_family;
 use nodes::reading::trie_end;
 use pool_state::Survey;
+use trie_index::INDEX;
+use trie_index::is_index;
 use trie_meets::standing::is_clear;
 ghost use mathlib.Core.Path.{_≡_};
-ghost use mathlib.Core.Bool.{true, not, cond, _&&_, _||_};
+ghost use mathlib.Core.Bool.{true, false, not, cond, _&&_, _||_};
 ghost use mathlib.Core.List.{List};
 ghost use Prim.Native.Nat.{ℕ, suc, _+_, _≤_, _<_};
 ghost use lib.Dec.{eqb, leb};
-ghost use lib.ListN.{length, getD};
+ghost use lib.ListN.{length, getD, drop};
 ghost use Rattle.nets.specs.Bits.{Bits};
 ghost use Rattle.nets.specs.Networks.{width};
 ghost use Rattle.inner_nets.specs.Inner.{isPublic};
 ghost use Rattle.nodes.specs.Parse.{Room};
 ghost use Rattle.pool_state.specs.Kept.{heldL, okList, endL};
-ghost use Rattle.pool_state.specs.States.{isSize};
-ghost use Rattle.pool_state.specs.Decode.{base, isHeader, readSet, isRight, decode};
+ghost use Rattle.pool_state.specs.States.{State, isSize};
+ghost use Rattle.pool_state.specs.Decode.{base, leastWords, isHeader, readSet, isRight, indexesAt, areIndexes, sound, readPool, decode};
 ghost use Rattle.pool_state.specs.Rules.{shareIn, limitIn, publicIn, noSurvey, surveyOf};
 
 pub mod claims;
@@ -52,7 +55,14 @@ pub fn is_size(sets: u32, nodes: u32) -> bool
     nodes <= MOST_NODES
 }
 
-// The first four words are those of a pool, and the slice is long enough for it.
+// The words of the smallest buffer. The sum cannot wrap, whatever the counts are.
+pub fn least_words(sets: u32, nodes: u32, indexed: u32) -> usize
+    ensures { λ r. ⌜ r ≡ leastWords sets nodes indexed ⌝ }
+{
+    HEAD + RECORD * (sets as usize) + NODE * (nodes as usize) + INDEX * (indexed as usize)
+}
+
+// The first five words are those of a pool, and the slice is long enough for it.
 pub fn is_header(w: &[u32]) -> bool
     ensures { λ r. ⌜ r ≡ isHeader (now (w .entry)) ⌝ }
 {
@@ -70,7 +80,11 @@ pub fn is_header(w: &[u32]) -> bool
     if !is_size(sets, nodes) {
         return false;
     }
-    HEAD + RECORD * (sets as usize) + NODE * (nodes as usize) <= w.len()
+    let indexed = w[4];
+    if sets < indexed {
+        return false;
+    }
+    least_words(sets, nodes, indexed) <= w.len()
 }
 
 // The levels that a trie of the family may have: one more than the bits of an address.
@@ -171,7 +185,7 @@ fn no_survey() -> Survey
 // What one pass over the sets of a pool with a header finds out.
 fn survey_sets(w: &[u32], set: usize) -> Survey
     requires { ⌜ isHeader (now w) ≡ true ⌝ }
-    ensures { λ r. ⌜ r ≡ surveyOf (decode (now (w .entry))) set ⌝ }
+    ensures { λ r. ⌜ r ≡ surveyOf (readPool (now (w .entry))) set ⌝ }
 {
     let sets = w[2] as usize;
     let n = w[3];
@@ -210,12 +224,70 @@ fn survey_sets(w: &[u32], set: usize) -> Survey
     }
 }
 
+// What stands for an index, or a tag, that is wrong: no pool has as many sets.
+const WRONG: u32 = 255;
+
+// How many indexed sets there are up to set s, if j stand before it, or that its tag or its index is wrong.
+fn index_after(w: &[u32], s: usize, j: u32) -> u32
+    requires { ⌜ (s < getD (now w) 2 0) × (j ≤ s) ⌝ }
+    requires { ⌜ ((S : State) × (readPool (now w) ≡ sound S)) ⌝ }
+    ensures { λ r. ⌜ ((r ≡ 255 → ⊥) → r ≤ j + 1) × ((S : State) → readPool (now (w .entry)) ≡ sound S → areIndexes (now (w .entry)) (indexesAt S) s j (drop s (S .sets)) ≡ cond (eqb r 255) false (areIndexes (now (w .entry)) (indexesAt S) (s + 1) r (drop (s + 1) (S .sets)))) ⌝ }
+{
+    let tag = w[HEAD + RECORD * s + 4];
+    if tag == 0 {
+        return j;
+    }
+    if tag != j + 1 {
+        return WRONG;
+    }
+    if w[4] < tag {
+        return WRONG;
+    }
+    let root = w[HEAD + RECORD * s];
+    if !is_index(
+        w,
+        HEAD + RECORD * (w[2] as usize),
+        w[3],
+        root,
+        least_words(w[2], w[3], j),
+    ) {
+        return WRONG;
+    }
+    j + 1
+}
+
+// The tags and the indexes are those of the sets.
+fn are_indexes(w: &[u32]) -> bool
+    requires { ⌜ ((S : State) × (readPool (now w) ≡ sound S)) ⌝ }
+    ensures { λ r. ⌜ ((S : State) → readPool (now (w .entry)) ≡ sound S → r ≡ areIndexes (now (w .entry)) (indexesAt S) 0 0 (S .sets)) ⌝ }
+{
+    let sets = w[2] as usize;
+    let mut s: usize = 0;
+    let mut j: u32 = 0;
+    while s < sets {
+        let k = index_after(w, s, j);
+        if k == WRONG {
+            return false;
+        }
+        j = k;
+        s += 1;
+    }
+    w[4] == j
+}
+
 // What one pass over the pool finds out for the calls on one set.
 pub fn survey(w: &[u32], set: u32) -> Survey
     ensures { λ r. ⌜ r ≡ surveyOf (decode (now (w .entry))) set ⌝ }
 {
-    if is_header(w) {
-        return survey_sets(w, set as usize);
+    if !is_header(w) {
+        return no_survey();
     }
-    no_survey()
+    let found = survey_sets(w, set as usize);
+    if !found.sound {
+        return found;
+    }
+    if !are_indexes(w) {
+        return no_survey();
+    }
+    found
 }

@@ -1,31 +1,37 @@
--- The law of every change: a list written at the place of its set, with the sets behind it behind it, and then the roots put right, is the state with the new list.
+-- The law of every change: a list written at the place of its set, with the sets behind it behind it, and then the roots and the index put right, is the state with the new list.
 -- Both orders of writing come to this, and a result within the room leaves what moving and linking ask. Assumes nothing.
 use mathlib.Core.Path.{_≡_, refl, sym, ap, _∙_}
-use mathlib.Core.Bool.{true}
+use mathlib.Core.Bool.{Bool, true, false, cond}
 use mathlib.Core.List.{List, [], _∷_, _++_, append-assoc}
-use Prim.Native.Nat.{ℕ, zero, suc, _+_, _≤_, _<_}
+use Prim.Native.Nat.{ℕ, zero, suc, _+_, _-_, _*_, _≤_, _<_}
+use native.Mathlib.Nat.{zero-add}
 use native.Mathlib.Omega.{arith}
-use lib.ListN.{length, getD, take, drop}
-use Rattle.nets.specs.Bits.{Bits}
+use lib.Dec.{eqb}
+use lib.ListN.{length, getD, take, drop, length-append}
+use borrow.Author.Tests.{ne-eqb}
+use Rattle.nets.specs.Bits.{Bits, digit}
 use Rattle.nets.specs.Lists.{isList}
 use Rattle.nets.specs.Networks.{width}
-use Rattle.nodes.specs.Words.{put, Has, Apart, place}
-use Rattle.pool_state.specs.Kept.{heldL, encL}
-use Rattle.pool_state.specs.States.{SetState, State, held, used, claimedBut, roomOf}
-use Rattle.pool_state.specs.Decode.{recordAt, base, rootAt, nodeWords, over, sound, decode}
+use Rattle.nets.specs.Tries.{Trie, size}
+use Rattle.nodes.specs.Words.{put, Has, Apart, place, enc}
+use Rattle.pool_state.specs.Kept.{heldL, encL, indexL}
+use Rattle.pool_state.specs.States.{SetState, State, held, used, indexedOf, claimedBut, roomOf}
+use Rattle.pool_state.specs.Decode.{recordAt, base, leastWords, rootAt, nodeWords, overSets, tagOf, indexWords, overIndexes, indexesAt, over, sound, decode}
 use Rattle.pool_state.specs.Rules.{noSet, firstNode, surveyOf}
 use Rattle.pool_state.specs.Changes.{setAt, setsWith, withSet, setWith}
-use Rattle.pool_state.specs.Steps.{behindAt, Shiftable, relinked, Movable, Relink}
+use Rattle.pool_state.specs.Steps.{behindAt, Shiftable, relinked, Movable, Relink, reindexed, Settle}
 use Rattle.pool_state.specs.declared.Survey.{Survey}
-use Rattle.nodes.proofs.Put.{put-behind, put-behind-at, put-before-at, length-put, getD-put-before}
-use Rattle.nodes.proofs.Has.{has-put, has-same}
+use Rattle.nodes.proofs.Put.{put-nil, put-behind, put-behind-at, put-before-at, length-put, getD-put-before, getD-put-out}
+use Rattle.nodes.proofs.Has.{has-put, put-has, has-front, has-same}
+use Rattle.nodes.proofs.Tries.{length-enc}
 use Rattle.pool_state.proofs.Claims.{isState-claimed, used-claimed, claimedBut-is}
-use Rattle.pool_state.proofs.WithSet.{Fits, length-setsWith, isState-withSet}
-use Rattle.pool_state.proofs.Relinked.{relinked-put, overRecords-relinked}
+use Rattle.pool_state.proofs.WithSet.{Fits, length-setsWith, withSet-least, isState-withSet}
+use Rattle.pool_state.proofs.Relinked.{relinked-put, length-relinked, getD-relinked, overRecords-relinked}
 use Rattle.pool_state.proofs.Holds.{rootAt-some}
-use Rattle.pool_state.proofs.Encoded.{decode-sound}
+use Rattle.pool_state.proofs.Indexed.{Indexes, indexes-keep, indexes-tag, indexed-before, overIndexes-with}
+use Rattle.pool_state.proofs.Whole.{decode-whole}
 use Rattle.pool_state.proofs.Decoded.{decode-header, decode-state, decode-root, decode-over}
-use Rattle.pool_state.proofs.Seen.{Seen, placeOf, before, behind, before-has, before-length, behind-has, behindAt-is, seen-state, seen-header, seen-figures, survey-seen}
+use Rattle.pool_state.proofs.Seen.{Seen, placeOf, before, behind, before-has, before-length, behind-has, behind-length, behindAt-is, seen-state, seen-header, seen-figures, survey-seen}
 
 -- the words of the nodes afterwards: those of the sets before and behind are the same
 nodeWords-setsWith : (k : ℕ) (x : SetState) (ss : List SetState) → k < length ss
@@ -41,23 +47,64 @@ put-front {w} {p} {xs} ys h = sym (put-behind w p xs ys) ∙ ap (λ u. put u (p 
 
 -- What fits leaves words that hold the state with it.
 pub decode-withSet : (w : List ℕ) (S : State) (k : ℕ) (x : SetState) → decode w ≡ sound S → k < length (S .sets) → isList (width (S .family)) (x .list) ≡ true → Fits S k x
-    → decode (over w (withSet S k x)) ≡ sound (withSet S k x)
-unfolding withSet
-decode-withSet w S k x d lt i f =
-    decode-over w (withSet S k x)
-    (isState-withSet S k (decode-state w S d) lt x i f)
-    (rw (length-setsWith k x (S .sets)) (decode-header w S d .long))
+    → x .indexed ≡ setAt S k .indexed → decode (over w (withSet S k x)) ≡ sound (withSet S k x)
+decode-withSet w S k x d lt i f m =
+    decode-over w (withSet S k x) (isState-withSet S k (decode-state w S d) lt x i f) (rw (withSet-least S k x m) (decode-header w S d .long))
 
 -- the words with xs in the place of the set's, and the sets behind it behind them
 abbrev pub withWords : List ℕ → State → ℕ → Survey → List ℕ → List ℕ
 withWords w S k v xs = put w (placeOf w v) (xs ++ behind S k)
 
-module _ {w : List ℕ} {S : State} {k : ℕ} {v : Survey} (h : Seen w S k v) (l : List Bits) where
-  pub over-change : {u : List ℕ} → u ≡ withWords w S k v (encL l) → relinked u k (v .at) (v .held) (heldL l) ≡ over w (withSet S k (setWith (setAt S k) l))
-  unfolding over withSet
-  over-change {u} e =
+-- The sets behind it can move: the other sets use no more than they claim.
+used-but : (k : ℕ) (ss : List SetState) → k < length ss → used ss ≤ claimedBut k ss + held (getD ss k noSet)
+unfolding used claimedBut
+used-but k [] lt = absurd (omega arith)
+used-but zero (s ∷ ss) lt = omega (arith, used-claimed ss)
+used-but (suc k) (s ∷ ss) lt = omega (arith, used-but k ss (omega arith))
+
+module _ {w : List ℕ} {S : State} {k : ℕ} {v : Survey} (h : Seen w S k v) where
+  -- so many nodes are within the room, and end with the sets behind them before the indexes do
+  in-pool : {n : ℕ} → n ≤ roomOf S k → v .at + n + length (behind S k) ≤ suc (S .nodes)
+  in-pool le = omega (arith, used-but k (S .sets) (h .known), h .used, h .held, behind-length h, isState-claimed S (seen-state h), claimedBut-is k (S .sets) (h .known))
+
+  -- words written there stand there
+  pub written-has : (l : List Bits) {u : List ℕ} → u ≡ withWords w S k v (encL l) → length (encL l) ≤ roomOf S k → Has u (place (base (getD u 2 0)) (v .at)) (encL l)
+  written-has l {u} e le =
+      let xs = encL l ++ behind S k in
+      let p = placeOf w v in
+      let f = seen-figures h in
+      let q : getD u 2 0 ≡ getD w 2 0 = rw e (getD-put-before w p xs 2 (omega arith)) in
+      rw (q, e) (has-front (encL l) (behind S k) (put-has w p xs (omega (arith, f .long, f .first, seen-header h .nodes, in-pool le, length-append (encL l) (behind S k)))))
+
+  -- the tag of the set
+  seen-tag : getD w (recordAt k + 4) 0 ≡ tagOf (setAt S k .indexed) (indexedOf (take k (S .sets)))
+  seen-tag = rw (zero-add k, zero-add (indexedOf (take k (S .sets)))) at (indexes-tag w (indexesAt S) k 0 0 (S .sets) (h .known) (decode-whole w S (h .decoded) .indexes))
+
+-- To put an index right is to write it where the indexes of the sets before it end.
+reindexed-is : (y : List ℕ) (S : State) (k : ℕ) (l : List Bits) → getD y 2 0 ≡ length (S .sets) → getD y 3 0 ≡ S .nodes
+    → getD y (recordAt k + 4) 0 ≡ tagOf (setAt S k .indexed) (indexedOf (take k (S .sets)))
+    → put y (indexesAt S + 256 * (0 + indexedOf (take k (S .sets)))) (indexWords (setWith (setAt S k) l)) ≡ reindexed y k l
+unfolding reindexed
+reindexed-is y S k l e f t = rw (t, e, f) (go (setAt S k .indexed))
+  where
+    j : ℕ
+    j = indexedOf (take k (S .sets))
+
+    go : (c : Bool) → put y (indexesAt S + 256 * (0 + j)) (cond c (indexL l) []) ≡ cond (eqb (tagOf c j) 0) y (put y (leastWords (length (S .sets)) (S .nodes) (tagOf c j - 1)) (indexL l))
+    go true =
+        let a : indexesAt S + 256 * (0 + j) ≡ leastWords (length (S .sets)) (S .nodes) (suc j - 1) = omega arith in
+        rw (ne-eqb (suc j) 0 (omega arith)) (ap (λ p. put y p (indexL l)) a)
+    go false = put-nil y (indexesAt S + 256 * (0 + j))
+
+module _ {w : List ℕ} {S : State} {k : ℕ} {v : Survey} (h : Seen w S k v) (l : List Bits) {u : List ℕ} (e : u ≡ withWords w S k v (encL l)) where
+  abbrev linkedWords : List ℕ
+  linkedWords = relinked u k (v .at) (v .held) (heldL l)
+
+  overSets-change : linkedWords ≡ overSets w (withSet S k (setWith (setAt S k) l))
+  unfolding overSets withSet
+  overSets-change =
       let m = length (S .sets) in
-      let d = decode-sound w S (h .decoded) in
+      let d = decode-whole w S (h .decoded) .plain in
       let q = seen-header h .sets in
       let y = setWith (setAt S k) l in
       let xs = nodeWords (setsWith k y (S .sets)) in
@@ -74,10 +121,38 @@ module _ {w : List ℕ} {S : State} {k : ℕ} {v : Survey} (h : Seen w S k v) (l
       )
       (relinked-put w k (v .at) (v .held) (heldL l) (base m) xs (omega (arith, h .known)) (omega arith))
 
-  -- it is sound again
-  pub decode-change : {u : List ℕ} → isList (width (S .family)) l ≡ true → Fits S k (setWith (setAt S k) l) → u ≡ withWords w S k v (encL l)
-      → decode (relinked u k (v .at) (v .held) (heldL l)) ≡ sound (withSet S k (setWith (setAt S k) l))
-  decode-change i f e = rw (over-change e) (decode-withSet w S k (setWith (setAt S k) l) (h .decoded) (h .known) i f)
+  module _ (le : length (encL l) ≤ roomOf S k) where
+    -- a word that is no root, and stands before the nodes or behind them, is as it was
+    linked-beside : (p : ℕ) → ((t : ℕ) → t < length (S .sets) → p ≡ recordAt t → ⊥) → (base (length (S .sets)) ≤ p → p < indexesAt S → ⊥) → getD linkedWords p 0 ≡ getD w p 0
+    linked-beside p f g =
+        let xs = encL l ++ behind S k in
+        let n = length-append (encL l) (behind S k) in
+        let q = seen-header h .sets in
+        let r : getD u 2 0 ≡ getD w 2 0 = rw e (getD-put-before w (placeOf w v) xs 2 (omega arith)) in
+        getD-relinked u k (v .at) (v .held) (heldL l) (omega (arith, h .known)) p (λ t lt. f t (omega arith))
+        ∙ rw e (getD-put-out w (placeOf w v) xs p (λ a b. g (omega arith) (omega (arith, in-pool h le, before-length h))))
+
+    linked-length : length linkedWords ≡ length w
+    linked-length = length-relinked u k (v .at) (v .held) (heldL l) ∙ rw e (length-put w (placeOf w v) (encL l ++ behind S k))
+
+    linked-indexes : Indexes linkedWords (indexesAt S) 0 0 (S .sets)
+    linked-indexes =
+        indexes-keep linkedWords w (indexesAt S) 0 0 (S .sets) linked-length
+        (linked-beside 4 (λ t lt q. omega arith) (λ a b. omega arith))
+        (λ t a b. linked-beside (recordAt t + 4) (λ i lt q. omega arith) (λ c d. omega arith))
+        (λ p a. linked-beside p (λ t lt q. omega arith) (λ b c. omega arith))
+        (decode-whole w S (h .decoded) .indexes)
+
+    pub over-change : reindexed linkedWords k l ≡ over w (withSet S k (setWith (setAt S k) l))
+    unfolding over withSet
+    over-change =
+        let y = setWith (setAt S k) l in
+        let low : (p : ℕ) → 1 ≤ p → p < 4 → getD linkedWords p 0 ≡ getD w p 0 = λ p a b. linked-beside p (λ t lt q. omega arith) (λ c d. omega arith) in
+        let t = linked-beside (recordAt k + 4) (λ i lt q. omega arith) (λ c d. omega (arith, h .known)) ∙ seen-tag h in
+        sym (reindexed-is linkedWords S k l (low 2 (omega arith) (omega arith) ∙ seen-header h .sets) (low 3 (omega arith) (omega arith) ∙ seen-header h .nodes) t)
+        ∙ sym (overIndexes-with k y linkedWords (indexesAt S) 0 0 (S .sets) (omega arith) (h .known) refl linked-indexes)
+        ∙ ap (λ z. overIndexes z (indexesAt S) 0 0 (setsWith k y (S .sets))) overSets-change
+        ∙ ap (λ n. overIndexes (overSets w (withSet S k y)) (leastWords n (S .nodes) 0) 0 0 (setsWith k y (S .sets))) (sym (length-setsWith k y (S .sets)))
 
 -- The two orders of writing n words: the sets behind are moved first, and then they are written; or they are moved last, where the words are no more than they were.
 module _ {w : List ℕ} {S : State} {k : ℕ} {v : Survey} (h : Seen w S k v) (xs : List ℕ) {n : ℕ} (q : length xs ≡ n) where
@@ -95,8 +170,12 @@ module _ {w : List ℕ} {S : State} {k : ℕ} {v : Survey} (h : Seen w S k v) (x
       let a : Has u p (behind S k) = rw e (has-put (placeOf w v) xs (behind-has h) far) in
       rw (g, behindAt-is h a, e) (put-behind-at w (placeOf w v) _ xs (behind S k) next)
 
+tag-few : (c : Bool) (j : ℕ) → tagOf c j ≤ j + digit c
+tag-few true j = omega arith
+tag-few false j = omega arith
+
 -- The roots can move: those behind set k are behind its nodes.
-firstNode-from : (k i : ℕ) (ss : List SetState) → k < length ss → i ≤ firstNode k i ss
+pub firstNode-from : (k i : ℕ) (ss : List SetState) → k < length ss → i ≤ firstNode k i ss
 firstNode-from k i [] lt = absurd (omega arith)
 firstNode-from zero i (x ∷ xs) lt = omega arith
 firstNode-from (suc k) i (x ∷ xs) lt = omega (arith, firstNode-from k (i + held x) xs (omega arith))
@@ -107,13 +186,6 @@ firstNode-behind k zero i (x ∷ xs) lt le = absurd (omega arith)
 firstNode-behind zero (suc s) i (x ∷ xs) lt le = firstNode-from s (i + held x) xs (omega arith)
 firstNode-behind (suc k) (suc s) i (x ∷ xs) lt le = firstNode-behind k s (i + held x) xs (omega arith) (omega arith)
 
--- The sets behind it can move: the other sets use no more than they claim.
-used-but : (k : ℕ) (ss : List SetState) → k < length ss → used ss ≤ claimedBut k ss + held (getD ss k noSet)
-unfolding used claimedBut
-used-but k [] lt = absurd (omega arith)
-used-but zero (s ∷ ss) lt = omega (arith, used-claimed ss)
-used-but (suc k) (s ∷ ss) lt = omega (arith, used-but k ss (omega arith))
-
 module _ {w : List ℕ} {S : State} {k : ℕ} {v : Survey} (h : Seen w S k v) where
   root-moves : (n s : ℕ) → n ≤ roomOf S k → k < s → s < getD w 2 0 → Movable (v .held) n (getD w (recordAt s) 0)
   root-moves n s le lt ls ne =
@@ -122,7 +194,7 @@ module _ {w : List ℕ} {S : State} {k : ℕ} {v : Survey} (h : Seen w S k v) wh
       let r : getD w (recordAt s) 0 ≡ firstNode s 1 (S .sets) = e ∙ rootAt-some (firstNode s 1 (S .sets)) (setAt S s .list) (λ z. ne (e ∙ ap (rootAt (firstNode s 1 (S .sets))) z)) in
       omega (arith, firstNode-behind k s 1 (S .sets) lt (y .known), h .held, y .at, seen-figures y, seen-header h .nodes)
 
-  pub relink-asks : {n : ℕ} {u : List ℕ} (ys : List ℕ) → n ≤ roomOf S k → u ≡ put w (placeOf w v) ys → Relink u k (v .held) n
+  relink-asks : {n : ℕ} {u : List ℕ} (ys : List ℕ) → n ≤ roomOf S k → u ≡ put w (placeOf w v) ys → Relink u k (v .held) n
   relink-asks {n} ys le e =
       let p = placeOf w v in
       let q : getD (put w p ys) 2 0 ≡ getD w 2 0 = getD-put-before w p ys 2 (omega arith) in
@@ -132,6 +204,37 @@ module _ {w : List ℕ} {S : State} {k : ℕ} {v : Survey} (h : Seen w S k v) wh
         long = rw (q, length-put w p ys) (omega (arith, seen-figures h .long));
         roots = λ s lt ls. rw (getD-put-before w p ys (recordAt s) (omega arith)) (root-moves n s le lt (rw q at ls));
       })
+
+  -- what putting the roots and the index right asks, once a trie of n nodes is written
+  pub settle-asks : {n : ℕ} {u : List ℕ} (t : Trie) → size t ≡ n → n ≤ roomOf S k → u ≡ put w (placeOf w v) (enc t ++ behind S k) → Settle u k (v .at) (v .held) n
+  settle-asks {n} {u} t z le e =
+      let xs = enc t ++ behind S k in
+      let p = placeOf w v in
+      let f = seen-figures h in
+      let g = seen-header h in
+      let a = length-append (enc t) (behind S k) in
+      let b = length-enc t in
+      let low : (q : ℕ) → q < base (getD w 2 0) → getD u q 0 ≡ getD w q 0 = λ q lt. rw e (getD-put-before w p xs q (omega arith)) in
+      let r : getD u 2 0 ≡ getD w 2 0 = low 2 (omega arith) in
+      let m : getD u 3 0 ≡ getD w 3 0 = low 3 (omega arith) in
+      let c : getD u 4 0 ≡ getD w 4 0 = low 4 (omega arith) in
+      let k4 : getD u (recordAt k + 4) 0 ≡ getD w (recordAt k + 4) 0 = low (recordAt k + 4) (omega (arith, f .known)) in
+      let n4 : length u ≡ length w = rw e (length-put w p xs) in
+      let up = in-pool h le in
+      let has : Has u (place (base (getD u 2 0)) (v .at)) (enc t) = rw (r, e) (has-front (enc t) (behind S k) (put-has w p xs (omega (arith, f .long, f .first, g .nodes)))) in
+      record {
+        relink = relink-asks xs le e;
+        index = record {
+          known = omega (arith, f .known);
+          sets = omega (arith, f .sets);
+          nodes = omega (arith, f .nodes);
+          tagged = omega (arith, seen-tag h, g .indexed, tag-few (setAt S k .indexed) (indexedOf (take k (S .sets))), indexed-before k (S .sets) (h .known));
+          long = rw (r, m, c, n4) (f .long);
+          one = f .first;
+          within = omega (arith, g .nodes);
+          stands = (t, has, z);
+        };
+      }
 
   pub shift-asks : {n : ℕ} {u : List ℕ} → n ≤ roomOf S k → length u ≡ length w → Shiftable u (base (getD w 2 0)) v n
   shift-asks {n} {u} le e =

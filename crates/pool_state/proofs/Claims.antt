@@ -131,7 +131,7 @@ roomOf-is S k lt = omega (arith, claimedBut-is k (S .sets) lt)
 
 -- The scope document's pool: IPv6, 100 nodes, shares 40 and 30, limits 60 and 80, set 0 empty; set 1 is empty, or has one /59.
 abbrev poolWith : List Bits → State
-poolWith l = record { family = 6; nodes = 100; sets = record { share = 40; limit = 60; public = false; list = [] } ∷ record { share = 30; limit = 80; public = false; list = l } ∷ [] }
+poolWith l = record { family = 6; nodes = 100; sets = record { share = 40; limit = 60; public = false; indexed = false; list = [] } ∷ record { share = 30; limit = 80; public = false; indexed = false; list = l } ∷ [] }
 
 pub room-empty : (isState (poolWith []) ≡ true) × (roomOf (poolWith []) 1 ≡ 60) × (roomOf (poolWith []) 0 ≡ 70)
 unfolding isState claimed claimedBut isList heldL nodesL

@@ -3,10 +3,10 @@
 use mathlib.Core.Path.{_≡_, refl, _∙_}
 use mathlib.Core.Bool.{Bool, true, false, cond, false≢true}
 use mathlib.Core.List.{List, [], _∷_, _++_}
-use Prim.Native.Nat.{ℕ, suc, _+_, _≤_, _<_}
+use Prim.Native.Nat.{ℕ, suc, _+_, _/_, _%_, _≤_, _<_}
 use native.Mathlib.Nat.{zero-add}
 use native.Mathlib.Omega.{arith}
-use lib.Dec.{leb}
+use lib.Dec.{eqb, leb}
 use lib.ListN.{length, getD, take, drop, replicate}
 use borrow.Author.Tests.{le-leb}
 use Rattle.nets.specs.Bits.{digit}
@@ -15,29 +15,29 @@ use Rattle.nets.specs.Networks.{width}
 use Rattle.nets.proofs.Strings.{and-left, and-right}
 use Rattle.nodes.specs.Words.{put, Has}
 use Rattle.pool_state.specs.Kept.{encL}
-use Rattle.pool_state.specs.States.{State, used, claimed, isSet, areSets, isState}
-use Rattle.pool_state.specs.Decode.{recordAt, base, leastWords, rootAt, nodeWords, over, sound, decode}
-use Rattle.pool_state.specs.Rules.{noSet, firstNode, total, Setup, layoutNo, emptySets, emptyState, laid, withinLimits, isSetup}
+use Rattle.pool_state.specs.States.{State, used, claimed, indexedOf, isSet, areSets, isState}
+use Rattle.pool_state.specs.Decode.{recordAt, base, leastOf, rootAt, nodeWords, over, sound, decode}
+use Rattle.pool_state.specs.Rules.{noSet, firstNode, total, Setup, layoutNo, emptySets, emptyState, laid, withinLimits, wordsOf, isSetup}
 use Rattle.nodes.proofs.Put.{length-put}
 use Rattle.nodes.proofs.Has.{has-head, has-at}
 use Rattle.pool_state.proofs.Kept.{StandsL, heldL-nil}
 use Rattle.pool_state.proofs.Claims.{isState-sets, isState-claimed, used-claimed}
-use Rattle.pool_state.proofs.Setups.{Kept, isSetup-kept, length-emptySets}
+use Rattle.pool_state.proofs.Setups.{Kept, isSetup-kept, length-emptySets, indexedOf-emptySets}
 use Rattle.pool_state.proofs.Holds.{HoldsSet, length-nodeWords, nodeWords-at, firstNode-is, holds-at}
-use Rattle.pool_state.proofs.Encoded.{HeaderOf, sound-header, sound-decode, decode-sound, over-sound, sound-over}
+use Rattle.pool_state.proofs.Whole.{HeaderOf, whole-header, whole-decode, decode-whole, over-whole, whole-over}
 
 module _ (w : List ℕ) (S : State) (e : decode w ≡ sound S) where
   pub decode-header : HeaderOf w S
-  decode-header = sound-header (decode-sound w S e)
+  decode-header = whole-header (decode-whole w S e)
 
   -- Each set has one list of the family's width, within its limit; each share is at most its limit; a public-only set keeps clear of the inner networks; the claims add up to at most
   -- the nodes.
   pub decode-state : isState S ≡ true
-  decode-state = decode-sound w S e .state
+  decode-state = decode-whole w S e .plain .state
 
   -- Each node has at most one place: the lists of the sets stand one behind the other.
   pub decode-has : Has w (base (length (S .sets))) (nodeWords (S .sets))
-  decode-has = has-at (omega arith) (decode-sound w S e .holds .nodes)
+  decode-has = has-at (omega arith) (decode-whole w S e .plain .holds .nodes)
 
   -- Every node that is not placed is free: as many are placed as the lists have, no more than are claimed, and no more are claimed than there are.
   pub decode-used : (length (nodeWords (S .sets)) ≡ used (S .sets)) × (used (S .sets) ≤ claimed (S .sets)) × (claimed (S .sets) ≤ S .nodes)
@@ -46,7 +46,7 @@ module _ (w : List ℕ) (S : State) (e : decode w ≡ sound S) where
   -- Set k: its record, its list, and the lists before and behind it.
   module _ (k : ℕ) (lt : k < length (S .sets)) where
     pub decode-set : HoldsSet w (base (length (S .sets))) (S .nodes) (S .family) k (firstNode k 1 (S .sets)) (getD (S .sets) k noSet)
-    decode-set = rw zero-add at (holds-at 0 k (S .sets) (omega arith) lt (decode-sound w S e .holds))
+    decode-set = rw zero-add at (holds-at 0 k (S .sets) (omega arith) lt (decode-whole w S e .plain .holds))
 
     pub decode-root : getD w (recordAt k) 0 ≡ rootAt (firstNode k 1 (S .sets)) (getD (S .sets) k noSet .list)
     decode-root = has-head (decode-set .here)
@@ -69,30 +69,31 @@ module _ (w : List ℕ) (S : State) (e : decode w ≡ sound S) where
 
 -- Encoding and decoding are inverse.
 pub over-decode : (w : List ℕ) (S : State) → decode w ≡ sound S → over w S ≡ w
-over-decode w S e = sound-over (decode-sound w S e)
+over-decode w S e = whole-over (decode-whole w S e)
 
-pub decode-over : (w : List ℕ) (S : State) → isState S ≡ true → leastWords (length (S .sets)) (S .nodes) ≤ length w → decode (over w S) ≡ sound S
-decode-over w S e le = sound-decode (over-sound w S e le)
+pub decode-over : (w : List ℕ) (S : State) → isState S ≡ true → leastOf S ≤ length w → decode (over w S) ≡ sound S
+decode-over w S e le = whole-decode (over-whole w S e le)
 
 pub decode-one : (w : List ℕ) (S T : State) → decode w ≡ sound S → decode w ≡ sound T → S ≡ T
 decode-one w S T e f = cc
 
-pub over-one : (w : List ℕ) (S T : State) → isState S ≡ true → isState T ≡ true → leastWords (length (S .sets)) (S .nodes) ≤ length w → leastWords (length (T .sets)) (T .nodes) ≤ length w
+pub over-one : (w : List ℕ) (S T : State) → isState S ≡ true → isState T ≡ true → leastOf S ≤ length w → leastOf T ≤ length w
     → over w S ≡ over w T → S ≡ T
 over-one w S T e f le lf q = decode-one (over w T) S T (rw q at (decode-over w S e le)) (decode-over w T f lf)
 
 -- A granted layout: every set is empty.
-isSet-empty : (f x y : ℕ) → leb x y ≡ true → isSet f (record { share = x; limit = y; public = false; list = [] }) ≡ true
+isSet-empty : (f x y : ℕ) (c : Bool) → leb x y ≡ true → isSet f (record { share = x; limit = y; public = false; indexed = c; list = [] }) ≡ true
 unfolding isList
-isSet-empty f x y e = rw (e, heldL-nil, le-leb 0 y (omega arith))
+isSet-empty f x y c e = rw (e, heldL-nil, le-leb 0 y (omega arith))
 
-emptySets-is : (v : ℕ) (shares limits : List ℕ) → withinLimits shares limits ≡ true → (areSets v (emptySets shares limits) ≡ true) × (claimed (emptySets shares limits) ≡ total shares)
+emptySets-is : (v : ℕ) (shares limits : List ℕ) (z : ℕ) → withinLimits shares limits ≡ true
+    → (areSets v (emptySets shares limits z) ≡ true) × (claimed (emptySets shares limits z) ≡ total shares)
 unfolding claimed total
-emptySets-is v [] limits e = (refl, refl)
-emptySets-is v (x ∷ shares) [] e = absurd (false≢true e)
-emptySets-is v (x ∷ shares) (y ∷ limits) e =
-    let h = emptySets-is v shares limits (and-right (leb x y) (withinLimits shares limits) e) in
-    (rw (isSet-empty v x y (and-left (leb x y) (withinLimits shares limits) e)) (h .0), omega (arith, h .1, heldL-nil))
+emptySets-is v [] limits z e = (refl, refl)
+emptySets-is v (x ∷ shares) [] z e = absurd (false≢true e)
+emptySets-is v (x ∷ shares) (y ∷ limits) z e =
+    let h = emptySets-is v shares limits (z / 2) (and-right (leb x y) (withinLimits shares limits) e) in
+    (rw (isSet-empty v x y (eqb (z % 2) 1) (and-left (leb x y) (withinLimits shares limits) e)) (h .0), omega (arith, h .1, heldL-nil))
 
 layoutNo-kept : (w : List ℕ) (p : Setup) → layoutNo w p ≡ 0 → Kept (length w) p
 unfolding layoutNo
@@ -107,16 +108,20 @@ module _ (w : List ℕ) (p : Setup) (e : layoutNo w p ≡ 0) where
   kept = layoutNo-kept w p e
 
   pub laid-sets : length (emptyState p .sets) ≡ p .sets
-  laid-sets = length-emptySets (p .shares) (p .limits) (omega (arith, kept .share, kept .limit)) ∙ kept .share
+  laid-sets = length-emptySets (p .shares) (p .limits) (p .indexed) (omega (arith, kept .share, kept .limit)) ∙ kept .share
 
   pub laid-state : isState (emptyState p) ≡ true
   unfolding isState
   laid-state =
-      let x = emptySets-is (p .family) (p .shares) (p .limits) (kept .within) in
+      let x = emptySets-is (p .family) (p .shares) (p .limits) (p .indexed) (kept .within) in
       rw (kept .family, laid-sets, kept .size, x .0, x .1) (le-leb (total (p .shares)) (p .nodes) (kept .total))
+
+  pub laid-least : leastOf (emptyState p) ≡ wordsOf p
+  laid-least =
+      rw (laid-sets, indexedOf-emptySets (p .shares) (p .limits) (p .indexed) (omega (arith, kept .share, kept .limit)), kept .share)
 
   pub decode-laid : decode (laid w p) ≡ sound (emptyState p)
   unfolding laid
   decode-laid =
-      let z : List ℕ = replicate (leastWords (p .sets) (p .nodes)) 0 in
-      decode-over (put w 0 z) (emptyState p) laid-state (rw (laid-sets, length-put w 0 z) (kept .room))
+      let z : List ℕ = replicate (wordsOf p) 0 in
+      decode-over (put w 0 z) (emptyState p) laid-state (rw (laid-least, length-put w 0 z) (kept .room))

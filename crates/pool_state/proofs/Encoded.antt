@@ -1,5 +1,5 @@
--- Words that hold a state (`Sound`): `decode` gives the state exactly there. Written over words that are long enough, a state is held by them; and where it is held,
--- to write it changes nothing. Assumes nothing.
+-- Words that hold the header, the records and the lists of a state (`Sound`): `readPool` gives the state exactly there. Written over words that are long enough they stand there
+-- (`Written`); and where they stand, to write them changes nothing. Assumes nothing.
 use mathlib.Core.Path.{_≡_, refl, _∙_, subst}
 use mathlib.Core.Bool.{Bool, true, false, cond}
 use mathlib.Core.List.{List, [], _∷_}
@@ -10,7 +10,7 @@ use lib.ListN.{length, getD}
 use borrow.Author.Tests.{le-leb}
 use Rattle.nodes.specs.Words.{put, Has}
 use Rattle.pool_state.specs.States.{SetState, State, held, claimed, isState}
-use Rattle.pool_state.specs.Decode.{mark, recordAt, base, leastWords, overRecords, nodeWords, over, damaged, sound, ReadSets, badSets, okSets, isHeader, readSets, judged, decode}
+use Rattle.pool_state.specs.Decode.{mark, recordAt, base, leastWords, overRecords, nodeWords, overSets, damaged, sound, ReadSets, badSets, okSets, isHeader, readSets, judged, readPool}
 use Rattle.nodes.proofs.Put.{length-put}
 use Rattle.nodes.proofs.Has.{has-put, put-has, has-head, has-at, has-same}
 use Rattle.pool_state.proofs.Claims.{isState-family, isState-size, isState-sets, isState-claimed, used-claimed}
@@ -22,36 +22,37 @@ headerOf S = mark ∷ S .family ∷ length (S .sets) ∷ S .nodes ∷ []
 
 pub record Sound (w : List ℕ) (S : State) : Type 0 where
   pub state : isState S ≡ true
-  pub long : leastWords (length (S .sets)) (S .nodes) ≤ length w
+  pub few : getD w 4 0 ≤ length (S .sets)
+  pub long : leastWords (length (S .sets)) (S .nodes) (getD w 4 0) ≤ length w
   pub header : Has w 0 (headerOf S)
   pub holds : Holds w (base (length (S .sets))) (S .nodes) (S .family) 0 1 (S .sets)
 
--- The state that words hold is decoded: their header is that of the state,
-pub record HeaderOf (w : List ℕ) (S : State) : Type 0 where
+-- The state that words hold is read: their header is that of the state,
+pub record Header (w : List ℕ) (S : State) : Type 0 where
   pub known : isHeader w ≡ true
   pub family : getD w 1 0 ≡ S .family
   pub sets : getD w 2 0 ≡ length (S .sets)
   pub nodes : getD w 3 0 ≡ S .nodes
-  pub long : leastWords (length (S .sets)) (S .nodes) ≤ length w
 
 module _ {w : List ℕ} {S : State} (h : Sound w S) where
-  pub sound-header : HeaderOf w S
+  pub sound-header : Header w S
   unfolding isHeader
   sound-header =
       let f : getD w 1 0 ≡ S .family = h .header .at 1 (omega arith) in
       let s : getD w 2 0 ≡ length (S .sets) = h .header .at 2 (omega arith) in
       let n : getD w 3 0 ≡ S .nodes = h .header .at 3 (omega arith) in
-      let l = le-leb (leastWords (length (S .sets)) (S .nodes)) (length w) (h .long) in
-      record { known = rw (has-head (h .header), f, s, n, isState-family S (h .state), isState-size S (h .state)) l; family = f; sets = s; nodes = n; long = h .long }
+      let i = le-leb (getD w 4 0) (length (S .sets)) (h .few) in
+      let l = le-leb (leastWords (length (S .sets)) (S .nodes) (getD w 4 0)) (length w) (h .long) in
+      record { known = rw (has-head (h .header), f, s, n, isState-family S (h .state), isState-size S (h .state), i) l; family = f; sets = s; nodes = n }
 
-  pub sound-decode : decode w ≡ sound S
-  unfolding decode
-  sound-decode =
+  pub sound-reads : readPool w ≡ sound S
+  unfolding readPool
+  sound-reads =
       let g = sound-header in
       let r = readSets-of w (base (length (S .sets))) (S .nodes) (S .family) 0 1 (S .sets) (omega arith) (h .holds) in
       rw (g .known, g .family, g .sets, g .nodes, r, g .family, g .nodes, le-leb (claimed (S .sets)) (S .nodes) (isState-claimed S (h .state)))
 
--- and what is decoded they hold.
+-- and what is read they hold.
 abbrev setsOf : List ℕ → ReadSets
 setsOf w = readSets w (base (getD w 2 0)) (getD w 3 0) (getD w 1 0) (getD w 2 0) 0 1
 
@@ -64,6 +65,7 @@ header-sound {w} p xs r c =
     let h = readSets-holds w (base (getD w 2 0)) (getD w 3 0) (header-room p) (getD w 1 0) (getD w 2 0) 0 1 xs (omega arith) (omega arith) (omega arith) r in
     record {
       state = rw (p .family, h .1, p .size, h .0 .rules, c);
+      few = rw (h .1) (p .indexed);
       long = rw (h .1) (p .long);
       header = rw (h .1) (rw (p .marked) at (has-four w 0 (omega arith)));
       holds = rw (h .1) (h .0);
@@ -72,9 +74,9 @@ header-sound {w} p xs r c =
 never : (S : State) → damaged ≡ sound S → ⊥
 never S e = let z : _≡_ {A = ℕ} 0 1 = cc in omega arith
 
-pub decode-sound : (w : List ℕ) (S : State) → decode w ≡ sound S → Sound w S
-unfolding decode
-decode-sound w S e = go (isHeader w) (setsOf w) refl refl e
+pub reads-sound : (w : List ℕ) (S : State) → readPool w ≡ sound S → Sound w S
+unfolding readPool
+reads-sound w S e = go (isHeader w) (setsOf w) refl refl e
   where
     fit : (xs : List SetState) (c : Bool) → (c ≡ true → Sound w (stateOf w xs)) → cond c (sound (stateOf w xs)) damaged ≡ sound S → Sound w S
     fit xs false k d = absurd (never S d)
@@ -109,15 +111,20 @@ unfolding overRecords
 records-same w s i [] h = refl
 records-same w s i (x ∷ xs) h = rw (has-same (h .0)) (records-same w (s + 1) (i + held x) xs (h .1))
 
--- A state written over words that are long enough is held,
-pub length-over : (w : List ℕ) (S : State) → length (over w S) ≡ length w
-unfolding over
-length-over w S =
+-- A state written over words that are long enough stands there,
+pub length-overSets : (w : List ℕ) (S : State) → length (overSets w S) ≡ length w
+unfolding overSets
+length-overSets w S =
     length-put _ (base (length (S .sets))) (nodeWords (S .sets)) ∙ length-overRecords (put w 0 (headerOf S)) 0 1 (S .sets) ∙ length-put w 0 (headerOf S)
 
-pub over-sound : (w : List ℕ) (S : State) → isState S ≡ true → leastWords (length (S .sets)) (S .nodes) ≤ length w → Sound (over w S) S
-unfolding over
-over-sound w S e le =
+pub record Written (w : List ℕ) (S : State) : Type 0 where
+  pub header : Has w 0 (headerOf S)
+  pub records : Records w 0 1 (S .sets)
+  pub nodes : Has w (base (length (S .sets))) (nodeWords (S .sets))
+
+pub overSets-written : (w : List ℕ) (S : State) → isState S ≡ true → leastWords (length (S .sets)) (S .nodes) 0 ≤ length w → Written (overSets w S) S
+unfolding overSets
+overSets-written w S e le =
     let u = put w 0 (headerOf S) in
     let r = overRecords u 0 1 (S .sets) in
     let b = base (length (S .sets)) in
@@ -126,18 +133,12 @@ over-sound w S e le =
     let few : 1 + length (nodeWords (S .sets)) ≤ suc (S .nodes) =
     omega (arith, length-nodeWords (S .family) (S .sets) (isState-sets S e), used-claimed (S .sets), isState-claimed S e) in
     record {
-      state = e;
-      long = rw (length-over w S) le;
       header = has-put b (nodeWords (S .sets)) (has-overRecords 0 1 (S .sets) (put-has w 0 (headerOf S) (omega arith)) (omega arith)) (λ k p q s t. omega arith);
-      holds = record {
-        rules = isState-sets S e;
-        records = records-put r 0 1 (S .sets) b (nodeWords (S .sets)) (λ k p q s t. omega arith) (overRecords-has u 0 1 (S .sets) (omega arith));
-        nodes = has-at (omega arith) (put-has r b (nodeWords (S .sets)) (omega arith));
-        within = rw (length-nodeWords (S .family) (S .sets) (isState-sets S e)) at few;
-      };
+      records = records-put r 0 1 (S .sets) b (nodeWords (S .sets)) (λ k p q s t. omega arith) (overRecords-has u 0 1 (S .sets) (omega arith));
+      nodes = put-has r b (nodeWords (S .sets)) (omega arith);
     }
 
--- and to write over words the state that they hold changes nothing.
-pub sound-over : {w : List ℕ} {S : State} → Sound w S → over w S ≡ w
-unfolding over
-sound-over {w} {S} h = rw (has-same (h .header), records-same w 0 1 (S .sets) (h .holds .records)) (has-same (has-at (omega arith) (h .holds .nodes)))
+-- and to write over words what stands there changes nothing.
+pub sound-same : {w : List ℕ} {S : State} → Sound w S → overSets w S ≡ w
+unfolding overSets
+sound-same {w} {S} h = rw (has-same (h .header), records-same w 0 1 (S .sets) (h .holds .records)) (has-same (has-at (omega arith) (h .holds .nodes)))

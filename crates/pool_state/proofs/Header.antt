@@ -6,7 +6,7 @@ use Prim.Native.Nat.{ℕ, _≤_, _<_}
 use native.Mathlib.Omega.{arith}
 use lib.Dec.{eqb, leb}
 use lib.ListN.{length, getD}
-use borrow.Author.Tests.{lt-leb, eq-eqb, ne-eqb, leb-true, eqb-true}
+use borrow.Author.Tests.{le-leb, lt-leb, eq-eqb, ne-eqb, leb-true, eqb-true}
 use Rattle.nets.proofs.Strings.{and-left, and-right}
 use Rattle.nodes.specs.Parse.{Room}
 use Rattle.pool_state.specs.States.{isSize}
@@ -18,7 +18,7 @@ use Rattle.pool_state.proofs.Claims.{Sized, isSize-is}
 module _ (w : List ℕ) where
   pub isHeader-short : length w < 64 → false ≡ isHeader w
   unfolding isHeader
-  isHeader-short lt = simp (lt-leb (leastWords (getD w 2 0) (getD w 3 0)) (length w) (omega arith), and-false)
+  isHeader-short lt = simp (lt-leb (leastWords (getD w 2 0) (getD w 3 0) (getD w 4 0)) (length w) (omega arith), and-false)
 
   pub isHeader-mark : (getD w 0 0 ≡ mark → ⊥) → false ≡ isHeader w
   unfolding isHeader
@@ -32,18 +32,23 @@ module _ (w : List ℕ) where
   unfolding isHeader
   isHeader-size e = simp (e, and-false)
 
-  pub isHeader-long : getD w 0 0 ≡ mark → isFamily (getD w 1 0) ≡ true → isSize (getD w 2 0) (getD w 3 0) ≡ true
-      → leb (leastWords (getD w 2 0) (getD w 3 0)) (length w) ≡ isHeader w
+  pub isHeader-indexed : getD w 2 0 < getD w 4 0 → false ≡ isHeader w
   unfolding isHeader
-  isHeader-long m f s = rw (eq-eqb (getD w 0 0) mark m, f, s)
+  isHeader-indexed lt = simp (lt-leb (getD w 4 0) (getD w 2 0) lt, and-false)
 
--- What it says: the mark, a family, few sets and nodes, and words for them all.
+  pub isHeader-long : getD w 0 0 ≡ mark → isFamily (getD w 1 0) ≡ true → isSize (getD w 2 0) (getD w 3 0) ≡ true → getD w 4 0 ≤ getD w 2 0
+      → {n : ℕ} → n ≡ leastWords (getD w 2 0) (getD w 3 0) (getD w 4 0) → leb n (length w) ≡ isHeader w
+  unfolding isHeader
+  isHeader-long m f s i e = rw (e, eq-eqb (getD w 0 0) mark m, f, s, le-leb (getD w 4 0) (getD w 2 0) i)
+
+-- What it says: the mark, a family, few sets and nodes, no more indexed sets than sets, and words for them all.
 pub record IsHeader (w : List ℕ) : Type 0 where
   pub marked : getD w 0 0 ≡ mark
   pub family : isFamily (getD w 1 0) ≡ true
   pub size : isSize (getD w 2 0) (getD w 3 0) ≡ true
   pub sized : Sized (getD w 2 0) (getD w 3 0)
-  pub long : leastWords (getD w 2 0) (getD w 3 0) ≤ length w
+  pub indexed : getD w 4 0 ≤ getD w 2 0
+  pub long : leastWords (getD w 2 0) (getD w 3 0) (getD w 4 0) ≤ length w
 
 pub isHeader-header : (w : List ℕ) → isHeader w ≡ true → IsHeader w
 unfolding isHeader
@@ -51,15 +56,18 @@ isHeader-header w e =
     let a = eqb (getD w 0 0) mark in
     let b = isFamily (getD w 1 0) in
     let c = isSize (getD w 2 0) (getD w 3 0) in
-    let d = leb (leastWords (getD w 2 0) (getD w 3 0)) (length w) in
-    let f = and-left (a && b) (c && d) e in
-    let g = and-right (a && b) (c && d) e in
+    let i = leb (getD w 4 0) (getD w 2 0) in
+    let d = leb (leastWords (getD w 2 0) (getD w 3 0) (getD w 4 0)) (length w) in
+    let f = and-left (a && b) (c && (i && d)) e in
+    let g = and-right (a && b) (c && (i && d)) e in
+    let h = and-right c (i && d) g in
     record {
       marked = eqb-true (getD w 0 0) mark (and-left a b f);
       family = and-right a b f;
-      size = and-left c d g;
-      sized = isSize-is (getD w 2 0) (getD w 3 0) (and-left c d g);
-      long = leb-true (leastWords (getD w 2 0) (getD w 3 0)) (length w) (and-right c d g);
+      size = and-left c (i && d) g;
+      sized = isSize-is (getD w 2 0) (getD w 3 0) (and-left c (i && d) g);
+      indexed = leb-true (getD w 4 0) (getD w 2 0) (and-left i d h);
+      long = leb-true (leastWords (getD w 2 0) (getD w 3 0) (getD w 4 0)) (length w) (and-right i d h);
     }
 
 pub header-room : {w : List ℕ} → IsHeader w → Room w (base (getD w 2 0)) (getD w 3 0)

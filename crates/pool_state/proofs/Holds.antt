@@ -1,7 +1,7 @@
 -- Sets in words: `readSets` gives sets exactly where the words hold them (`Holds`), the records each at its place and the lists one behind the other.
 -- Assumes nothing.
 use mathlib.Core.Path.{_≡_, refl, sym, ap, _∙_, subst}
-use mathlib.Core.Bool.{Bool, true, false, cond}
+use mathlib.Core.Bool.{Bool, true, false, not, cond}
 use mathlib.Core.List.{List, [], _∷_, _++_, append-assoc}
 use Prim.Native.Nat.{ℕ, zero, suc, _+_, _*_, _≤_, _<_}
 use native.Mathlib.Omega.{arith}
@@ -47,14 +47,24 @@ records-put w s i (x ∷ xs) q ys far h = (
   records-put w (s + 1) (i + held x) xs q ys (λ k a b c d. far k (omega arith) (omega arith) c d) (h .1),
 )
 
+-- the tags say which sets are indexed
+abbrev pub Tagged : List ℕ → ℕ → SetState → Type 0
+Tagged w s x = not (eqb (getD w (recordAt s + 4) 0) 0) ≡ x .indexed
+
+abbrev pub AllTagged : List ℕ → ℕ → List SetState → Type 0
+AllTagged w s [] = Unit
+AllTagged w s (x ∷ xs) = Tagged w s x × AllTagged w (s + 1) xs
+
 pub record HoldsSet (w : List ℕ) (b n v s i : ℕ) (x : SetState) : Type 0 where
   pub rules : isSet v x ≡ true
   pub here : Has w (recordAt s) (recordOf i x)
+  pub tag : Tagged w s x
   pub list : StandsL w b n (width v) i (x .list)
 
 pub record Holds (w : List ℕ) (b n v s i : ℕ) (xs : List SetState) : Type 0 where
   pub rules : areSets v xs ≡ true
   pub records : Records w s i xs
+  pub tags : AllTagged w s xs
   pub nodes : Has w (place b i) (nodeWords xs)
   pub within : i + used xs ≤ suc n
 
@@ -64,6 +74,7 @@ module _ {w : List ℕ} {b n v s i : ℕ} {x : SetState} {xs : List SetState} (p
   holds-cons h g = record {
     rules = rw (h .rules) (g .rules);
     records = (h .here, g .records);
+    tags = (h .tag, g .tags);
     nodes = has-join (encL (x .list)) (nodeWords xs) (h .list .has) (has-at (omega (arith, set-words v x (h .rules))) (g .nodes));
     within = omega (arith, g .within);
   }
@@ -75,6 +86,7 @@ module _ {w : List ℕ} {b n v s i : ℕ} {x : SetState} {xs : List SetState} (p
       record {
         rules = e;
         here = h .records .0;
+        tag = h .tags .0;
         list = record { list = isSet-list v x e; within = omega (arith, h .within); has = has-front (encL (x .list)) (nodeWords xs) (h .nodes) };
       }
 
@@ -85,6 +97,7 @@ module _ {w : List ℕ} {b n v s i : ℕ} {x : SetState} {xs : List SetState} (p
       record {
         rules = areSets-tail v x xs (h .rules);
         records = h .records .1;
+        tags = h .tags .1;
         nodes = has-at (omega arith) (has-back (encL (x .list)) (nodeWords xs) (h .nodes));
         within = omega (arith, h .within);
       }
@@ -122,7 +135,7 @@ module _ {w : List ℕ} {b n v s i : ℕ} {x : SetState} (pos : 1 ≤ i) (h : Ho
   readSet-of = readSet-root w b n (width v) s i (x .list) pos (has-head (h .here)) (h .list)
 
   setOf-of : setOf w s (x .list) ≡ x
-  setOf-of = rw (h .here .at 1 (omega arith), h .here .at 2 (omega arith), h .here .at 3 (omega arith), digit-is (x .public))
+  setOf-of = rw (h .here .at 1 (omega arith), h .here .at 2 (omega arith), h .here .at 3 (omega arith), digit-is (x .public), h .tag)
 
   isRight-of : isRight w v s (x .list) ≡ true
   isRight-of =
@@ -188,6 +201,7 @@ module _ (w : List ℕ) (b n : ℕ) (room : Room w b n) where
         record {
           rules = rw (h .1 .list) (and-right (leb (getD w (recordAt s + 3) 0) 1) (keepsRules v (setOf w s l)) r);
           here = rw (h .0, digit-of (getD w (recordAt s + 3) 0) z) at (has-four w (recordAt s) (omega arith));
+          tag = refl;
           list = h .1;
         }
 
@@ -208,7 +222,7 @@ module _ (w : List ℕ) (b n : ℕ) (room : Room w b n) where
   readSets-holds v zero s i xs pos le fits e =
       let a : [] ≡ xs = cc in
       let empty : Has w (place b i) [] = record { fits = omega (arith, room .long); at = λ k l. absurd (omega arith) } in
-      subst (λ ys. Holds w b n v s i ys × (length ys ≡ 0)) a (record { rules = refl; records = tt; nodes = empty; within = omega arith }, refl)
+      subst (λ ys. Holds w b n v s i ys × (length ys ≡ 0)) a (record { rules = refl; records = tt; tags = tt; nodes = empty; within = omega arith }, refl)
   readSets-holds v (suc m) s i xs pos le fits e =
       let p = readSets-first v m s i pos le fits xs e in
       let h = p .2 in

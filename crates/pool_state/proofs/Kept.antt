@@ -25,7 +25,7 @@ unfolding listOf levels
 list-none = refl
 
 module _ (d : ℕ) (l : List Bits) (e : isList d l ≡ true) where
-  trie-some : (l ≡ [] → ⊥) → trieOf l ≡ none → ⊥
+  pub trie-some : (l ≡ [] → ⊥) → trieOf l ≡ none → ⊥
   trie-some ne z = ne (sym (listOf-trieOf d l e) ∙ ap listOf z ∙ list-none)
 
   pub size-trieOf : size (trieOf l) ≡ heldL l

@@ -18,12 +18,12 @@ use Rattle.nets.proofs.Refused.{firstNo-zero, firstNo-both}
 use Rattle.nets.proofs.Numbers.{refusalOf-is, length-netBits}
 use Rattle.pool_state.specs.Kept.{heldL}
 use Rattle.pool_state.specs.States.{SetState, State, held, admits, isState}
-use Rattle.pool_state.specs.Decode.{leastWords, sound, decode}
+use Rattle.pool_state.specs.Decode.{leastOf, sound, decode}
 use Rattle.pool_state.specs.Rules.{leftOn}
 use Rattle.pool_state.specs.Changes.{setAt, listAt, withSet, changeNo, changeRule, wordsAfter, Changed, setWith, grantRules, relistRules, relistSet, Relisted, relistNo, netRules}
 use Rattle.pool_state.proofs.Answered.{owes-granted}
 use Rattle.pool_state.proofs.Claims.{share-limit, held-limit}
-use Rattle.pool_state.proofs.WithSet.{SamePlan, Fits, withSet-length, withSet-at, withSet-other, withSet-plan, share-roomOf, isState-withSet}
+use Rattle.pool_state.proofs.WithSet.{SamePlan, Fits, withSet-least, withSet-at, withSet-other, withSet-plan, share-roomOf, isState-withSet}
 use Rattle.pool_state.proofs.Decoded.{decode-state}
 use Rattle.pool_state.proofs.Judged.{changeNo-zero, relistNo-known, grant-fits}
 use Rattle.pool_state.proofs.Changed.{decode-withSet}
@@ -55,9 +55,9 @@ module _ (S : State) (k : ℕ) (rs : List Rule) (x : SetState) where
       go lt (yes q) = rw q (ap (λ (s : SetState). s .list) (withSet-at S k x lt) ∙ e)
       go lt (no n) = ap (λ (s : SetState). s .list) (withSet-other S k x j n)
 
--- where the rules are passed, x is what may stand there
+-- where the rules are passed, x is what may stand there, and is indexed where the set is
 abbrev pub Keeps : State → ℕ → List Rule → SetState → Type 0
-Keeps S k rs x = k < length (S .sets) → firstNo rs ≡ 0 → (isList (width (S .family)) (x .list) ≡ true) × Fits S k x
+Keeps S k rs x = k < length (S .sets) → firstNo rs ≡ 0 → (isList (width (S .family)) (x .list) ≡ true) × Fits S k x × (x .indexed ≡ setAt S k .indexed)
 
 -- The call leaves sound words, of that state: with x where it is granted; the other sets as they were; no list above its limit; no word past the smallest buffer touched.
 pub record Leaves (w : List ℕ) (S : State) (k : ℕ) (rs : List Rule) (x : SetState) (v : List ℕ) : Type 0 where
@@ -65,7 +65,7 @@ pub record Leaves (w : List ℕ) (S : State) (k : ℕ) (rs : List Rule) (x : Set
   pub own : changeNo S k rs ≡ 0 → setAt (after S k rs x) k ≡ x
   pub others : (j : ℕ) → (j ≡ k → ⊥) → setAt (after S k rs x) j ≡ setAt S j
   pub within : (j : ℕ) → held (setAt (after S k rs x) j) ≤ setAt (after S k rs x) j .limit
-  pub past : Past (leastWords (length (S .sets)) (S .nodes)) w v
+  pub past : Past (leastOf S) w v
 
 module _ {w v : List ℕ} {S : State} {k : ℕ} {rs : State → List Rule} {f : State → SetState} {r : ℕ × ℕ} (d : decode w ≡ sound S) (i : Keeps S k (rs S) (f S)) (c : Changed w k rs f r v) where
   abbrev then : State
@@ -75,18 +75,18 @@ module _ {w v : List ℕ} {S : State} {k : ℕ} {rs : State → List Rule} {f : 
   unfolding wordsAfter leftOn
   after-holds =
       after-cases S k (rs S) (f S) (λ T. decode v ≡ sound T)
-      (λ z. let (lt, y) = changeNo-zero S k (rs S) z in let (l, g) = i lt y in rw (c .words, d, z) (decode-withSet w S k (f S) d lt l g))
+      (λ z. let (lt, y) = changeNo-zero S k (rs S) z in let (l, g, m) = i lt y in rw (c .words, d, z) (decode-withSet w S k (f S) d lt l g m))
       (λ q. rw (c .words, d, q) d)
 
-  after-past : Past (leastWords (length (S .sets)) (S .nodes)) w v
-  unfolding wordsAfter leftOn withSet
+  after-past : Past (leastOf S) w v
+  unfolding wordsAfter leftOn
   after-past =
-      after-cases S k (rs S) (f S) (λ T. Past (leastWords (length (S .sets)) (S .nodes)) w v)
+      after-cases S k (rs S) (f S) (λ T. Past (leastOf S) w v)
       (λ z.
       let (lt, y) = changeNo-zero S k (rs S) z in
-      let (l, g) = i lt y in
+      let (l, g, m) = i lt y in
       let o = over-past w (withSet S k (f S)) (isState-withSet S k (decode-state w S d) lt (f S) l g) in
-      rw (c .words, d, z) (rw (withSet-length S k (f S)) at o))
+      rw (c .words, d, z) (rw (withSet-least S k (f S) m) at o))
       (λ q. rw (c .words, d, q) (past-refl _ w))
 
   pub changed-leaves : Leaves w S k (rs S) (f S) v
@@ -113,10 +113,10 @@ module _ (S : State) (k : ℕ) (a : List Rule) (l : List Bits) where
   pub after-plan : (j : ℕ) → SamePlan (setAt (relistAfter S k a l) j) (setAt S j)
   after-plan j =
       after-cases S k (a ++ grantRules S k l) (setWith (setAt S k) l) (λ (T : State). SamePlan (setAt T j) (setAt S j))
-      (λ q. withSet-plan S k l j) (λ q. (refl, refl, refl))
+      (λ q. withSet-plan S k l j) (λ q. (refl, refl, refl, refl))
 
   pub relist-keeps : isState S ≡ true → (firstNo a ≡ 0 → isList (width (S .family)) l ≡ true) → Keeps S k (a ++ grantRules S k l) (setWith (setAt S k) l)
-  relist-keeps e i lt z = let (x, y) = firstNo-both a (grantRules S k l) z in (i x, grant-fits S k l e lt y)
+  relist-keeps e i lt z = let (x, y) = firstNo-both a (grantRules S k l) z in (i x, grant-fits S k l e lt y, refl)
 
 module _ (a : State → List Rule) (f : State → List Bits) {w v : List ℕ} {S : State} {k : ℕ} {r : ℕ × ℕ} (d : decode w ≡ sound S)
     (i : firstNo (a S) ≡ 0 → isList (width (S .family)) (f S) ≡ true) (c : Relisted w k a f r v) where

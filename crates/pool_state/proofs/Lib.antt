@@ -12,6 +12,8 @@ pub mod Setups
 -- Words that hold a state: it is decoded there and nowhere else.
 pub mod Holds
 pub mod Encoded
+pub mod Indexed
+pub mod Whole
 pub mod Decoded
 -- What a pass over a pool has seen of one set, where it is seated, and of another set beside it.
 pub mod Seen
@@ -21,6 +23,7 @@ pub mod Beside
 pub mod Judged
 pub mod Relinked
 pub mod Changed
+pub mod Reindexed
 pub mod Restated
 pub mod Planned
 pub mod Returns

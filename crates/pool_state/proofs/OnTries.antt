@@ -23,7 +23,7 @@ use Rattle.pool_state.specs.States.{SetState, State, held, roomOf, admit
 use Rattle.pool_state.specs.Decode.{recordAt, base, rootAt, sound, decode}
 use Rattle.pool_state.specs.Rules.{noSet, firstNode, verdictAs}
 use Rattle.pool_state.specs.Changes.{setAt, listAt, grantRules, relistRules, relistSet, Relisted}
-use Rattle.pool_state.specs.Steps.{Judges, behindAt, relinked, Relink}
+use Rattle.pool_state.specs.Steps.{Judges, behindAt, Settle, Settled}
 use Rattle.pool_state.specs.declared.Survey.{Survey}
 use Rattle.pool_state.specs.declared.Verdict.{Verdict}
 use Rattle.pool_state.specs.declared.Verdict.the-variants as verdict
@@ -34,7 +34,7 @@ use Rattle.pool_state.proofs.Decoded.{decode-set, decode-list}
 use Rattle.pool_state.proofs.Seen.{Seen, placeOf, behind, seen-header, seen-figures, own-has, own-length, behind-has, behind-length}
 use Rattle.pool_state.proofs.Beside.{its, beside-root}
 use Rattle.pool_state.proofs.Judged.{grant-within}
-use Rattle.pool_state.proofs.Changed.{withWords, words-first, words-last, relink-asks}
+use Rattle.pool_state.proofs.Changed.{withWords, words-first, words-last, settle-asks}
 use Rattle.pool_state.proofs.Returns.{Owes, changed, change-judged, relist-granted}
 
 -- The trie of a set: it lists the set's networks, and has its nodes.
@@ -100,9 +100,9 @@ module _ {w : List ℕ} {S : State} {k : ℕ} {v : Survey} (h : Seen w S k v) (t
 module _ (a : State → List Rule) (f : State → List Bits) {w : List ℕ} {S : State} {k : ℕ} {v : Survey} (h : Seen w S k v) {x : ℕ} (z : firstNo (a S) ≡ 0)
     (j : x ≡ firstNo (grantRules S k (f S))) where
   pub change-granted : {n : ℕ} {u y : List ℕ} (t : Trie) → x ≡ 0 → listOf t ≡ f S → size t ≡ n
-      → u ≡ withTrie w S k v t → y ≡ relinked u k (v .at) (v .held) n → Owes w k (relistRules k a f) (relistSet k f) (0, n) y
+      → u ≡ withTrie w S k v t → Settled u k (v .at) (v .held) n y → Owes w k (relistRules k a f) (relistSet k f) (0, n) y
   change-granted {n} t q l e p g =
-      relist-granted a f h z j q (ap heldL (sym l) ∙ heldL-listOf t ∙ e) (p ∙ ap (withWords w S k v) (sym (encL-listOf t) ∙ ap encL l)) g
+      relist-granted a f h z j q (ap heldL (sym l) ∙ heldL-listOf t ∙ e) (ap (λ m. length (encL m)) (sym l) ∙ ap length (encL-listOf t) ∙ length-enc t ∙ e) (p ∙ ap (withWords w S k v) (sym (encL-listOf t) ∙ ap encL l)) g
 
 -- A call whose arguments are right, and whose result is the trie t, counted: it has m nodes; c says whether the set may have it as far as its mark goes
 pub record Result (w : List ℕ) (S : State) (k : ℕ) (v : Survey) (a : State → List Rule) (f : State → List Bits) (t : Trie) (c : Bool) (m : ℕ) : Type 0 where
@@ -132,8 +132,8 @@ module _ {w : List ℕ} {S : State} {k : ℕ} {v : Survey} {a : State → List R
     result-fits = let g = grant-within S k (f S) (sym fits) .1 in omega (arith, nodes)
 
     module _ {u : List ℕ} (e : u ≡ withTrie w S k v t) where
-      pub result-relinks : Relink u k (v .held) m
-      result-relinks = relink-asks (h .seen) (enc t ++ behind S k) result-fits e
+      pub result-settles : Settle u k (v .at) (v .held) m
+      result-settles = settle-asks (h .seen) t (h .size) result-fits e
 
-      pub result-granted : {x : ℕ × ℕ} {y : List ℕ} → x ≡ (0, m) → y ≡ relinked u k (v .at) (v .held) m → Relisted w k a f x y
+      pub result-granted : {x : ℕ × ℕ} {y : List ℕ} → x ≡ (0, m) → Settled u k (v .at) (v .held) m y → Relisted w k a f x y
       result-granted q p = changed (rw q (change-granted a f (h .seen) (h .right) fits t refl (h .list) (h .size) e p))

@@ -17,7 +17,7 @@ use Rattle.pool_state.specs.Decode.{recordAt, base, rootAt, overRecords}
 use Rattle.pool_state.specs.Rules.{noSet, firstNode}
 use Rattle.pool_state.specs.Changes.{setsWith, setWith}
 use Rattle.pool_state.specs.Steps.{ownRoot, movedRoot, movedRoots, relinked, Movable, Relink}
-use Rattle.nodes.proofs.Put.{set-put, put-behind-at, put-swap, getD-put-before}
+use Rattle.nodes.proofs.Put.{length-put, set-put, put-behind-at, put-swap, getD-put-before, getD-put-out}
 use Rattle.nodes.proofs.Has.{has-put, has-head, has-tail, has-same}
 use Rattle.pool_state.proofs.Kept.{heldL-nil, heldL-none}
 use Rattle.pool_state.proofs.Holds.{Records, records-put, cons-some}
@@ -128,6 +128,34 @@ relinked-put w k i old new q ys lt le =
     ap (λ n. movedRoots (put (put w q ys) (recordAt k) (ownRoot i new ∷ [])) old new (n - suc k) (k + 1)) (getD-put-before w q ys 2 (omega arith))
     ∙ ap (λ u. movedRoots u old new (getD w 2 0 - suc k) (k + 1)) (sym (put-swap w (recordAt k) q (ownRoot i new ∷ []) ys (omega arith)))
     ∙ movedRoots-put (getD w 2 0 - suc k) (put w (recordAt k) (ownRoot i new ∷ [])) old new (k + 1) q ys (omega arith)
+
+-- Every other word stays.
+getD-movedRoots : (m : ℕ) (w : List ℕ) (old new s p : ℕ) → ((t : ℕ) → s ≤ t → t < s + m → p ≡ recordAt t → ⊥) → getD (movedRoots w old new m s) p 0 ≡ getD w p 0
+unfolding movedRoots
+getD-movedRoots zero w old new s p f = refl
+getD-movedRoots (suc m) w old new s p f =
+    let xs = movedRoot old new (getD w (recordAt s) 0) ∷ [] in
+    getD-movedRoots m (put w (recordAt s) xs) old new (s + 1) p (λ t a b. f t (omega arith) (omega arith))
+    ∙ getD-put-out w (recordAt s) xs p (λ a b. f s (omega arith) (omega arith) (omega arith))
+
+length-movedRoots : (m : ℕ) (w : List ℕ) (old new s : ℕ) → length (movedRoots w old new m s) ≡ length w
+unfolding movedRoots
+length-movedRoots zero w old new s = refl
+length-movedRoots (suc m) w old new s =
+    let xs = movedRoot old new (getD w (recordAt s) 0) ∷ [] in
+    length-movedRoots m (put w (recordAt s) xs) old new (s + 1) ∙ length-put w (recordAt s) xs
+
+module _ (w : List ℕ) (k i old new : ℕ) where
+  pub length-relinked : length (relinked w k i old new) ≡ length w
+  unfolding relinked
+  length-relinked =
+      length-movedRoots (getD w 2 0 - suc k) (put w (recordAt k) (ownRoot i new ∷ [])) old new (k + 1) ∙ length-put w (recordAt k) (ownRoot i new ∷ [])
+
+  pub getD-relinked : k < getD w 2 0 → (p : ℕ) → ((t : ℕ) → t < getD w 2 0 → p ≡ recordAt t → ⊥) → getD (relinked w k i old new) p 0 ≡ getD w p 0
+  unfolding relinked
+  getD-relinked lt p f =
+      getD-movedRoots (getD w 2 0 - suc k) (put w (recordAt k) (ownRoot i new ∷ [])) old new (k + 1) p (λ t a b. f t (omega arith))
+      ∙ getD-put-out w (recordAt k) (ownRoot i new ∷ []) p (λ a b. f k lt (omega arith))
 
 -- The records of the state afterwards.
 pub overRecords-relinked : (w : List ℕ) (k : ℕ) (l : List Bits) (ss : List SetState) → getD w 2 0 ≡ length ss → k < length ss → Records w 0 1 ss

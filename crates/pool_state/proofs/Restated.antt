@@ -1,20 +1,23 @@
 -- A set restated: another share, limit or mark, and the same list. That is a write over its record, and no other word. Assumes nothing.
 use mathlib.Core.Path.{_≡_, refl, sym, ap, _∙_}
+use mathlib.Core.Bool.{cond}
 use mathlib.Core.List.{List, [], _∷_, _++_}
-use Prim.Native.Nat.{ℕ, zero, suc, _+_, _<_}
+use Prim.Native.Nat.{ℕ, zero, suc, _+_, _*_, _<_}
 use native.Mathlib.Nat.{zero-add}
 use native.Mathlib.Omega.{arith}
-use lib.ListN.{length, getD}
+use lib.ListN.{length, getD, take}
 use Rattle.nodes.specs.Words.{put, Has}
-use Rattle.pool_state.specs.Kept.{heldL, encL}
-use Rattle.nodes.proofs.Put.{put-behind-at}
+use Rattle.pool_state.specs.Kept.{heldL, encL, indexL}
+use Rattle.nodes.proofs.Put.{length-put, put-behind-at, getD-put-before, getD-put-behind, getD-put-out}
 use Rattle.nodes.proofs.Has.{has-put, has-front, has-back, has-at, has-same}
-use Rattle.pool_state.specs.States.{SetState, State, held}
-use Rattle.pool_state.specs.Decode.{recordAt, nodeWords, overRecords, over, sound, decode}
+use Rattle.pool_state.specs.States.{SetState, State, held, indexedOf}
+use Rattle.pool_state.specs.Decode.{recordAt, leastWords, nodeWords, overRecords, overSets, indexWords, overIndexes, indexesAt, over, sound, decode}
 use Rattle.pool_state.specs.Rules.{noSet, firstNode}
 use Rattle.pool_state.specs.Changes.{setAt, setsWith, withSet, planned, marked}
 use Rattle.pool_state.proofs.Holds.{recordOf, Records, records-put}
-use Rattle.pool_state.proofs.Encoded.{decode-sound, records-same}
+use Rattle.pool_state.proofs.Encoded.{records-same}
+use Rattle.pool_state.proofs.Indexed.{indexes-keep, indexes-at, overIndexes-with}
+use Rattle.pool_state.proofs.Whole.{decode-whole}
 use Rattle.pool_state.proofs.Decoded.{decode-set}
 use Rattle.pool_state.proofs.WithSet.{length-setsWith}
 
@@ -52,18 +55,38 @@ nodeWords-restated zero x (s ∷ ss) e = ap (λ l. encL l ++ nodeWords ss) e
 nodeWords-restated (suc k) x (s ∷ ss) e = rw (nodeWords-restated k x ss e)
 
 module _ (w : List ℕ) (S : State) (k : ℕ) (d : decode w ≡ sound S) (lt : k < length (S .sets)) where
-  over-restated : (x : SetState) → x .list ≡ setAt S k .list → over w (withSet S k x) ≡ put w (recordAt k) (recordOf (firstNode k 1 (S .sets)) x)
-  unfolding over withSet
-  over-restated x e =
-      let h = decode-sound w S d in
+  overSets-restated : (x : SetState) → x .list ≡ setAt S k .list → overSets w (withSet S k x) ≡ put w (recordAt k) (recordOf (firstNode k 1 (S .sets)) x)
+  unfolding overSets withSet
+  overSets-restated x e =
+      let h = decode-whole w S d .plain in
       let xs = recordOf (firstNode k 1 (S .sets)) x in
       let r : overRecords w 0 1 (setsWith k x (S .sets)) ≡ put w (recordAt k) xs = rw (zero-add k) at (overRecords-restated k x w 0 1 (S .sets) lt e (h .holds .records)) in
       rw (length-setsWith k x (S .sets), has-same (h .header), r, nodeWords-restated k x (S .sets) e)
       (has-same (has-put (recordAt k) xs (has-at (omega arith) (h .holds .nodes)) (λ j a b c f. omega arith)))
 
+  over-restated : (x : SetState) → x .list ≡ setAt S k .list → x .indexed ≡ setAt S k .indexed → over w (withSet S k x) ≡ put w (recordAt k) (recordOf (firstNode k 1 (S .sets)) x)
+  unfolding over withSet
+  over-restated x e f =
+      let xs = recordOf (firstNode k 1 (S .sets)) x in
+      let u = put w (recordAt k) xs in
+      let m = indexesAt S in
+      let n = indexedOf (take k (S .sets)) in
+      let i = decode-whole w S d .indexes in
+      let same : indexWords x ≡ indexWords (setAt S k) = ap (λ c. cond c (indexL (x .list)) []) f ∙ ap (λ l. cond (setAt S k .indexed) (indexL l) []) e in
+      let g = indexes-keep u w m 0 0 (S .sets) (length-put w (recordAt k) xs)
+      (getD-put-before w (recordAt k) xs 4 (omega arith))
+      (λ t a b. getD-put-out w (recordAt k) xs (recordAt t + 4) (λ p q. omega arith))
+      (λ p a. getD-put-behind w (recordAt k) xs p (omega arith))
+      i in
+      ap (λ z. overIndexes (overSets w (withSet S k x)) (leastWords z (S .nodes) 0) 0 0 (setsWith k x (S .sets))) (length-setsWith k x (S .sets))
+      ∙ ap (λ z. overIndexes z m 0 0 (setsWith k x (S .sets))) (overSets-restated x e)
+      ∙ overIndexes-with k x u m 0 0 (S .sets) (omega arith) lt f g
+      ∙ ap (put u (m + 256 * (0 + n))) same
+      ∙ has-same (indexes-at u m k 0 0 (S .sets) lt g)
+
   -- another share and limit are two words, and a mark is one
   pub over-planned : (x y : ℕ) → over w (withSet S k (planned (setAt S k) x y)) ≡ put w (recordAt k + 1) (x ∷ y ∷ [])
-  over-planned x y = over-restated (planned (setAt S k) x y) refl ∙ put-plan x y (decode-set w S d k lt .here)
+  over-planned x y = over-restated (planned (setAt S k) x y) refl refl ∙ put-plan x y (decode-set w S d k lt .here)
 
   pub over-marked : over w (withSet S k (marked (setAt S k))) ≡ put w (recordAt k + 3) (1 ∷ [])
-  over-marked = over-restated (marked (setAt S k)) refl ∙ put-last 1 (decode-set w S d k lt .here)
+  over-marked = over-restated (marked (setAt S k)) refl refl ∙ put-last 1 (decode-set w S d k lt .here)

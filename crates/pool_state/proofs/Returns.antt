@@ -6,21 +6,22 @@ use mathlib.Core.Logic.{_⊎_, inl, inr}
 use Prim.Native.Nat.{ℕ, _≤_}
 use native.Mathlib.Omega.{arith}
 use lib.Dec.{eqb}
+use lib.ListN.{length}
 use borrow.Author.Tests.{eq-eqb, ne-eqb}
 use Rattle.nets.specs.Bits.{Bits}
 use Rattle.nets.specs.Networks.{isFamily, inRange, refusalOf}
 use Rattle.nets.specs.Refusals.{Rule, firstNo}
 use Rattle.nets.specs.declared.Net.{Net}
 use Rattle.pool_state.specs.Kept.{heldL, encL}
-use Rattle.pool_state.specs.States.{SetState, State}
+use Rattle.pool_state.specs.States.{SetState, State, roomOf}
 use Rattle.pool_state.specs.Decode.{over, sound, decode}
 use Rattle.pool_state.specs.Changes.{setAt, withSet, changeRules, changeNo, changeRule, wordsAfter, Changed, setWith, grantRules, relistRules, relistSet, Relisted, relistNo, netRules, isEmpty}
-use Rattle.pool_state.specs.Steps.{Refuses, relinked}
+use Rattle.pool_state.specs.Steps.{Refuses, Settled}
 use Rattle.pool_state.specs.declared.Survey.{Survey}
 use Rattle.pool_state.proofs.Answered.{owes-refused, owes-granted, owes-seat}
 use Rattle.pool_state.proofs.Seen.{Seen}
-use Rattle.pool_state.proofs.Judged.{relistNo-known}
-use Rattle.pool_state.proofs.Changed.{withWords, over-change}
+use Rattle.pool_state.proofs.Judged.{relistNo-known, grant-within}
+use Rattle.pool_state.proofs.Changed.{withWords, written-has, over-change}
 
 -- The number that a network gets in a pool of its family, and in another. In a pool's family a network is refused as 7 or not at all.
 pub refusalOf-known : (n : Net) → isFamily (n .family) ≡ true → (refusalOf n ≡ 0) ⊎ (refusalOf n ≡ 7)
@@ -88,8 +89,9 @@ module _ (a : State → List Rule) (f : State → List Bits) where
       pub change-judged : (x ≡ 0 → ⊥) → OwesRelist w k (x, 0) w
       change-judged ne = no judged ne
 
-      pub relist-granted : {n : ℕ} {u y : List ℕ} → x ≡ 0 → heldL (f S) ≡ n → u ≡ withWords w S k v (encL (f S)) → y ≡ relinked u k (v .at) (v .held) n → OwesRelist w k (0, n) y
+      pub relist-granted : {n : ℕ} {u y : List ℕ} → x ≡ 0 → heldL (f S) ≡ n → length (encL (f S)) ≡ n → u ≡ withWords w S k v (encL (f S)) → Settled u k (v .at) (v .held) n y → OwesRelist w k (0, n) y
       unfolding changeRule wordsAfter relistRules relistSet
-      relist-granted {n} {u} {y} q i p g =
-          let o : y ≡ over w (withSet S k (setWith (setAt S k) (f S))) = g ∙ (rw i at (over-change h (f S) p)) in
+      relist-granted {n} {u} {y} q i b p g =
+          let le : length (encL (f S)) ≤ roomOf S k = omega (arith, grant-within S k (f S) (sym j ∙ q) .1) in
+          let o : y ≡ over w (withSet S k (setWith (setAt S k) (f S))) = g .words (f S) (written-has h (f S) p le) b ∙ (rw i at (over-change h (f S) p le)) in
           rw (o, ← i) (owes-granted _ 0 _ w _ (h .decoded) (judged ∙ q))

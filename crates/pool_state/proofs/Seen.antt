@@ -20,7 +20,7 @@ use Rattle.nodes.proofs.Has.{has-front, has-back, has-at, has-seg}
 use Rattle.pool_state.proofs.Kept.{length-encL, heldL-nil, heldL-none}
 use Rattle.pool_state.proofs.Claims.{isState-claimed, used-claimed, claimedBut-is}
 use Rattle.pool_state.proofs.Header.{IsHeader, isHeader-header}
-use Rattle.pool_state.proofs.Encoded.{HeaderOf}
+use Rattle.pool_state.proofs.Whole.{HeaderOf}
 use Rattle.pool_state.proofs.Decoded.{decode-header, decode-state, decode-has, decode-used, decode-share, decode-list, decode-parts}
 
 -- the words hold the state S, which has a set k, and v is what a pass over them finds out
@@ -88,7 +88,7 @@ pub record Figures (w : List ℕ) (k : ℕ) (v : Survey) : Type 0 where
   pub known : k < getD w 2 0
   pub sets : getD w 2 0 ≤ 64
   pub nodes : getD w 3 0 ≤ 4194304
-  pub long : leastWords (getD w 2 0) (getD w 3 0) ≤ length w
+  pub long : leastWords (getD w 2 0) (getD w 3 0) (getD w 4 0) ≤ length w
   pub first : 1 ≤ v .at
   pub last : v .at + v .held ≤ v .used + 1
   pub used : v .used ≤ v .claimed

@@ -1,23 +1,29 @@
 -- Layout: a turn of each of its loops, whose invariant says that what is still to come completes the whole; the rules of a setup, taken apart; the words that it leaves.
 -- Assumes nothing.
-use mathlib.Core.Bool.{true, false, _&&_, and-false}
+use mathlib.Core.Bool.{true, false, cond, _&&_, and-false}
 use mathlib.Core.List.{List, [], _∷_}
 use mathlib.Core.Path.{_≡_, refl, sym, ap, _∙_}
-use Prim.Native.Nat.{ℕ, suc, _+_, _-_, _≤_, _<_}
+use Prim.Native.Nat.{ℕ, zero, suc, _+_, _-_, _*_, _/_, _%_, _≤_, _<_}
+use native.Mathlib.Nat.{zero-add}
 use native.Mathlib.Numerals.{add-one}
 use native.Mathlib.Omega.{arith}
 use lib.Dec.{eqb, leb}
 use lib.ListN.{length, getD, set, drop, replicate, length-set, drop-of-length-le}
 use lib.Seq.{drop-cons}
 use borrow.Author.Tests.{le-leb, lt-leb, eq-eqb, ne-eqb, leb-true, eqb-true}
+use Rattle.nets.specs.Bits.{digit}
 use Rattle.nets.proofs.Strings.{and-left, and-right, bool-iff}
+use Rattle.nets.specs.Tries.{Trie, none, trieOf}
 use Rattle.nodes.specs.Words.{put}
+use Rattle.nodes.specs.Parse.{Room}
+use Rattle.trie_index.specs.Index.{indexT, Rooted}
 use Rattle.pool_state.proofs.Kept.{heldL-nil, encL-nil}
-use Rattle.pool_state.specs.States.{isSize}
+use Rattle.pool_state.specs.Kept.{heldL, indexL}
+use Rattle.pool_state.specs.States.{indexedOf, isSize}
 use Rattle.nets.specs.Networks.{isFamily}
-use Rattle.pool_state.specs.Decode.{mark, recordAt, leastWords, overRecords, nodeWords, over}
-use Rattle.pool_state.specs.Rules.{withinLimits, total, sharesFit, Setup, isSetup, layoutNo, emptySets, laid, Laid}
-use Rattle.nodes.proofs.Put.{put-nil, set-put, put-behind-at}
+use Rattle.pool_state.specs.Decode.{mark, recordAt, leastWords, overRecords, nodeWords, overSets, tagOf, overIndexes, over}
+use Rattle.pool_state.specs.Rules.{withinLimits, total, sharesFit, Setup, marksFit, marks, wordsOf, isSetup, layoutNo, emptySets, blanks, laid, Laid}
+use Rattle.nodes.proofs.Put.{put-nil, length-put, set-put, put-behind-at}
 
 -- the total of a share x and others, against n nodes
 module _ (n x : ℕ) (xs : List ℕ) where
@@ -85,7 +91,8 @@ module _ {sets nodes : ℕ} {shares limits : List ℕ} {left s : ℕ} (h : Shari
 pub record Kept (words : ℕ) (p : Setup) : Type 0 where
   pub family : isFamily (p .family) ≡ true
   pub size : isSize (p .sets) (p .nodes) ≡ true
-  pub room : leastWords (p .sets) (p .nodes) ≤ words
+  pub marks : marksFit (p .sets) (p .indexed) ≡ true
+  pub room : wordsOf p ≤ words
   pub share : length (p .shares) ≡ p .sets
   pub limit : length (p .limits) ≡ p .sets
   pub within : withinLimits (p .shares) (p .limits) ≡ true
@@ -95,19 +102,22 @@ pub isSetup-kept : (words : ℕ) (s : Setup) → isSetup words s ≡ true → Ke
 unfolding isSetup sharesFit
 isSetup-kept words s e =
     let p = isFamily (s .family) && isSize (s .sets) (s .nodes) in
-    let q = leb (leastWords (s .sets) (s .nodes)) words in
+    let m = marksFit (s .sets) (s .indexed) in
+    let q = leb (wordsOf s) words in
     let a = eqb (length (s .shares)) (s .sets) in
     let b = eqb (length (s .limits)) (s .sets) in
     let c = withinLimits (s .shares) (s .limits) in
     let d = leb (total (s .shares)) (s .nodes) in
-    let f = and-left (p && q) (a && b && (c && d)) e in
-    let g = and-right (p && q) (a && b && (c && d)) e in
+    let f = and-left (p && m && q) (a && b && (c && d)) e in
+    let g = and-right (p && m && q) (a && b && (c && d)) e in
+    let l = and-left (p && m) q f in
     let h = and-left (a && b) (c && d) g in
     let k = and-right (a && b) (c && d) g in
     record {
-      family = and-left (isFamily (s .family)) (isSize (s .sets) (s .nodes)) (and-left p q f);
-      size = and-right (isFamily (s .family)) (isSize (s .sets) (s .nodes)) (and-left p q f);
-      room = leb-true (leastWords (s .sets) (s .nodes)) words (and-right p q f);
+      family = and-left (isFamily (s .family)) (isSize (s .sets) (s .nodes)) (and-left p m l);
+      size = and-right (isFamily (s .family)) (isSize (s .sets) (s .nodes)) (and-left p m l);
+      marks = and-right p m l;
+      room = leb-true (wordsOf s) words (and-right (p && m) q f);
       share = eqb-true (length (s .shares)) (s .sets) (and-left a b h);
       limit = eqb-true (length (s .limits)) (s .sets) (and-right a b h);
       within = and-left c d k;
@@ -156,16 +166,16 @@ module _ {n : ℕ} {w₀ w : List ℕ} {i : ℕ} (h : Clearing n w₀ w i) where
 pub record Recording (shares limits w₀ w : List ℕ) (s : ℕ) : Type 0 where
   pub within : s ≤ length shares
   pub long : length w ≡ length w₀
-  pub rest : overRecords w s 1 (emptySets (drop s shares) (drop s limits)) ≡ overRecords w₀ 0 1 (emptySets shares limits)
+  pub rest : overRecords w s 1 (emptySets (drop s shares) (drop s limits) 0) ≡ overRecords w₀ 0 1 (emptySets shares limits 0)
 
 pub records-start : (shares limits w : List ℕ) → Recording shares limits w w 0
 records-start shares limits w = record { within = omega arith; long = refl; rest = refl }
 
 overRecords-empty : (w : List ℕ) (s x y : ℕ) (shares limits : List ℕ) →
-    overRecords (put w (recordAt s) (0 ∷ x ∷ y ∷ 0 ∷ [])) (s + 1) 1 (emptySets shares limits) ≡ overRecords w s 1 (emptySets (x ∷ shares) (y ∷ limits))
+    overRecords (put w (recordAt s) (0 ∷ x ∷ y ∷ 0 ∷ [])) (s + 1) 1 (emptySets shares limits 0) ≡ overRecords w s 1 (emptySets (x ∷ shares) (y ∷ limits) 0)
 unfolding overRecords
 overRecords-empty w s x y shares limits =
-    ap (λ n. overRecords (put w (recordAt s) (0 ∷ x ∷ y ∷ 0 ∷ [])) (s + 1) (1 + n) (emptySets shares limits)) (sym heldL-nil)
+    ap (λ n. overRecords (put w (recordAt s) (0 ∷ x ∷ y ∷ 0 ∷ [])) (s + 1) (1 + n) (emptySets shares limits 0)) (sym heldL-nil)
 
 module _ {shares limits w₀ w : List ℕ} {s : ℕ} (h : Recording shares limits w₀ w s) where
   pub records-turn : length shares ≡ length limits → s < length shares →
@@ -179,38 +189,148 @@ module _ {shares limits w₀ w : List ℕ} {s : ℕ} (h : Recording shares limit
         rw (set-record w (recordAt s) (getD shares s 0) (getD limits s 0) 0) (rw (← add-one s) at r);
   }
 
-  pub records-end : length shares ≤ s → w ≡ overRecords w₀ 0 1 (emptySets shares limits)
+  pub records-end : length shares ≤ s → w ≡ overRecords w₀ 0 1 (emptySets shares limits 0)
   unfolding overRecords
   records-end l = rw (drop-of-length-le shares l) at (h .rest)
 
--- empty sets: as many as there are shares, and no node
-pub length-emptySets : (shares limits : List ℕ) → length shares ≡ length limits → length (emptySets shares limits) ≡ length shares
-length-emptySets [] limits e = refl
-length-emptySets (x ∷ shares) [] e = absurd (omega arith)
-length-emptySets (x ∷ shares) (y ∷ limits) e = ap suc (length-emptySets shares limits (omega arith))
+-- empty sets: as many as there are shares, no node, and as many of them indexed as the number has marks; their records do not tell which, and their tags and indexes tell nothing else
+pub length-emptySets : (shares limits : List ℕ) (z : ℕ) → length shares ≡ length limits → length (emptySets shares limits z) ≡ length shares
+length-emptySets [] limits z e = refl
+length-emptySets (x ∷ shares) [] z e = absurd (omega arith)
+length-emptySets (x ∷ shares) (y ∷ limits) z e = ap suc (length-emptySets shares limits (z / 2) (omega arith))
 
-nodeWords-emptySets : (shares limits : List ℕ) → nodeWords (emptySets shares limits) ≡ []
+nodeWords-emptySets : (shares limits : List ℕ) (z : ℕ) → nodeWords (emptySets shares limits z) ≡ []
 unfolding nodeWords
-nodeWords-emptySets [] limits = refl
-nodeWords-emptySets (x ∷ shares) [] = refl
-nodeWords-emptySets (x ∷ shares) (y ∷ limits) = rw encL-nil (nodeWords-emptySets shares limits)
+nodeWords-emptySets [] limits z = refl
+nodeWords-emptySets (x ∷ shares) [] z = refl
+nodeWords-emptySets (x ∷ shares) (y ∷ limits) z = rw encL-nil (nodeWords-emptySets shares limits (z / 2))
+
+digit-mod : (z : ℕ) → digit (eqb (z % 2) 1) ≡ z % 2
+digit-mod z = go (z % 2) (omega arith)
+  where
+    go : (n : ℕ) → n < 2 → digit (eqb n 1) ≡ n
+    go zero l = refl
+    go (suc zero) l = refl
+    go (suc (suc n)) l = absurd (omega arith)
+
+pub indexedOf-emptySets : (shares limits : List ℕ) (z : ℕ) → length shares ≡ length limits → indexedOf (emptySets shares limits z) ≡ marks (length shares) z
+unfolding indexedOf marks
+indexedOf-emptySets [] limits z e = refl
+indexedOf-emptySets (x ∷ shares) [] z e = absurd (omega arith)
+indexedOf-emptySets (x ∷ shares) (y ∷ limits) z e = rw (digit-mod z, indexedOf-emptySets shares limits (z / 2) (omega arith))
+
+overRecords-marks : (w : List ℕ) (s i : ℕ) (shares limits : List ℕ) (z : ℕ) → overRecords w s i (emptySets shares limits 0) ≡ overRecords w s i (emptySets shares limits z)
+unfolding overRecords
+overRecords-marks w s i [] limits z = refl
+overRecords-marks w s i (x ∷ shares) [] z = refl
+overRecords-marks w s i (x ∷ shares) (y ∷ limits) z = overRecords-marks (put w (recordAt s) (0 ∷ x ∷ y ∷ 0 ∷ [])) (s + 1) (i + heldL []) shares limits (z / 2)
+
+overIndexes-blanks : (w : List ℕ) (m s j : ℕ) (shares limits : List ℕ) (z : ℕ) → length shares ≡ length limits
+    → overIndexes w m s j (blanks (length shares) z) ≡ overIndexes w m s j (emptySets shares limits z)
+unfolding overIndexes
+overIndexes-blanks w m s j [] limits z e = refl
+overIndexes-blanks w m s j (x ∷ shares) [] z e = absurd (omega arith)
+overIndexes-blanks w m s j (x ∷ shares) (y ∷ limits) z e = overIndexes-blanks _ m (s + 1) (j + digit (eqb (z % 2) 1)) shares limits (z / 2) (omega arith)
+
+-- The marks: what is left of the number, for the sets that are left, completes the count, and decides whether all are of sets.
+pub record Marking (sets z left x n : ℕ) : Type 0 where
+  pub count : n + marks left x ≡ marks sets z
+  pub fit : marksFit left x ≡ marksFit sets z
+  pub few : n + left ≤ sets
+
+pub marking-start : (sets z : ℕ) → Marking sets z sets z 0
+marking-start sets z = record { count = zero-add (marks sets z); fit = refl; few = omega arith }
+
+module _ {sets z left x n : ℕ} (h : Marking sets z left x n) where
+  pub marking-turn : 0 < left → Marking sets z (left - 1) (x / 2) (n + x % 2)
+  unfolding marks marksFit
+  marking-turn lt =
+      let e : left ≡ suc (left - 1) = omega arith in
+      record { count = omega (arith, rw e at (h .count)); fit = rw e at (h .fit); few = omega (arith, h .few) }
+
+  pub marking-count : left ≤ 0 → n ≡ marks sets z
+  unfolding marks
+  marking-count le = let e : left ≡ 0 = omega arith in omega (arith, rw e at (h .count))
+
+  pub marking-fit : left ≤ 0 → eqb x 0 ≡ marksFit sets z
+  unfolding marksFit
+  marking-fit le = let e : left ≡ 0 = omega arith in rw e at (h .fit)
+
+-- the tag and the index of one empty set: it has no root
+pub blank-rooted : (w : List ℕ) → 64 ≤ length w → Room w 64 0 × ((t : Trie) × Rooted w 64 0 0 t)
+blank-rooted w le = (record { low = omega arith; few = omega arith; long = omega arith }, (none, record { empty = λ e. refl; some = λ ne. absurd (ne refl) }))
+
+pub blank-indexed : (w : List ℕ) (p q x : ℕ) {v : List ℕ} → ((t : Trie) → Rooted (set w p x) 64 0 0 t → v ≡ put (set w p x) q (indexT t)) → v ≡ put (put w p (x ∷ [])) q (indexL [])
+unfolding indexL trieOf
+blank-indexed w p q x f = f none (record { empty = λ e. refl; some = λ ne. absurd (ne refl) }) ∙ ap (λ u. put u q (indexT none)) (set-put w p x)
+
+pub blank-length : (w : List ℕ) (p q x : ℕ) {v : List ℕ} → ((t : Trie) → Rooted (set w p x) 64 0 0 t → v ≡ put (set w p x) q (indexT t)) → length v ≡ length w
+blank-length w p q x f = ap length (blank-indexed w p q x f) ∙ length-put (put w p (x ∷ [])) q (indexL []) ∙ length-put w p (x ∷ [])
+
+pub blank-plain : (w : List ℕ) (p q : ℕ) → set w p 0 ≡ put (put w p (0 ∷ [])) q []
+blank-plain w p q = set-put w p 0 ∙ sym (put-nil (put w p (0 ∷ [])) q)
+
+-- indexes: the tags and indexes of the sets from s on, of which the number x marks those that are indexed
+pub record Indexing (at sets z : ℕ) (w₀ w : List ℕ) (s j x : ℕ) : Type 0 where
+  pub long : length w ≡ length w₀
+  pub within : s ≤ sets
+  pub few : j ≤ s
+  pub room : at + 256 * (j + marks (sets - s) x) ≤ length w₀
+  pub rest : overIndexes w at s j (blanks (sets - s) x) ≡ overIndexes w₀ at 0 0 (blanks sets z)
+
+pub indexing-start : (at sets z : ℕ) (w : List ℕ) → at + 256 * marks sets z ≤ length w → Indexing at sets z w w 0 0 z
+indexing-start at sets z w le =
+    let e : sets - 0 ≡ sets = omega arith in
+    record { long = refl; within = omega arith; few = omega arith; room = rw (e, zero-add (marks sets z)) le; rest = rw e }
+
+module _ {at sets z : ℕ} {w₀ w : List ℕ} {s j x : ℕ} (h : Indexing at sets z w₀ w s j x) where
+  pub indexing-fits : s < sets → at + 256 * (j + digit (eqb (x % 2) 1)) ≤ length w
+  unfolding marks
+  indexing-fits lt = let e : sets - s ≡ suc (sets - (s + 1)) = omega arith in omega (arith, h .long, rw e at (h .room), digit-mod x)
+
+  pub indexing-turn : s < sets → {u : List ℕ} {i : ℕ} → i ≡ j + digit (eqb (x % 2) 1)
+      → u ≡ put (put w (recordAt s + 4) (tagOf (eqb (x % 2) 1) j ∷ [])) (at + 256 * j) (cond (eqb (x % 2) 1) (indexL []) []) → Indexing at sets z w₀ u (s + 1) i (x / 2)
+  unfolding marks overIndexes
+  indexing-turn lt {u} {i} q p =
+      let e : sets - s ≡ suc (sets - (s + 1)) = omega arith in
+      let d = digit-mod x in
+      record {
+        long = rw p (length-put _ _ _ ∙ length-put _ _ _ ∙ h .long);
+        within = omega arith;
+        few = omega (arith, h .few, q, d);
+        room = omega (arith, q, d, rw e at (h .room));
+        rest = rw (p, q) (rw e at (h .rest));
+      }
+
+  pub indexing-end : sets ≤ s → put w 4 (j ∷ []) ≡ overIndexes w₀ at 0 0 (blanks sets z)
+  unfolding overIndexes
+  indexing-end le = let e : sets - s ≡ 0 = omega arith in rw e at (h .rest)
 
 -- layout: the two answers, by the test and what the writes leave
 module _ (w : List ℕ) (p : Setup) where
   laid-is : length (p .shares) ≡ p .sets → length (p .limits) ≡ p .sets →
       laid w p
-      ≡ overRecords (put (put w 0 (replicate (leastWords (p .sets) (p .nodes)) 0)) 0 (mark ∷ p .family ∷ p .sets ∷ p .nodes ∷ [])) 0 1 (emptySets (p .shares) (p .limits))
-  unfolding laid over
+      ≡ overIndexes (overRecords (put (put w 0 (replicate (wordsOf p) 0)) 0 (mark ∷ p .family ∷ p .sets ∷ p .nodes ∷ [])) 0 1 (emptySets (p .shares) (p .limits) 0))
+      (leastWords (p .sets) (p .nodes) 0) 0 0 (blanks (p .sets) (p .indexed))
+  unfolding laid over overSets
   laid-is e f =
-      let n : length (emptySets (p .shares) (p .limits)) ≡ p .sets = length-emptySets (p .shares) (p .limits) (e ∙ sym f) ∙ e in
-      rw (n, nodeWords-emptySets (p .shares) (p .limits), put-nil)
+      let g = e ∙ sym f in
+      let n : length (emptySets (p .shares) (p .limits) (p .indexed)) ≡ p .sets = length-emptySets (p .shares) (p .limits) (p .indexed) g ∙ e in
+      let m = leastWords (p .sets) (p .nodes) 0 in
+      let x = put (put w 0 (replicate (wordsOf p) 0)) 0 (mark ∷ p .family ∷ p .sets ∷ p .nodes ∷ []) in
+      let y = overRecords x 0 1 (emptySets (p .shares) (p .limits) 0) in
+      rw (n, nodeWords-emptySets (p .shares) (p .limits) (p .indexed), put-nil)
+      (ap (λ v. overIndexes v m 0 0 (emptySets (p .shares) (p .limits) (p .indexed))) (sym (overRecords-marks x 0 1 (p .shares) (p .limits) (p .indexed)))
+      ∙ sym (overIndexes-blanks y m 0 0 (p .shares) (p .limits) (p .indexed) g)
+      ∙ ap (λ k. overIndexes y m 0 0 (blanks k (p .indexed))) e)
 
-  pub layout-granted : isSetup (length w) p ≡ true → (n : ℕ) (u v z : List ℕ) → n ≡ leastWords (p .sets) (p .nodes) →
-      u ≡ put w 0 (replicate n 0) → v ≡ put u 0 (mark ∷ p .family ∷ p .sets ∷ p .nodes ∷ []) → z ≡ overRecords v 0 1 (emptySets (p .shares) (p .limits)) → Laid w p (0, 0) z
+  pub layout-granted : isSetup (length w) p ≡ true → (n : ℕ) (u v y z : List ℕ) → n ≡ wordsOf p →
+      u ≡ put w 0 (replicate n 0) → v ≡ put u 0 (mark ∷ p .family ∷ p .sets ∷ p .nodes ∷ []) → y ≡ overRecords v 0 1 (emptySets (p .shares) (p .limits) 0)
+      → z ≡ overIndexes y (leastWords (p .sets) (p .nodes) 0) 0 0 (blanks (p .sets) (p .indexed)) → Laid w p (0, 0) z
   unfolding layoutNo
-  layout-granted h n u v z e a b c =
+  layout-granted h n u v y z e a b c d =
       let k = isSetup-kept (length w) p h in
-      record { answer = rw h; words = rw (h, laid-is (k .share) (k .limit), ← e, ← a, ← b) c }
+      record { answer = rw h; words = rw (h, laid-is (k .share) (k .limit), ← e, ← a, ← b, ← c) d }
 
   pub layout-refused : isSetup (length w) p ≡ false → Laid w p (1, 0) w
   unfolding layoutNo

@@ -12,7 +12,8 @@ use Rattle.nets.specs.Bits.{Bits}
 use Rattle.nets.specs.Lists.{isList}
 use Rattle.nets.specs.Networks.{width}
 use Rattle.nets.proofs.Strings.{and-left, and-right}
-use Rattle.pool_state.specs.States.{SetState, State, held, claim, used, claimed, roomOf, admits, isSet, areSets, isState}
+use Rattle.pool_state.specs.States.{SetState, State, held, claim, used, claimed, indexedOf, roomOf, admits, isSet, areSets, isState}
+use Rattle.pool_state.specs.Decode.{leastOf}
 use Rattle.pool_state.specs.Rules.{noSet}
 use Rattle.pool_state.specs.Changes.{setAt, listAt, setsWith, withSet, fits, setWith}
 use Rattle.pool_state.proofs.Claims.{isState-family, isState-size, isState-sets, isState-claimed, areSets-head, areSets-tail, claimedBut-is}
@@ -52,19 +53,30 @@ areSets-setsWith f k x [] e i = refl
 areSets-setsWith f zero x (s ∷ ss) e i = rw i (areSets-tail f s ss e)
 areSets-setsWith f (suc k) x (s ∷ ss) e i = rw (areSets-head f s ss e) (areSets-setsWith f k x ss (areSets-tail f s ss e) i)
 
--- the same share, limit and mark; another list leaves them
+-- the same share, limit and marks; another list leaves them
 abbrev pub SamePlan : SetState → SetState → Type 0
-SamePlan x y = (x .share ≡ y .share) × (x .limit ≡ y .limit) × (x .public ≡ y .public)
+SamePlan x y = (x .share ≡ y .share) × (x .limit ≡ y .limit) × (x .public ≡ y .public) × (x .indexed ≡ y .indexed)
 
 setsWith-plan : (k j : ℕ) (l : List Bits) (ss : List SetState) → SamePlan (getD (setsWith k (setWith (getD ss k noSet) l) ss) j noSet) (getD ss j noSet)
-setsWith-plan k j l [] = (refl, refl, refl)
-setsWith-plan zero zero l (s ∷ ss) = (refl, refl, refl)
-setsWith-plan zero (suc j) l (s ∷ ss) = (refl, refl, refl)
-setsWith-plan (suc k) zero l (s ∷ ss) = (refl, refl, refl)
+setsWith-plan k j l [] = (refl, refl, refl, refl)
+setsWith-plan zero zero l (s ∷ ss) = (refl, refl, refl, refl)
+setsWith-plan zero (suc j) l (s ∷ ss) = (refl, refl, refl, refl)
+setsWith-plan (suc k) zero l (s ∷ ss) = (refl, refl, refl, refl)
 setsWith-plan (suc k) (suc j) l (s ∷ ss) = setsWith-plan k j l ss
+
+indexedOf-setsWith : (k : ℕ) (x : SetState) (ss : List SetState) → x .indexed ≡ getD ss k noSet .indexed → indexedOf (setsWith k x ss) ≡ indexedOf ss
+unfolding indexedOf
+indexedOf-setsWith k x [] e = refl
+indexedOf-setsWith zero x (s ∷ ss) e = rw e
+indexedOf-setsWith (suc k) x (s ∷ ss) e = rw (indexedOf-setsWith k x ss e)
 
 -- States.
 module _ (S : State) (k : ℕ) (x : SetState) where
+  -- the smallest buffer stays
+  pub withSet-least : x .indexed ≡ setAt S k .indexed → leastOf (withSet S k x) ≡ leastOf S
+  unfolding withSet
+  withSet-least e = rw (length-setsWith k x (S .sets), indexedOf-setsWith k x (S .sets) e)
+
   pub withSet-length : length (withSet S k x .sets) ≡ length (S .sets)
   unfolding withSet
   withSet-length = length-setsWith k x (S .sets)

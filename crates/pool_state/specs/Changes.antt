@@ -75,7 +75,7 @@ pub record Changed (w : List ℕ) (k : ℕ) (rs : State → List Rule) (f : Stat
 
 -- another share and limit
 abbrev pub planned : SetState → ℕ → ℕ → SetState
-planned s x y = record { share = x; limit = y; public = s .public; list = s .list }
+planned s x y = record { share = x; limit = y; public = s .public; indexed = s .indexed; list = s .list }
 
 unfoldable pub planRules : ℕ → ℕ → ℕ → State → List Rule
 planRules k x y S = (not (fits S k (planned (setAt S k) x y)), BadShare) ∷ []
@@ -93,7 +93,7 @@ occupied S k = (not (isEmpty (listAt S k)), Occupied)
 
 -- public-only from now on
 abbrev pub marked : SetState → SetState
-marked s = record { share = s .share; limit = s .limit; public = true; list = s .list }
+marked s = record { share = s .share; limit = s .limit; public = true; indexed = s .indexed; list = s .list }
 
 unfoldable pub markRules : ℕ → State → List Rule
 markRules k S = occupied S k ∷ []
@@ -103,7 +103,7 @@ Marked w k r v = Changed w k (markRules k) (λ S. marked (setAt S k)) r v
 
 -- another list
 abbrev pub setWith : SetState → List Bits → SetState
-setWith s l = record { share = s .share; limit = s .limit; public = s .public; list = l }
+setWith s l = record { share = s .share; limit = s .limit; public = s .public; indexed = s .indexed; list = l }
 
 abbrev pub grantRules : State → ℕ → List Bits → List Rule
 grantRules S k l =

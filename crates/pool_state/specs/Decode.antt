@@ -1,9 +1,12 @@
--- Words and states. Words 0 to 3 of a pool are a mark, the family, the sets and the nodes. The record of set s stands at 64 + 8 s: the number of its root (0: the
--- list is empty), its share, its limit, and 1 where it is public-only, else 0. The nodes stand from 64 + 8 sets on, node i in one word: the lists of the sets one behind the other.
+-- Words and states. Words 0 to 4 of a pool are a mark, the family, the sets, the nodes, and how many sets are indexed. The record of set s stands at 64 + 8 s: the number of its
+-- root (0: the list is empty), its share, its limit, 1 where it is public-only, else 0, and its tag: 0, or where it is indexed one more than how many indexed sets stand before it.
+-- The nodes stand from 64 + 8 sets on, node i in one word: the lists of the sets one behind the other. Behind the words for them stand the indexes, 256 words each.
 --
---   over w S      the words w with the state S written over them
---   decode w      the state that the words hold, or damaged
-use mathlib.Core.Bool.{Bool, cond, _&&_}
+--   overSets w S, overIndexes w m s j xs     the words w with the header, records and lists of S written over them; with tags and indexes, from set s and index j on, the first at m
+--   over w S                                 both
+--   readPool w, areIndexes w m s j xs        the state that header, records and lists hold, or damaged; the tags and indexes are those of the sets
+--   decode w                                 the state that the words hold, or damaged
+use mathlib.Core.Bool.{Bool, not, cond, _&&_}
 use mathlib.Core.List.{List, [], _∷_, _++_}
 use Prim.Native.Nat.{ℕ, zero, suc, _+_, _*_}
 use lib.Dec.{eqb, leb}
@@ -11,8 +14,9 @@ use lib.ListN.{length, getD}
 use Rattle.nets.specs.Bits.{Bits, digit}
 use Rattle.nets.specs.Networks.{isFamily, width}
 use Rattle.nodes.specs.Words.{put}
-use Rattle.pool_state.specs.Kept.{heldL, encL, ReadList, badList, okList, readL}
-use Rattle.pool_state.specs.States.{SetState, State, held, claimed, keepsRules, isSize}
+use Rattle.trie_index.specs.Index.{isAt}
+use Rattle.pool_state.specs.Kept.{heldL, encL, indexL, ReadList, badList, okList, readL}
+use Rattle.pool_state.specs.States.{SetState, State, held, claimed, indexedOf, keepsRules, isSize}
 
 abbrev pub mark : ℕ
 mark = 1296126540
@@ -20,12 +24,12 @@ mark = 1296126540
 abbrev pub recordAt : ℕ → ℕ
 recordAt s = 64 + 8 * s
 
--- where the nodes begin, and the words that a pool needs
+-- where the nodes begin, and the words that a pool needs: the index of an indexed set begins where those of a pool with the indexed sets before it alone end
 abbrev pub base : ℕ → ℕ
 base sets = 64 + 8 * sets
 
-abbrev pub leastWords : ℕ → ℕ → ℕ
-leastWords sets nodes = 64 + 8 * sets + 8 * nodes
+abbrev pub leastWords : ℕ → ℕ → ℕ → ℕ
+leastWords sets nodes indexed = 64 + 8 * sets + 8 * nodes + 256 * indexed
 
 -- the number of the root of a list that stands at node i
 abbrev pub rootAt : ℕ → List Bits → ℕ
@@ -41,9 +45,31 @@ unfoldable pub nodeWords : List SetState → List ℕ
 nodeWords [] = []
 nodeWords (x ∷ xs) = encL (x .list) ++ nodeWords xs
 
-unfoldable pub over : List ℕ → State → List ℕ
-over w S =
+unfoldable pub overSets : List ℕ → State → List ℕ
+overSets w S =
     put (overRecords (put w 0 (mark ∷ S .family ∷ length (S .sets) ∷ S .nodes ∷ [])) 0 1 (S .sets)) (base (length (S .sets))) (nodeWords (S .sets))
+
+-- the tag of a set with j indexed sets before it, and the words of its index
+abbrev pub tagOf : Bool → ℕ → ℕ
+tagOf c j = cond c (suc j) 0
+
+abbrev pub indexWords : SetState → List ℕ
+indexWords x = cond (x .indexed) (indexL (x .list)) []
+
+unfoldable pub overIndexes : List ℕ → ℕ → ℕ → ℕ → List SetState → List ℕ
+overIndexes w m s j [] = put w 4 (j ∷ [])
+overIndexes w m s j (x ∷ xs) =
+    overIndexes (put (put w (recordAt s + 4) (tagOf (x .indexed) j ∷ [])) (m + 256 * j) (indexWords x)) m (s + 1) (j + digit (x .indexed)) xs
+
+-- the smallest buffer of a state, and where its indexes begin
+abbrev pub leastOf : State → ℕ
+leastOf S = leastWords (length (S .sets)) (S .nodes) (indexedOf (S .sets))
+
+abbrev pub indexesAt : State → ℕ
+indexesAt S = leastWords (length (S .sets)) (S .nodes) 0
+
+unfoldable pub over : List ℕ → State → List ℕ
+over w S = overIndexes (overSets w S) (indexesAt S) 0 0 (S .sets)
 
 pub data Decoded : Type 0 where
   damaged : Decoded
@@ -56,14 +82,21 @@ pub data ReadSets : Type 0 where
 unfoldable pub isHeader : List ℕ → Bool
 isHeader w =
     (eqb (getD w 0 0) mark && isFamily (getD w 1 0))
-    && (isSize (getD w 2 0) (getD w 3 0) && leb (leastWords (getD w 2 0) (getD w 3 0)) (length w))
+    && (isSize (getD w 2 0) (getD w 3 0) && (leb (getD w 4 0) (getD w 2 0) && leb (leastWords (getD w 2 0) (getD w 3 0) (getD w 4 0)) (length w)))
 
 -- the list of set s, where the next number that is not placed is i, and the nodes of a set begin there or nowhere
 unfoldable pub readSet : List ℕ → ℕ → ℕ → ℕ → ℕ → ℕ → ReadList
 readSet w b n f s i = cond (eqb (getD w (recordAt s) 0) 0) (okList []) (cond (eqb (getD w (recordAt s) 0) i) (readL w b n f i) badList)
 
 abbrev pub setOf : List ℕ → ℕ → List Bits → SetState
-setOf w s l = record { share = getD w (recordAt s + 1) 0; limit = getD w (recordAt s + 2) 0; public = eqb (getD w (recordAt s + 3) 0) 1; list = l }
+setOf w s l =
+    record {
+      share = getD w (recordAt s + 1) 0;
+      limit = getD w (recordAt s + 2) 0;
+      public = eqb (getD w (recordAt s + 3) 0) 1;
+      indexed = not (eqb (getD w (recordAt s + 4) 0) 0);
+      list = l;
+    }
 
 -- the word that says whether it is public-only is one of the two, and the set is within its rules
 abbrev pub isRight : List ℕ → ℕ → ℕ → List Bits → Bool
@@ -87,5 +120,17 @@ abbrev pub judged : List ℕ → ReadSets → Decoded
 judged w badSets = damaged
 judged w (okSets xs) = cond (leb (claimed xs) (getD w 3 0)) (sound (record { family = getD w 1 0; nodes = getD w 3 0; sets = xs })) damaged
 
+unfoldable pub readPool : List ℕ → Decoded
+readPool w = cond (isHeader w) (judged w (readSets w (base (getD w 2 0)) (getD w 3 0) (getD w 1 0) (getD w 2 0) 0 1)) damaged
+
+unfoldable pub areIndexes : List ℕ → ℕ → ℕ → ℕ → List SetState → Bool
+areIndexes w m s j [] = eqb (getD w 4 0) j
+areIndexes w m s j (x ∷ xs) =
+    (eqb (getD w (recordAt s + 4) 0) (tagOf (x .indexed) j) && isAt w (m + 256 * j) (indexWords x)) && areIndexes w m (s + 1) (j + digit (x .indexed)) xs
+
+abbrev pub whereIndexed : List ℕ → Decoded → Decoded
+whereIndexed w damaged = damaged
+whereIndexed w (sound S) = cond (areIndexes w (indexesAt S) 0 0 (S .sets)) (sound S) damaged
+
 unfoldable pub decode : List ℕ → Decoded
-decode w = cond (isHeader w) (judged w (readSets w (base (getD w 2 0)) (getD w 3 0) (getD w 1 0) (getD w 2 0) 0 1)) damaged
+decode w = whereIndexed w (readPool w)

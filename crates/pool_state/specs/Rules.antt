@@ -12,7 +12,7 @@
 use mathlib.Core.Bool.{Bool, true, false, cond, _&&_}
 use mathlib.Core.List.{List, [], _∷_}
 use mathlib.Core.Path.{_≡_}
-use Prim.Native.Nat.{ℕ, zero, suc, _+_}
+use Prim.Native.Nat.{ℕ, zero, suc, _+_, _/_, _%_}
 use lib.Dec.{eqb, leb, ltb}
 use lib.ListN.{length, getD, replicate}
 use Rattle.nets.specs.Refusals.{number, answered, Rule, firstNo}
@@ -87,37 +87,56 @@ pub record Setup : Type 0 where
   pub nodes : ℕ
   pub shares : List ℕ
   pub limits : List ℕ
+  pub indexed : ℕ
 
-abbrev pub setup : ℕ → ℕ → ℕ → List ℕ → List ℕ → Setup
-setup f m n xs ys = record { family = f; sets = m; nodes = n; shares = xs; limits = ys }
+abbrev pub setup : ℕ → ℕ → ℕ → List ℕ → List ℕ → ℕ → Setup
+setup f m n xs ys x = record { family = f; sets = m; nodes = n; shares = xs; limits = ys; indexed = x }
+
+-- the sets that are to be indexed, as a number whose bit s stands for set s: whether m sets have all of them, and how many they are
+unfoldable pub marksFit : ℕ → ℕ → Bool
+marksFit zero x = eqb x 0
+marksFit (suc m) x = marksFit m (x / 2)
+
+unfoldable pub marks : ℕ → ℕ → ℕ
+marks zero x = 0
+marks (suc m) x = x % 2 + marks m (x / 2)
+
+abbrev pub wordsOf : Setup → ℕ
+wordsOf p = leastWords (p .sets) (p .nodes) (marks (p .sets) (p .indexed))
 
 -- it keeps the rules, and so many words are enough
 unfoldable pub isSetup : ℕ → Setup → Bool
 isSetup words p =
-    isFamily (p .family) && isSize (p .sets) (p .nodes) && leb (leastWords (p .sets) (p .nodes)) words && sharesFit (p .sets) (p .nodes) (p .shares) (p .limits)
+    isFamily (p .family) && isSize (p .sets) (p .nodes) && marksFit (p .sets) (p .indexed) && leb (wordsOf p) words
+    && sharesFit (p .sets) (p .nodes) (p .shares) (p .limits)
 
 unfoldable pub layoutNo : List ℕ → Setup → ℕ
 layoutNo w p = cond (isSetup (length w) p) 0 1
 
--- sets without a network, none of them public-only
-abbrev pub emptySets : List ℕ → List ℕ → List SetState
-emptySets [] limits = []
-emptySets (x ∷ shares) [] = []
-emptySets (x ∷ shares) (y ∷ limits) = record { share = x; limit = y; public = false; list = [] } ∷ emptySets shares limits
+-- sets without a network, none of them public-only, and indexed by the bits of a number
+abbrev pub emptySets : List ℕ → List ℕ → ℕ → List SetState
+emptySets [] limits z = []
+emptySets (x ∷ shares) [] z = []
+emptySets (x ∷ shares) (y ∷ limits) z = record { share = x; limit = y; public = false; indexed = eqb (z % 2) 1; list = [] } ∷ emptySets shares limits (z / 2)
+
+-- the same without shares and limits
+abbrev pub blanks : ℕ → ℕ → List SetState
+blanks zero z = []
+blanks (suc n) z = record { share = 0; limit = 0; public = false; indexed = eqb (z % 2) 1; list = [] } ∷ blanks n (z / 2)
 
 abbrev pub emptyState : Setup → State
-emptyState p = record { family = p .family; nodes = p .nodes; sets = emptySets (p .shares) (p .limits) }
+emptyState p = record { family = p .family; nodes = p .nodes; sets = emptySets (p .shares) (p .limits) (p .indexed) }
 
 -- the smallest buffer is cleared, and every set is empty
 unfoldable pub laid : List ℕ → Setup → List ℕ
-laid w p = over (put w 0 (replicate (leastWords (p .sets) (p .nodes)) 0)) (emptyState p)
+laid w p = over (put w 0 (replicate (wordsOf p) 0)) (emptyState p)
 
 -- from the words w layout answers r and leaves the words v
 pub record Laid (w : List ℕ) (p : Setup) (r : ℕ × ℕ) (v : List ℕ) : Type 0 where
   pub answer : r ≡ (layoutNo w p, 0)
   pub words : v ≡ cond (eqb (layoutNo w p) 0) (laid w p) w
 
--- share, limit and mark of set k, by the words
+-- share, limit, mark and tag of set k, by the words
 abbrev pub shareIn : List ℕ → ℕ → ℕ
 shareIn w k = getD w (recordAt k + 1) 0
 
@@ -127,9 +146,12 @@ limitIn w k = getD w (recordAt k + 2) 0
 abbrev pub publicIn : List ℕ → ℕ → ℕ
 publicIn w k = getD w (recordAt k + 3) 0
 
+abbrev pub tagIn : List ℕ → ℕ → ℕ
+tagIn w k = getD w (recordAt k + 4) 0
+
 -- a report on set k: 2 where the pool is damaged, 3 where there is no such set
 abbrev pub noSet : SetState
-noSet = record { share = 0; limit = 0; public = false; list = [] }
+noSet = record { share = 0; limit = 0; public = false; indexed = false; list = [] }
 
 abbrev pub onSet : {A : Type 0} → Decoded → ℕ → A → (State → SetState → A) → ℕ × A
 onSet d k z f = answerOn d (λ S. unknown S k ∷ []) z (λ S. f S (getD (S .sets) k noSet))

@@ -1,7 +1,8 @@
--- The state of a pool: its family, its nodes, and for each set its share, its limit, whether it is public-only, and its list.
+-- The state of a pool: its family, its nodes, and for each set its share, its limit, whether it is public-only, whether it is indexed, and its list.
 --
 --   held s            the nodes of a set's list
 --   claim s           the larger of share and held nodes; used, claimed: the sums over sets of held nodes and of claims
+--   indexedOf ss      how many sets are indexed
 --   freeOf S          the pool's nodes less the nodes of all lists
 --   roomOf S k        the pool's nodes less, for every other set than k, its claim
 --   admits f s l      the set s of a pool of the family f may have the list l, as far as its mark goes: a public-only set keeps clear of the inner networks
@@ -12,7 +13,7 @@ use mathlib.Core.List.{List, [], _∷_}
 use Prim.Native.Nat.{ℕ, zero, suc, _+_, _-_, max}
 use lib.Dec.{leb}
 use lib.ListN.{length}
-use Rattle.nets.specs.Bits.{Bits}
+use Rattle.nets.specs.Bits.{Bits, digit}
 use Rattle.nets.specs.Lists.{isList}
 use Rattle.nets.specs.Networks.{isFamily, width}
 use Rattle.inner_nets.specs.Inner.{isPublic}
@@ -22,6 +23,7 @@ pub record SetState : Type 0 where
   pub share : ℕ
   pub limit : ℕ
   pub public : Bool
+  pub indexed : Bool
   pub list : List Bits
 
 pub record State : Type 0 where
@@ -42,6 +44,10 @@ used (s ∷ ss) = held s + used ss
 unfoldable pub claimed : List SetState → ℕ
 claimed [] = 0
 claimed (s ∷ ss) = claim s + claimed ss
+
+unfoldable pub indexedOf : List SetState → ℕ
+indexedOf [] = 0
+indexedOf (s ∷ ss) = digit (s .indexed) + indexedOf ss
 
 -- the claims of all sets but the one with the number k
 unfoldable pub claimedBut : ℕ → List SetState → ℕ

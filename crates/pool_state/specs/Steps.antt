@@ -7,6 +7,8 @@
 --   behindAt w b v               the words of the sets behind that set, in words whose nodes begin at b;  Shiftable w b v n: what it takes to move them to where they stand behind n nodes
 --   relinked w k i old new       the words with the roots right after set k, which begins at node i, went from old nodes to new ones
 --   Relink w k old new           what it takes to write them
+--   reindexed w k l              the words with the index of set k right, whose list is l
+--   Settle w k i old new         what it takes to put the roots and the index right;  Settled: v is what that leaves of the words w, whatever list stands there
 use mathlib.Core.Path.{_≡_}
 use mathlib.Core.Bool.{Bool, true, cond}
 use mathlib.Core.List.{List, [], _∷_}
@@ -15,11 +17,12 @@ use lib.Dec.{eqb}
 use lib.ListN.{length, getD, take, drop}
 use Rattle.nets.specs.Bits.{Bits}
 use Rattle.nets.specs.Refusals.{firstNo}
-use Rattle.nodes.specs.Words.{put, place}
-use Rattle.pool_state.specs.Kept.{heldL}
+use Rattle.nets.specs.Tries.{Trie, size}
+use Rattle.nodes.specs.Words.{put, Has, place, enc}
+use Rattle.pool_state.specs.Kept.{heldL, encL, indexL}
 use Rattle.pool_state.specs.States.{State, admits}
-use Rattle.pool_state.specs.Decode.{Decoded, damaged, sound, recordAt, base, decode}
-use Rattle.pool_state.specs.Rules.{verdictAs, surveyOf}
+use Rattle.pool_state.specs.Decode.{Decoded, damaged, sound, recordAt, base, leastWords, decode}
+use Rattle.pool_state.specs.Rules.{verdictAs, surveyOf, tagIn}
 use Rattle.pool_state.specs.Changes.{setAt, grantRules}
 use Rattle.pool_state.specs.declared.Survey.{Survey}
 use Rattle.pool_state.specs.declared.Verdict.{Verdict}
@@ -71,3 +74,31 @@ pub record Relink (w : List ℕ) (k old new : ℕ) : Type 0 where
   pub known : k < getD w 2 0
   pub long : base (getD w 2 0) ≤ length w
   pub roots : (s : ℕ) → k < s → s < getD w 2 0 → Movable old new (getD w (recordAt s) 0)
+
+-- where the index of set k stands, by its tag
+abbrev pub indexIn : List ℕ → ℕ → ℕ
+indexIn w k = leastWords (getD w 2 0) (getD w 3 0) (tagIn w k - 1)
+
+unfoldable pub reindexed : List ℕ → ℕ → List Bits → List ℕ
+reindexed w k l = cond (eqb (tagIn w k) 0) w (put w (indexIn w k) (indexL l))
+
+-- a trie of so many nodes stands at node i, among those of the pool, and the index of set k has its words
+pub record Indexable (w : List ℕ) (k i new : ℕ) : Type 0 where
+  pub known : k < getD w 2 0
+  pub sets : getD w 2 0 ≤ 64
+  pub nodes : getD w 3 0 ≤ 4194304
+  pub tagged : tagIn w k ≤ getD w 4 0
+  pub long : leastWords (getD w 2 0) (getD w 3 0) (getD w 4 0) ≤ length w
+  pub one : 1 ≤ i
+  pub within : i + new ≤ suc (getD w 3 0)
+  pub stands : (t : Trie) × Has w (place (base (getD w 2 0)) i) (enc t) × (size t ≡ new)
+
+pub record Settle (w : List ℕ) (k i old new : ℕ) : Type 0 where
+  pub relink : Relink w k old new
+  pub index : Indexable w k i new
+
+abbrev pub Reindexed : List ℕ → ℕ → ℕ → ℕ → List ℕ → Type 0
+Reindexed w k i new v = (l : List Bits) → Has w (place (base (getD w 2 0)) i) (encL l) → length (encL l) ≡ new → v ≡ reindexed w k l
+
+pub record Settled (w : List ℕ) (k i old new : ℕ) (v : List ℕ) : Type 0 where
+  pub words : (l : List Bits) → Has w (place (base (getD w 2 0)) i) (encL l) → length (encL l) ≡ new → v ≡ reindexed (relinked w k i old new) k l

@@ -35,8 +35,8 @@ use Rattle.salvage_batch.specs.Buffers.{Kept}
 use Rattle.salvage_batch.proofs.Places.{entryNet-cong, networksIn-cong, areClean-cong, entry-ends}
 use Rattle.setfile_sort.proofs.KeyBits.{entryNumber-low}
 use Rattle.salvage_batch.proofs.Sorts.{times, member-times, member-at, address-at, sorts-times, sorts-member, sorts-clean}
-use Rattle.salvage.specs.Parts.{Filling}
-use Rattle.salvage.proofs.Fillings.{filling-all}
+use Rattle.salvage_passes.specs.Parts.{Filling}
+use Rattle.salvage_passes.proofs.Fillings.{filling-all}
 
 -- In a list that rises each member comes once.
 rise-times : (q : Bits) (l : List Bits) → Rise l → times q l ≤ 1

@@ -1,6 +1,4 @@
--- Why: counting and filling by batches, and what the call answers.
-pub mod Batches
-pub mod Fillings
+-- Why: what is tallied, the file of what the passes leave, and what the call answers.
 pub mod Tallies
 pub mod Files
 pub mod Returns

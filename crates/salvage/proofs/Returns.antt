@@ -30,10 +30,11 @@ use Rattle.salvage_lists.proofs.Left.{whole-few, whole-outermost}
 use Rattle.salvage_lists.proofs.Counts.{length-inRangeIn, covered-outermost}
 use Rattle.salvage_batch.specs.Buffers.{Kept}
 use Rattle.salvage.specs.Calls.{familyOf, readOf, entriesOf, leftOf, savedOf, salvageRules, countsAs, countsOf, noCounts, salvagedAs, salvageRule, salvageLeft, Salvages}
-use Rattle.salvage.specs.Parts.{Counted, Filling, Readable}
+use Rattle.salvage_passes.specs.Parts.{Counted, Filling}
+use Rattle.salvage.specs.Parts.{Readable}
 use Rattle.salvage.specs.declared.Counts.{Counts}
 use Rattle.salvage.specs.declared.Salvaged.the-variants as salvaged
-use Rattle.salvage.proofs.Fillings.{filling-start}
+use Rattle.salvage_passes.proofs.Fillings.{filling-start}
 
 -- The number of a call, by its rules.
 module _ (d : List ℕ) (n : ℕ) where

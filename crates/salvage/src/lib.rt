@@ -5,8 +5,6 @@ use nets::families::is_family;
 use setfile_entries::reading;
 use writing::write;
 
-mod counting;
-mod filling;
 mod tallying;
 mod writing;
 

@@ -10,8 +10,8 @@ ghost use Rattle.salvage_batch.specs.Buffers.{Clean, Stands, Thins, Thin
 use crate::order;
 use nets::Net;
 use setfile_entries::reading;
+use setfile_put::writing::put_at;
 use setfile_sort::sorting::sort;
-use setfile_write::writing::put_at;
 
 // How many entries are kept, and the last of them.
 struct Survivors {

@@ -15,8 +15,8 @@ const ROOM: usize = 2000016;
 
 // Writes what is left to the file of that name, and tells the counts.
 fn write(path: &[u8], file: &[u8], c: Counts) {
-    if !tool_io::write_file(path, file) {
-        tool_io::say_failed(b"salvage", path);
+    if !tool_files::write_file(path, file) {
+        tool_files::say_failed(b"salvage", path);
         return;
     }
     telling::tell(c);
@@ -27,7 +27,7 @@ fn save(wreck: &[u8], out: &mut [u8], path: &[u8]) {
     let a = salvage(wreck, out);
     match a {
         Salvaged::Refused(no) => {
-            tool_io::say_refused(b"salvage", no.number());
+            tool_files::say_refused(b"salvage", no.number());
         }
         Salvaged::File(c) => {
             let n = c.bytes as usize;
@@ -41,7 +41,7 @@ fn save_file(wreck: &[u8], out: &mut [u8]) {
     let mut path = io::buffer();
     let n = os::arg(2, &mut path);
     if os::errno() != 0 {
-        tool_io::say_failed(b"salvage", b"SETFILE");
+        tool_files::say_failed(b"salvage", b"SETFILE");
         return;
     }
     save(wreck, out, &path[..n]);
@@ -49,7 +49,7 @@ fn save_file(wreck: &[u8], out: &mut [u8]) {
 
 // The whole work, in the bytes of two files.
 fn run(wreck: &mut [u8], out: &mut [u8]) {
-    let a = tool_io::read_source(b"salvage", 1, b"WRECK", wreck);
+    let a = tool_files::read_source(b"salvage", 1, b"WRECK", wreck);
     if a.whole {
         save_file(&wreck[..a.bytes], out);
     }

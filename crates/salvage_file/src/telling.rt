@@ -20,6 +20,6 @@ fn written(c: Counts) -> bool {
 
 pub fn tell(c: Counts) {
     if !written(c) {
-        tool_io::say_failed(b"salvage", b"standard output");
+        tool_files::say_failed(b"salvage", b"standard output");
     }
 }

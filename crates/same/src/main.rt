@@ -14,11 +14,11 @@ const ROOM: usize = 2000016;
 
 // Both files, in bytes that are lent.
 fn run(first: &mut [u8], second: &mut [u8]) {
-    let a = tool_io::read_source(b"same", 1, b"FIRST", first);
+    let a = tool_files::read_source(b"same", 1, b"FIRST", first);
     if !a.whole {
         return;
     }
-    let b = tool_io::read_source(b"same", 2, b"SECOND", second);
+    let b = tool_files::read_source(b"same", 2, b"SECOND", second);
     if !b.whole {
         return;
     }

@@ -30,7 +30,7 @@ fn written(c: Compared) -> bool {
             b"the same addresses, and the second file is the shortest list\n",
         ),
         Compared::Refused(no) => {
-            tool_io::say_refused(b"same", no.number());
+            tool_files::say_refused(b"same", no.number());
             true
         }
     }
@@ -38,6 +38,6 @@ fn written(c: Compared) -> bool {
 
 pub fn tell(c: Compared) {
     if !written(c) {
-        tool_io::say_failed(b"same", b"standard output");
+        tool_files::say_failed(b"same", b"standard output");
     }
 }

@@ -6,10 +6,10 @@ use libc::STDERR_FILENO;
 use nets::IPV4;
 use nets::IPV6;
 use pool_state::Answer;
-use tool_io::BYTES;
-use tool_io::NODES;
-use tool_io::ROWS;
-use tool_io::WORDS;
+use tool_files::BYTES;
+use tool_files::NODES;
+use tool_files::ROWS;
+use tool_files::WORDS;
 
 // The family that the header of a file says. Another number than 6 is that of IPv4, or of no file.
 fn family_of(bytes: &[u8]) -> u8 {
@@ -22,12 +22,12 @@ fn family_of(bytes: &[u8]) -> u8 {
 // Lays the pool out for the file, and gives its set the list of it. The family, or 0 where it is refused.
 fn load(pool: &mut [u32], bytes: &[u8]) -> u8 {
     let family = family_of(bytes);
-    pool::layout(pool, family, 1, NODES, &[NODES], &[NODES]);
+    pool::layout(pool, family, 1, NODES, &[NODES], &[NODES], 0);
     let loaded = setfile::load(pool, 0, bytes);
     match loaded {
         Answer::Granted(_) => family,
         Answer::Refused(no) => {
-            tool_io::say_refused(b"set-to-lines", no.number());
+            tool_files::say_refused(b"set-to-lines", no.number());
             0
         }
     }
@@ -35,7 +35,7 @@ fn load(pool: &mut [u32], bytes: &[u8]) -> u8 {
 
 // The same from the file that the argument names, by way of lent bytes.
 fn load_file(pool: &mut [u32], bytes: &mut [u8]) -> u8 {
-    let a = tool_io::read_source(b"set-to-lines", 1, b"SETFILE", bytes);
+    let a = tool_files::read_source(b"set-to-lines", 1, b"SETFILE", bytes);
     if !a.whole {
         return 0;
     }
@@ -44,8 +44,8 @@ fn load_file(pool: &mut [u32], bytes: &mut [u8]) -> u8 {
 
 // Prints the networks of the set, by way of lent rows.
 fn print(pool: &[u32], family: u8, rows: &mut [u64]) {
-    if !tool_io::print_set(pool, family, 0, rows) {
-        tool_io::say_failed(b"set-to-lines", b"standard output");
+    if !tool_print::print_set(pool, family, 0, rows) {
+        tool_files::say_failed(b"set-to-lines", b"standard output");
     }
 }
 

@@ -18,19 +18,20 @@ use Rattle.setfile_format.specs.Files.{readFile, file}
 use Rattle.setfile_format.proofs.RoundTrip.{readFile-is}
 use Rattle.setfile_order.specs.Flow.{headAs}
 use Rattle.setfile_order.specs.declared.Head.{Head}
-use Rattle.setfile_compare.specs.declared.sides.Side.{Side}
-use Rattle.setfile_compare.specs.declared.words.Address.{Address}
+use Rattle.setfile_sides.specs.declared.sides.Side.{Side}
+use Rattle.setfile_sides.specs.declared.words.Address.{Address}
 use Rattle.setfile_compare.specs.declared.Holder.{Holder}
 use Rattle.setfile_compare.specs.declared.Holder.the-variants as holder
 use Rattle.setfile_compare.specs.declared.Compared.the-variants as compare
 use Rattle.setfile_compare.specs.declared.abreast.Meet.{Meet}
 use Rattle.setfile_compare.specs.declared.abreast.Meet.the-variants as meet
 use Rattle.setfile_compare.specs.Comparing.{isShortest, comparedAs, verdict}
-use Rattle.setfile_compare.specs.Abreast.{lastOf, tight, begins, Begun, Stands, Along, Reaches, passed, fromBehind, Ahead, Meets}
-use Rattle.setfile_compare.proofs.Ranges.{last-high, holds}
+use Rattle.setfile_sides.specs.Sides.{lastOf, tight, begins, Begun, Stands, Along, Reaches, passed, fromBehind}
+use Rattle.setfile_compare.specs.Abreast.{Ahead, Meets}
+use Rattle.setfile_sides.proofs.Ranges.{last-high, holds}
 use Rattle.setfile_compare.proofs.Lefts.{From, Abreast, abreast-begin, abreast-swap, abreast-step, abreast-over, ahead-holds, ahead-below, passed-later}
 use Rattle.setfile_compare.proofs.Tight.{tight-shortest}
-use Rattle.setfile_compare.proofs.Opened.{spread-flat}
+use Rattle.setfile_sides.proofs.Opened.{spread-flat}
 use Rattle.setfile_compare.proofs.Verdicts.{net-address, verdict-same, verdict-at}
 
 -- How two sides go on.

@@ -11,8 +11,9 @@ use lib.ListN.{length}
 use borrow.Author.Tests.{ltb-true, ltb-false}
 use Rattle.nets.specs.Bits.{Bits}
 use Rattle.nets.proofs.Strings.{bool-iff}
-use Rattle.setfile_compare.specs.Abreast.{lastOf, begins, Reaches, passed, fromBehind, Ahead}
-use Rattle.setfile_compare.proofs.Ranges.{between, between-is, is-between, between-not, first-last, Spread, holds, holds-below}
+use Rattle.setfile_sides.specs.Sides.{lastOf, begins, Reaches, passed, fromBehind}
+use Rattle.setfile_compare.specs.Abreast.{Ahead}
+use Rattle.setfile_sides.proofs.Ranges.{between, between-is, is-between, between-not, first-last, Spread, holds, holds-below}
 
 -- what the networks hold, of the first of them from x on
 abbrev pub left : ℕ → ℕ → List Bits → ℕ → Bool

@@ -21,7 +21,7 @@ use Rattle.nets.proofs.ShortestOne.{shortest-is}
 use Rattle.address_order.specs.Streams.{flat, shared}
 use Rattle.address_order.proofs.Flat.{halves}
 use Rattle.setfile_compare.specs.Comparing.{isShortest}
-use Rattle.setfile_compare.specs.Abreast.{pairs, tight}
+use Rattle.setfile_sides.specs.Sides.{pairs, tight}
 
 -- a string without bits, as the first and as the last of a list
 abbrev isNil : Bits → Bool

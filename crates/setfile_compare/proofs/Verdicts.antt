@@ -16,8 +16,8 @@ use Rattle.nets.proofs.TwoWords.{netOf-value}
 use Rattle.address_order.specs.Streams.{flat}
 use Rattle.setfile_compare.specs.Comparing.{differ, isShortest, verdict}
 use Rattle.setfile_compare.proofs.Smallest.{least-is}
-use Rattle.setfile_compare.proofs.Ranges.{address-of, holds}
-use Rattle.setfile_compare.proofs.Opened.{covers-flat}
+use Rattle.setfile_sides.proofs.Ranges.{address-of, holds}
+use Rattle.setfile_sides.proofs.Opened.{covers-flat}
 
 -- An address by its words, as a network.
 pub net-address : (f hi lo : ℕ) → lo < 2 ^ 64 → value hi lo < 2 ^ width f → netWords f hi lo (width f) ≡ netFrom f (bits (width f) (value hi lo))

@@ -6,17 +6,18 @@ ghost use Rattle.nets.specs.Bits.{Bits};
 ghost use Rattle.nets.specs.Networks.{width};
 ghost use Rattle.setfile_format.specs.Files.{readFile, file};
 ghost use Rattle.setfile_compare.specs.Comparing.{comparedAs, verdict};
-ghost use Rattle.setfile_compare.specs.Abreast.{Stands, Meets};
+ghost use Rattle.setfile_sides.specs.Sides.{Stands};
+ghost use Rattle.setfile_compare.specs.Abreast.{Meets};
 use crate::Compared;
 use crate::Holder;
-use crate::sides::Side;
-use crate::sides::begin;
-use crate::sides::pass;
-use crate::words::Address;
-use crate::words::less;
 use nets::Net;
 use nets::families::width;
 use setfile_lanes::lanes::CURSORS;
+use setfile_sides::sides::Side;
+use setfile_sides::sides::begin;
+use setfile_sides::sides::pass;
+use setfile_sides::words::Address;
+use setfile_sides::words::less;
 
 // Both are at their end; only this file holds this address, the next that any of them holds; or both hold the addresses up to this one.
 pub enum Meet {

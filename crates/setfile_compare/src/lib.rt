@@ -9,8 +9,6 @@ use setfile_order::Checked;
 use setfile_order::check;
 
 mod abreast;
-mod sides;
-mod words;
 
 // One of the two files.
 pub enum Holder {

@@ -1,23 +1,22 @@
 -- The trie between two edges, level by level: below the bit at which the edges part each of them leaves at most one network aside. Assumes nothing.
-use mathlib.Core.Bool.{Bool, true, false, not, cond, _&&_, _||_, and-false, and-true, false≢true, Bool·beq as same}
+use mathlib.Core.Bool.{Bool, true, false, not, cond, _&&_, and-false, and-true, false≢true, Bool·beq as same}
 use mathlib.Core.List.{List, [], _∷_, _++_, map, append-nil, map-append}
 use mathlib.Core.Path.{_≡_, refl, ap, ap₂, sym, _∙_}
-use Prim.Native.Nat.{ℕ, zero, suc, _+_, _*_, _^_, _≤_, _<_, max}
+use Prim.Native.Nat.{ℕ, zero, suc, _^_, _≤_, _<_, max}
 use native.Mathlib.Decide.{decLt}
 use native.Mathlib.Omega.{arith}
 use lib.Dec.{ltb}
 use lib.ListN.{length, length-append}
 use borrow.Author.Tests.{lt-ltb, le-ltb}
-use Rattle.nets.specs.Bits.{Bits, equal, digit, val}
-use Rattle.nets.specs.Tries.{Trie, none, node, leaf, bare, isLeaf, side, glue, levels, level, below, listOf, coversT}
-use Rattle.nets.proofs.Strings.{same-refl, cond-both}
+use Rattle.nets.specs.Bits.{Bits, equal, val}
+use Rattle.nets.specs.Tries.{Trie, none, node, leaf, bare, isLeaf, side, glue, levels, level, coversT}
+use Rattle.nets.proofs.Strings.{cond-both}
 use Rattle.nets.proofs.Order.{val-high}
-use Rattle.nets.proofs.Levels.{levels-side}
 use Rattle.nets.proofs.Listing.{coversT-none, coversT-leaf}
 use Rattle.nets.proofs.Glue.{coversT-glue, levels-glue}
 use Rattle.nets.proofs.Simplifying.{Simple, simple-glue}
 use Rattle.trie_paths.specs.Spans.{snoc}
-use Rattle.setfile_range.specs.Edges.{sides, beyond, between, opened, aside, asides, parted}
+use Rattle.setfile_range.specs.Edges.{sides, beyond, between, aside}
 
 -- What is glued from halves that are not both full: it is no leaf, and its levels are theirs.
 level-none : (k : ℕ) → level bare k none ≡ []

@@ -1,8 +1,8 @@
 -- The file of a range: what lies between its edges is its networks, they are few enough, and header and entries are their file. Assumes nothing.
-use mathlib.Core.Bool.{Bool, true, not}
+use mathlib.Core.Bool.{not}
 use mathlib.Core.List.{List, []}
-use mathlib.Core.Path.{_≡_, refl, ap, ap₂, sym, _∙_}
-use Prim.Native.Nat.{ℕ, _+_, _-_, _*_, _%_, _^_, _≤_, _<_}
+use mathlib.Core.Path.{_≡_, ap, sym, _∙_}
+use Prim.Native.Nat.{ℕ, _+_, _-_, _≤_}
 use native.Mathlib.Decide.{ℕ-discrete}
 use native.Mathlib.Omega.{arith}
 use lib.Dec.{eqb}
@@ -14,11 +14,11 @@ use Rattle.nets.proofs.Numbers.{width-4, width-6}
 use Rattle.nodes.specs.Words.{put}
 use Rattle.nodes.proofs.Put.{put-before-at}
 use Rattle.ranges.specs.Ranges.{Range, range}
-use Rattle.ranges.specs.Blocks.{rangeT, netsOf}
+use Rattle.ranges.specs.Blocks.{netsOf}
 use Rattle.ranges.specs.Addresses.{addressOf, afterOf}
 use Rattle.ranges.specs.declared.addresses.Address.{Address}
 use Rattle.ranges.proofs.OfRanges.{isList-nets, nets-few}
-use Rattle.setfile_format.specs.Files.{fileBytes, entryBytes, mostEntries, entriesOf, headerOf, fileOf, file, readFile}
+use Rattle.setfile_format.specs.Files.{fileBytes, entriesOf, headerOf, fileOf, file, readFile}
 use Rattle.setfile_format.proofs.Written.{length-headerOf, length-fileOf, entryBytes-4, entryBytes-6, fileBytes-mono, readFile-fileOf}
 use Rattle.setfile_range.specs.Edges.{opened, On, Fits, Lays, Edges, Rangeable, spanOf, rangeFile}
 use Rattle.setfile_range.specs.declared.edges.Edge.{Edge}

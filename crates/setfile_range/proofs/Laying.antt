@@ -9,10 +9,10 @@ use native.Mathlib.Omega.{arith}
 use lib.Dec.{ltb}
 use lib.ListN.{length, length-append}
 use Rattle.nets.specs.Bits.{Bits, equal, val}
-use Rattle.nets.specs.Tries.{Trie, bare, levels, level, below, listOf}
+use Rattle.nets.specs.Tries.{Trie, bare, level, below, listOf}
 use Rattle.nets.specs.Networks.{width, netFrom}
 use Rattle.nets.specs.declared.Net.{Net}
-use Rattle.nets.proofs.Strings.{same-is, same-refl}
+use Rattle.nets.proofs.Strings.{same-refl}
 use Rattle.nets.proofs.Handing.{length-bitsLeft}
 use Rattle.nodes.specs.Words.{put}
 use Rattle.nodes.proofs.Put.{length-put, put-nil, put-behind-at}
@@ -21,7 +21,6 @@ use Rattle.trie_paths.proofs.Paths.{path-is, length-snoc}
 use Rattle.trie_paths.proofs.Levels.{below-listOf}
 use Rattle.setfile_format.specs.Files.{fileBytes, mostEntries, entryBytes, entryOf, entriesOf}
 use Rattle.setfile_format.proofs.Written.{length-entriesOf, fileBytes-mono, entryAt-next}
-use Rattle.setfile_write.specs.Saving.{Entry, EntryPut}
 use Rattle.setfile_range.specs.Edges.{opened, aside, asideOf, asides, parted, On, Fits, Lays, Both, Edges}
 use Rattle.setfile_range.specs.declared.edges.Edge.{Edge}
 use Rattle.setfile_range.proofs.OfRange.{level-opened, level-start, levels-opened}

@@ -2,7 +2,7 @@
 use mathlib.Core.Bool.{Bool, true, false, not, cond, _&&_, _||_, and-true, false≢true}
 use mathlib.Core.List.{List, [], _∷_, _++_, append-nil}
 use mathlib.Core.Path.{_≡_, refl, ap, ap₂, sym, _∙_}
-use Prim.Native.Nat.{ℕ, zero, suc, _+_, _-_, _*_, _%_, _^_, _≤_, _<_}
+use Prim.Native.Nat.{ℕ, zero, suc, _+_, _-_, _%_, _^_, _≤_, _<_}
 use native.Mathlib.Decide.{ℕ-discrete, decLt}
 use native.Mathlib.Nat.{mod-eq-of-lt, mod-self}
 use native.Mathlib.Omega.{arith}
@@ -10,12 +10,12 @@ use lib.Dec.{eqb, leb, ltb}
 use lib.ListN.{length}
 use borrow.Author.Tests.{lt-ltb, le-ltb, le-leb, lt-leb, eq-eqb, ne-eqb}
 use Rattle.nets.specs.Bits.{Bits, equal, val, bits}
-use Rattle.nets.specs.Tries.{Trie, leaf, bare, levels, level, listOf, coversT}
+use Rattle.nets.specs.Tries.{Trie, bare, levels, level, coversT}
 use Rattle.nets.proofs.Order.{val-high}
 use Rattle.nets.proofs.Numbers.{length-bits, val-bits}
 use Rattle.nets.proofs.Simplifying.{Simple, simple-one}
-use Rattle.ranges.specs.Ranges.{Range, range, holds}
-use Rattle.ranges.specs.Blocks.{rangeT, netsOf}
+use Rattle.ranges.specs.Ranges.{range, holds}
+use Rattle.ranges.specs.Blocks.{rangeT}
 use Rattle.ranges.proofs.InBlocks.{levels-range, simple-range, covers-range, range-whole}
 use Rattle.setfile_range.specs.Edges.{beyond, between, opened, aside, asideOf, asides, parted}
 use Rattle.setfile_range.proofs.Asides.{level-leaf, level-zero, leaf-beyond, leaf-between, level-beyond, level-between, covers-beyond, covers-between, simple-beyond, simple-between, levels-beyond, levels-between}

@@ -1,18 +1,18 @@
 -- Edges on the way down: the addresses in front of a range and behind it, and one bit further. Assumes nothing.
-use mathlib.Core.Bool.{Bool, true, false, not, _||_}
-use mathlib.Core.List.{List, [], _∷_, _++_, append-assoc}
-use mathlib.Core.Path.{_≡_, refl, ap, sym, _∙_}
-use Prim.Native.Nat.{ℕ, suc, _+_, _-_, _*_, _%_, _^_, _≤_, _<_}
+use mathlib.Core.Bool.{Bool, true, not}
+use mathlib.Core.List.{List, [], _∷_, append-assoc}
+use mathlib.Core.Path.{_≡_, ap, sym, _∙_}
+use Prim.Native.Nat.{ℕ, suc, _+_, _-_, _^_, _<_}
 use native.Mathlib.Nat.{mod-lt}
 use native.Mathlib.Omega.{arith}
 use lib.Dec.{eqb}
 use lib.ListN.{length, take, length-append}
 use lib.Pow.{pow-pos, split}
 use lib.Seq.{take-length}
-use borrow.Author.Tests.{eq-eqb, ne-eqb}
+use borrow.Author.Tests.{ne-eqb}
 use Rattle.nets.specs.Bits.{Bits, bits}
 use Rattle.nets.specs.Networks.{isFamily, width, value, netWords, netBits, netFrom, refusalOf, bitsLeft, startOf, noBits, prefixAs, nextAs, nextOf}
-use Rattle.nets.specs.Refusals.{answered, number}
+use Rattle.nets.specs.Refusals.{answered}
 use Rattle.nets.specs.declared.Net.{Net}
 use Rattle.nets.specs.declared.NextBit.{NextBit}
 use Rattle.nets.specs.declared.NextBit.the-variants.{Bit, End}
@@ -22,7 +22,7 @@ use Rattle.nets.specs.declared.PrefixBits.{PrefixBits}
 use Rattle.nets.specs.declared.Refusal.{Refusal}
 use Rattle.nets.proofs.Answers.{number-some, prefix-bits, prefix-refused}
 use Rattle.nets.proofs.Handing.{Hands, hands, hands-end}
-use Rattle.nets.proofs.Numbers.{width-le, length-bits, is-refusalOf, bitsLeft-start, startOf-few}
+use Rattle.nets.proofs.Numbers.{length-bits, is-refusalOf, bitsLeft-start, startOf-few}
 use Rattle.ranges.specs.Addresses.{addressOf, wordsOf, afterOf}
 use Rattle.ranges.specs.declared.addresses.Address.{Address}
 use Rattle.ranges.proofs.Words.{words-value}

@@ -8,8 +8,8 @@ use edges::onward;
 use edges::right_edge;
 use ranges::addresses::Address;
 use setfile_entries::reading::file_bytes;
+use setfile_put::writing::put_at;
 use setfile_write::saving::put_header;
-use setfile_write::writing::put_at;
 use trie_paths::halves;
 ghost use mathlib.Core.Path.{_≡_};
 ghost use mathlib.Core.Bool.{Bool, true, not, cond, _||_, Bool·beq as same};
@@ -23,7 +23,7 @@ ghost use Rattle.nodes.specs.Words.{put};
 ghost use Rattle.setfile_format.specs.Files.{fileBytes};
 ghost use Rattle.setfile_range.specs.Edges.{opened, asideOf, asides, On, Fits, Lays, Both, Edges, Rangeable, rangeFile};
 
-pub mod edges;
+mod edges;
 
 // The bytes of the largest file of a range: 254 networks of IPv6.
 pub const BYTES: usize = 4334;

@@ -1,3 +1,2 @@
--- Why: numbers and entries as bytes, and entries at their places.
-pub mod Stores
+-- Why: entries at their places.
 pub mod EntryForm

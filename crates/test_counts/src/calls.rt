@@ -83,7 +83,7 @@ pub fn letter(row: &[u8]) -> u8 {
 }
 
 // The network whose address stands behind the call and the set.
-fn net(row: &[u8]) -> Net {
+pub fn net(row: &[u8]) -> Net {
     let w = word_at(row, 2);
     Net {
         family: w.form,
@@ -111,12 +111,13 @@ fn three(row: &[u8], place: usize) -> [u32; 3]
     ]
 }
 
-// Lays out for a family, one to three sets and so many nodes, with a share and a limit for each set.
+// Lays out for a family, one to three sets and so many nodes, with a share and a limit for each set; behind three of these may stand the marks of the indexed sets.
 fn lay(pool: &mut [u32], row: &[u8]) -> Answer {
     let family = (taken(row, 1) % 256) as u8;
     let sets = taken(row, 2);
     let shares = three(row, 4);
     let limits = three(row, 5);
+    let indexed = taken(row, 10) as u64;
     if sets > 3 {
         return Answer::Refused(Refusal::BadSetup);
     }
@@ -128,6 +129,7 @@ fn lay(pool: &mut [u32], row: &[u8]) -> Answer {
         taken(row, 3),
         &shares[0..n],
         &limits[0..n],
+        indexed,
     )
 }
 

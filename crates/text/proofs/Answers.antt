@@ -19,7 +19,7 @@ use Rattle.nets.specs.declared.Taken.the-variants as taken
 use Rattle.nets.specs.declared.Entered.{Entered}
 use Rattle.nets.specs.declared.Entered.the-variants as entering
 use Rattle.text.specs.Ipv4.{lineOf}
-use Rattle.text.specs.Places.{Stored}
+use Rattle.text_decimal.specs.Places.{Stored}
 use Rattle.text.specs.Answers.{enteredLine, noneWritten, writtenAs, lineRefusal, overBytes, WroteOver, Wrote}
 use Rattle.text.specs.declared.Written.{Written}
 use Rattle.text.specs.declared.Written.the-variants.{Bytes, Refused}

@@ -11,13 +11,13 @@ use lib.ListN.{length}
 use borrow.Author.Tests.{leb-true, le-leb, not-false}
 use Rattle.nets.proofs.Strings.{and-left, and-right}
 use Rattle.nets.specs.declared.Net.{Net}
-use Rattle.text.specs.Spans.{allOf, startsOf}
-use Rattle.text.specs.Decimal.{isDigit, allDigits, decimal, plain, isNumber}
+use Rattle.text_decimal.specs.Spans.{allOf, startsOf}
+use Rattle.text_decimal.specs.Decimal.{isDigit, allDigits, decimal, plain, isNumber}
 use Rattle.text.specs.DecOctet.{isDecOctet}
 use Rattle.text.specs.Ipv4.{dot, slash, joined, Line, IsLine, badText, readLine}
-use Rattle.text.specs.Places.{startsDigit, startsZero}
+use Rattle.text_decimal.specs.Places.{startsDigit, startsZero}
 use Rattle.text.specs.Before.{wasNumber, WasLine, zeroLed, zeroLedFrom}
-use Rattle.text.proofs.Numbers.{isNumber-is, is-isNumber}
+use Rattle.text_decimal.proofs.Numbers.{isNumber-is, is-isNumber}
 use Rattle.text.proofs.Digits.{length-number, length-number-two}
 use Rattle.text.proofs.DecOctet.{octet-number, number-octet}
 use Rattle.text.proofs.Grammar.{badText-some, readLine-accepts, readLine-refuses}

@@ -10,11 +10,11 @@ use lib.Dec.{eqb, leb, ltb}
 use lib.ListN.{length}
 use borrow.Author.Tests.{leb-true, le-leb, lt-leb, eqb-false, ne-eqb, ltb-true, ltb-false, not-true}
 use Rattle.nets.proofs.Strings.{and-left, and-right, and-both, or-cases, bool-iff}
-use Rattle.text.specs.Spans.{allOf}
-use Rattle.text.specs.Decimal.{isDigit, allDigits, decimal, decimalFrom, plain, isNumber, byteOf, digitsOf}
+use Rattle.text_decimal.specs.Spans.{allOf}
+use Rattle.text_decimal.specs.Decimal.{isDigit, allDigits, decimal, decimalFrom, plain, isNumber, byteOf, digitsOf}
 use Rattle.text.specs.DecOctet.{within, follows, followsOne, decOctet, isDecOctet}
-use Rattle.text.proofs.Numbers.{isDigit-is, is-isDigit, isNumber-is, is-isNumber}
-use Rattle.text.proofs.Writing.{digitsOf-cases}
+use Rattle.text_decimal.proofs.Numbers.{isDigit-is, is-isDigit, isNumber-is, is-isNumber}
+use Rattle.text_decimal.proofs.Writing.{digitsOf-cases}
 use Rattle.text.proofs.Digits.{number-known}
 
 -- The first and the last bytes of an alternative.

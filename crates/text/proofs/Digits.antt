@@ -8,10 +8,10 @@ use lib.Dec.{eqb}
 use lib.ListN.{length}
 use borrow.Author.Tests.{eqb-false, not-true}
 use Rattle.nets.proofs.Strings.{and-left, and-right}
-use Rattle.text.specs.Spans.{allOf}
-use Rattle.text.specs.Decimal.{isDigit, allDigits, decimal, decimalFrom, plain, isNumber, byteOf, digitsOf}
-use Rattle.text.proofs.Numbers.{isDigit-is, decimalFrom-least, isNumber-is}
-use Rattle.text.proofs.Writing.{digitsOf-one, digitsOf-two, digitsOf-three, length-digitsOf, length-digitsOf-two}
+use Rattle.text_decimal.specs.Spans.{allOf}
+use Rattle.text_decimal.specs.Decimal.{isDigit, allDigits, decimal, decimalFrom, plain, isNumber, byteOf, digitsOf}
+use Rattle.text_decimal.proofs.Numbers.{isDigit-is, decimalFrom-least, isNumber-is}
+use Rattle.text_decimal.proofs.Writing.{digitsOf-one, digitsOf-two, digitsOf-three, length-digitsOf, length-digitsOf-two}
 
 -- Digits by their number.
 one-digit : (c x : ℕ) → (48 ≤ c) × (c ≤ 57) → x ≡ c - 48 → c ∷ [] ≡ digitsOf x

@@ -9,8 +9,8 @@ use lib.ListN.{replicate}
 use Rattle.nets.specs.Bits.{bits}
 use Rattle.nets.specs.Networks.{width, netBits, netFrom, cleared, hasBitPast}
 use Rattle.nets.specs.declared.Net.{Net}
-use Rattle.text.specs.Spans.{allOf, leadingOf, behindOf}
-use Rattle.text.specs.Decimal.{isDigit, decimalFrom, plain, isNumber, readNumber, digitsOf}
+use Rattle.text_decimal.specs.Spans.{allOf, leadingOf, behindOf}
+use Rattle.text_decimal.specs.Decimal.{isDigit, decimalFrom, plain, isNumber, readNumber, digitsOf}
 use Rattle.text.specs.Ipv4.{address, ipv4, joined, readNext, readQuad, badText, readLine, lineAs, lineOf}
 use Rattle.text.specs.Answers.{enteredLine}
 

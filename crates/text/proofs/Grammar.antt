@@ -9,11 +9,11 @@ use lib.Dec.{eqb}
 use lib.ListN.{length}
 use borrow.Author.Tests.{eqb-true, eq-eqb}
 use Rattle.nets.specs.declared.Net.{Net}
-use Rattle.text.specs.Spans.{startsOf}
-use Rattle.text.specs.Decimal.{isDigit, decimal, isNumber, Parsed, parsed, nothing, andThen, readNumber}
+use Rattle.text_decimal.specs.Spans.{startsOf}
+use Rattle.text_decimal.specs.Decimal.{isDigit, decimal, isNumber, Parsed, parsed, nothing, andThen, readNumber}
 use Rattle.text.specs.Ipv4.{dot, slash, address, ipv4, joined, IsLine, endedBy, readNext, readQuad, badText, withLength, withAddress, readLine}
-use Rattle.text.specs.Places.{startsDigit}
-use Rattle.text.proofs.Numbers.{readNumber-append, readNumber-is}
+use Rattle.text_decimal.specs.Places.{startsDigit}
+use Rattle.text_decimal.proofs.Numbers.{readNumber-append, readNumber-is}
 use Rattle.text.proofs.Writing.{length-joined}
 use Rattle.text.proofs.Digits.{length-number, length-number-two}
 use Rattle.text.proofs.DecOctet.{octet-number, number-octet}

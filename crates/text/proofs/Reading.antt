@@ -7,11 +7,11 @@ use native.Mathlib.Numerals.{add-one}
 use lib.Dec.{eqb}
 use lib.ListN.{length, drop, getD, drop-of-length-le}
 use lib.Seq.{drop-cons}
-use Rattle.text.specs.Decimal.{Parsed, parsed, nothing, readNumber}
+use Rattle.text_decimal.specs.Decimal.{Parsed, parsed, nothing, readNumber}
 use Rattle.text.specs.Ipv4.{ipv4, endedBy, readNext, readQuad, badText, withLength, readLine}
-use Rattle.text.specs.Places.{startsByte, readAs}
-use Rattle.text.specs.declared.cursor.Read.{Read}
-use Rattle.text.proofs.Places.{starts-within}
+use Rattle.text_decimal.specs.Places.{startsByte, readAs}
+use Rattle.text_decimal.specs.declared.cursor.Read.{Read}
+use Rattle.text_decimal.proofs.Places.{starts-within}
 
 -- What an answer has found, once it is known which one it is.
 pub readAs-is : (s : List ℕ) {r y : Read} {x : Parsed} → r ≡ y → readAs s r ≡ x → readAs s y ≡ x

@@ -21,13 +21,14 @@ use Rattle.nets.specs.declared.Refusal.{Refusal}
 use Rattle.nets.specs.declared.Taken.{Taken}
 use Rattle.nets.specs.declared.Taken.the-variants as taken
 use Rattle.nets.specs.declared.Entered.{Entered}
-use Rattle.text.specs.Decimal.{decimal, digitsOf}
+use Rattle.text_decimal.specs.Decimal.{decimal, digitsOf}
 use Rattle.text.specs.DecOctet.{isDecOctet}
 use Rattle.text.specs.Ipv4.{address, ipv4, IsLine, readLine, octetOf, lineAs, lineOf}
 use Rattle.text.specs.Answers.{enteredLine, noneWritten, lineRefusal, overBytes, Wrote}
 use Rattle.text.specs.declared.Written.the-variants.{Bytes}
-use Rattle.text.proofs.Numbers.{isNumber-is}
-use Rattle.text.proofs.Writing.{length-digitsOf-two, isNumber-digitsOf, decimal-digitsOf, length-lineAs}
+use Rattle.text_decimal.proofs.Numbers.{isNumber-is}
+use Rattle.text_decimal.proofs.Writing.{length-digitsOf-two, isNumber-digitsOf, decimal-digitsOf}
+use Rattle.text.proofs.Writing.{length-lineAs}
 use Rattle.text.proofs.Digits.{number-known}
 use Rattle.text.proofs.DecOctet.{octet-number, number-octet}
 use Rattle.text.proofs.Grammar.{readLine-accepts}

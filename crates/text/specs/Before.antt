@@ -10,9 +10,9 @@ use Prim.Native.Nat.{ℕ}
 use lib.Dec.{leb}
 use lib.ListN.{length}
 use Rattle.nets.specs.declared.Net.{Net}
-use Rattle.text.specs.Decimal.{isDigit, allDigits, decimal}
+use Rattle.text_decimal.specs.Decimal.{isDigit, allDigits, decimal}
 use Rattle.text.specs.Ipv4.{Line}
-use Rattle.text.specs.Places.{startsZero}
+use Rattle.text_decimal.specs.Places.{startsZero}
 
 unfoldable pub wasNumber : ℕ → ℕ → List ℕ → Bool
 wasNumber k m s = allDigits s && (leb 1 (length s) && (leb (length s) k && leb (decimal s) m))

@@ -18,7 +18,7 @@ use Rattle.nets.specs.Networks.{netWords, noNet, cleared}
 use Rattle.nets.specs.Refusals.{number}
 use Rattle.nets.specs.declared.Net.{Net}
 use Rattle.nets.specs.declared.Refusal.the-variants.{BadText}
-use Rattle.text.specs.Decimal.{Parsed, parsed, nothing, andThen, decimal, isNumber, readNumber, digitsOf}
+use Rattle.text_decimal.specs.Decimal.{Parsed, parsed, nothing, andThen, decimal, isNumber, readNumber, digitsOf}
 use Rattle.text.specs.DecOctet.{isDecOctet}
 
 abbrev pub dot : ℕ

@@ -5,14 +5,14 @@ ghost use Prim.Native.Nat.{_+_, _*_, _/_, _%_, _^_, _≤_, _<_};
 ghost use lib.ListN.{length, drop};
 ghost use Rattle.nets.specs.Networks.{takenAs};
 ghost use Rattle.text.specs.Ipv4.{readNext, readQuad, readLine, octetOf, lineAs};
-ghost use Rattle.text.specs.Places.{readAs, valueOf, Stored};
-use crate::cursor;
-use crate::cursor::Cursor;
-use crate::cursor::Read;
-use crate::decimal;
+ghost use Rattle.text_decimal.specs.Places.{readAs, valueOf, Stored};
 use nets::Net;
 use nets::Refusal;
 use nets::Taken;
+use text_decimal::cursor;
+use text_decimal::cursor::Cursor;
+use text_decimal::cursor::Read;
+use text_decimal::decimal;
 
 // What was read with one more of the four numbers behind it, and the byte that ends that number.
 pub fn next(s: &[u8], read: Read, end: u8) -> Read

@@ -8,8 +8,6 @@ use nets::Net;
 use nets::Refusal;
 use nets::Taken;
 
-pub mod cursor;
-pub mod decimal;
 pub mod ipv4;
 
 // How many bytes were written, and whether a set bit past the length was cleared.

@@ -18,7 +18,7 @@ use Rattle.nets.specs.declared.Net.{Net}
 use Rattle.nets.specs.declared.Refusal.{Refusal}
 use Rattle.nets.specs.declared.Entered.{Entered}
 use Rattle.nets.specs.declared.Entered.the-variants as entering
-use Rattle.text.specs.Spans.{leadingOf}
+use Rattle.text_decimal.specs.Spans.{leadingOf}
 use Rattle.text_either.specs.Either.{readEither, enteredEither}
 use Rattle.text_either.specs.First.{inLine, firstLine, familyIn, firstFamily}
 use Rattle.text_either.proofs.Reading.{enteredEither-no, readEither-long}

@@ -11,14 +11,15 @@ use Rattle.nets.proofs.Strings.{and-left, and-right}
 use Rattle.nets.proofs.TwoWords.{netOf-value}
 use Rattle.nets.specs.Networks.{width, value, netWords, netOf, address, bigEndian, refusalOf}
 use Rattle.nets.specs.declared.Net.{Net}
-use Rattle.text.specs.Spans.{allOf}
-use Rattle.text.specs.Decimal.{decimal, digitsOf}
-use Rattle.text.proofs.Spans.{all-append}
-use Rattle.text.proofs.Writing.{isNumber-digitsOf, decimal-digitsOf}
+use Rattle.text_decimal.specs.Spans.{allOf}
+use Rattle.text_decimal.specs.Decimal.{decimal, digitsOf}
+use Rattle.text_decimal.proofs.Spans.{all-append}
+use Rattle.text_decimal.proofs.Writing.{isNumber-digitsOf, decimal-digitsOf}
 use Rattle.text_hex.specs.Hex.{hexNumber, hexDigitsOf}
 use Rattle.text_hex.proofs.Written.{length-hexDigitsOf, allHexDigits-hexDigitsOf, hexNumber-hexDigitsOf}
-use Rattle.text_ipv6_read.specs.Ipv6.{isGroup, Pieces, group, more, Side, empty, pieces, around, IsAddress, full, shortened, IsLine6}
-use Rattle.text_ipv6_read.proofs.Groups.{is-isGroup}
+use Rattle.text_ipv6_runs.specs.Runs.{isGroup}
+use Rattle.text_ipv6_read.specs.Ipv6.{Pieces, group, more, Side, empty, pieces, around, IsAddress, full, shortened, IsLine6}
+use Rattle.text_ipv6_runs.proofs.Groups.{is-isGroup}
 use Rattle.text_ipv6_write.specs.Ipv6.{groupsOf, joined, digits, textOf, lineAs6}
 use Rattle.text_ipv6_write.proofs.Plain.{is16}
 use Rattle.text_ipv6_write.proofs.Lines.{length-groupsOf, all-groupsOf, address-back, Outline, all, apart, joined-one, joined-more, outline}

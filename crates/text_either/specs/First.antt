@@ -6,7 +6,7 @@ use mathlib.Core.Bool.{Bool, not, cond}
 use mathlib.Core.List.{List}
 use Prim.Native.Nat.{ℕ}
 use lib.Dec.{eqb}
-use Rattle.text.specs.Spans.{leadingOf}
+use Rattle.text_decimal.specs.Spans.{leadingOf}
 use Rattle.text_either.specs.Either.{readEither}
 
 abbrev pub inLine : ℕ → Bool

@@ -4,7 +4,7 @@ ghost use mathlib.Core.Path.{_≡_};
 ghost use Rattle.nets.specs.Networks.{takenAs, enteredAs};
 ghost use Prim.Native.Nat.{_≤_};
 ghost use lib.ListN.{length};
-ghost use Rattle.text.specs.Places.{Stored};
+ghost use Rattle.text_decimal.specs.Places.{Stored};
 ghost use Rattle.text_either.specs.Either.{readEither, enteredEither, eitherAs, WroteEither};
 use nets::Entered;
 use nets::IPV4;

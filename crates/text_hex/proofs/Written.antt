@@ -7,7 +7,7 @@ use native.Mathlib.Omega.{arith}
 use lib.Dec.{ltb}
 use lib.ListN.{length}
 use borrow.Author.Tests.{ltb-true, ltb-false, lt-ltb, le-ltb}
-use Rattle.text.specs.Spans.{allOf}
+use Rattle.text_decimal.specs.Spans.{allOf}
 use Rattle.text_hex.specs.Hex.{isHexDigit, hexValue, allHexDigits, hexNumber, hexNumberFrom, hexByteOf, hexDigitsOf}
 use Rattle.text_hex.proofs.Digits.{within-le, within-past, hexValue-digit, hexValue-lower}
 

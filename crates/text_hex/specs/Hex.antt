@@ -11,7 +11,7 @@ use mathlib.Core.Bool.{Bool, cond, _&&_, _||_}
 use mathlib.Core.List.{List, [], _∷_}
 use Prim.Native.Nat.{ℕ, _+_, _-_, _*_, _/_, _%_}
 use lib.Dec.{leb, ltb}
-use Rattle.text.specs.Spans.{allOf}
+use Rattle.text_decimal.specs.Spans.{allOf}
 
 abbrev pub within : ℕ → ℕ → ℕ → Bool
 within a b c = leb a c && leb c b

@@ -3,7 +3,7 @@ ghost use mathlib.Core.List.{[], _∷_};
 ghost use mathlib.Core.Path.{_≡_};
 ghost use Prim.Native.Nat.{_+_, _≤_, _<_};
 ghost use lib.ListN.{length};
-ghost use Rattle.text.specs.Places.{Stored};
+ghost use Rattle.text_decimal.specs.Places.{Stored};
 ghost use Rattle.text_hex.specs.Hex.{hexByteOf, hexDigitsOf};
 
 // The byte of a digit.

@@ -9,21 +9,21 @@ use native.Mathlib.Omega.{arith}
 use lib.Dec.{eqb, leb}
 use borrow.Author.Tests.{le-leb, ne-eqb}
 use Rattle.nets.proofs.Strings.{and-left, and-right}
-use Rattle.text.specs.Spans.{allOf, startsOf, behindOf}
-use Rattle.text.specs.Decimal.{isDigit, decimal, isNumber, leading, behind, Parsed, parsed, nothing, andThen, readNumber}
+use Rattle.text_decimal.specs.Spans.{allOf, startsOf, behindOf}
+use Rattle.text_decimal.specs.Decimal.{isDigit, decimal, isNumber, leading, behind, Parsed, parsed, nothing, andThen, readNumber}
 use Rattle.text.specs.DecOctet.{isDecOctet}
 use Rattle.text.specs.Ipv4.{dot, address, endedBy, readNext}
-use Rattle.text.specs.Places.{startsByte, startsDigit}
-use Rattle.text.proofs.Spans.{behind-none}
-use Rattle.text.proofs.Numbers.{isNumber-is, isDigit-is, readNumber-append, readNumber-is}
+use Rattle.text_decimal.specs.Places.{startsByte, startsDigit}
+use Rattle.text_decimal.proofs.Spans.{behind-none}
+use Rattle.text_decimal.proofs.Numbers.{isNumber-is, isDigit-is, readNumber-append, readNumber-is}
 use Rattle.text.proofs.DecOctet.{octet-number, number-octet}
 use Rattle.text.proofs.Reading.{endedBy-other}
 use Rattle.text.proofs.Grammar.{readNext-append, readNext-is, parsed-one, parsed-some}
 use Rattle.text_hex.specs.Hex.{isHexDigit, within}
 use Rattle.text_hex.proofs.Digits.{within-le, isHexDigit-is}
 use Rattle.text_ipv6_read.specs.Ipv6.{dotted, pair}
-use Rattle.text_ipv6_read.specs.Reader.{readDotted}
-use Rattle.text_ipv6_read.proofs.Found.{three}
+use Rattle.text_ipv6_runs.specs.Runs.{readDotted}
+use Rattle.text_ipv6_runs.proofs.Found.{three}
 
 -- A quad is read.
 pub octet-most : (s : List ℕ) → isDecOctet s ≡ true → decimal s ≤ 255

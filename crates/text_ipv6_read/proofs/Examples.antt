@@ -7,13 +7,15 @@ use Prim.Native.String.{String}
 use lib.ListN.{length, replicate}
 use Rattle.nets.specs.Networks.{bigEndian}
 use Rattle.nets.specs.declared.Net.{Net}
-use Rattle.text.specs.Spans.{allOf, startsOf, leadingOf, behindOf}
-use Rattle.text.specs.Decimal.{isDigit, decimalFrom, plain, isNumber, readNumber}
+use Rattle.text_decimal.specs.Spans.{allOf, startsOf, leadingOf, behindOf}
+use Rattle.text_decimal.specs.Decimal.{isDigit, decimalFrom, plain, isNumber, readNumber}
 use Rattle.text.specs.Ipv4.{readNext, badText}
-use Rattle.text.specs.Places.{startsByte}
+use Rattle.text_decimal.specs.Places.{startsByte}
 use Rattle.text_hex.specs.Hex.{isHexDigit, hexValue, hexNumberFrom}
-use Rattle.text_ipv6_read.specs.Ipv6.{isGroup, ipv6}
-use Rattle.text_ipv6_read.specs.Reader.{readGroup, readDotted, readPiece, goesOn, runFrom, startsDouble, readAddress, isOutline, laid, readLine6}
+use Rattle.text_ipv6_runs.specs.Runs.{isGroup}
+use Rattle.text_ipv6_read.specs.Ipv6.{ipv6}
+use Rattle.text_ipv6_runs.specs.Runs.{readGroup, readDotted, readPiece, goesOn, runFrom}
+use Rattle.text_ipv6_read.specs.Reader.{startsDouble, readAddress, isOutline, laid, readLine6}
 
 abbrev bytes : String → List ℕ
 bytes String.[] = []

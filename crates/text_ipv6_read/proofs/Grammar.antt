@@ -12,15 +12,16 @@ use lib.Seq.{take-length, drop-length, take-append-seam, drop-append-seam}
 use borrow.Author.Tests.{eqb-true, eq-eqb, leb-true, le-leb, not-true}
 use Rattle.nets.proofs.Strings.{and-left, and-right}
 use Rattle.nets.specs.declared.Net.{Net}
-use Rattle.text.specs.Spans.{startsOf}
-use Rattle.text.specs.Decimal.{decimal, isNumber, Parsed, parsed, nothing, readNumber}
+use Rattle.text_decimal.specs.Spans.{startsOf}
+use Rattle.text_decimal.specs.Decimal.{decimal, isNumber, Parsed, parsed, nothing, readNumber}
 use Rattle.text.specs.Ipv4.{slash, joined, IsLine, badText, readLine}
-use Rattle.text.specs.Places.{startsByte}
-use Rattle.text.proofs.Numbers.{readNumber-is}
+use Rattle.text_decimal.specs.Places.{startsByte}
+use Rattle.text_decimal.proofs.Numbers.{readNumber-is}
 use Rattle.text.proofs.Grammar.{readNumber-all, badText-some, readLine-accepts}
 use Rattle.text_hex.specs.Hex.{isHexDigit, colon}
 use Rattle.text_ipv6_read.specs.Ipv6.{dotted, Pieces, quad, Side, empty, pieces, around, IsAddress, full, shortened, ipv6, IsLine6}
-use Rattle.text_ipv6_read.specs.Reader.{Ran, ran, runFrom, Outline, outline, startsDouble, behindRun, wholeRun, addressFrom, readAddress, isOutline, laid, withLength6, lineFrom, readLine6}
+use Rattle.text_ipv6_runs.specs.Runs.{Ran, ran, runFrom}
+use Rattle.text_ipv6_read.specs.Reader.{Outline, outline, startsDouble, behindRun, wholeRun, addressFrom, readAddress, isOutline, laid, withLength6, lineFrom, readLine6}
 use Rattle.text_ipv6_read.proofs.Joined.{stops-slash, stops-double, run-pieces, run-side, Went, run-went}
 
 -- Groups laid out.

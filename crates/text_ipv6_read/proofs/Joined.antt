@@ -9,19 +9,20 @@ use lib.Dec.{eqb, leb}
 use lib.ListN.{length, drop}
 use borrow.Author.Tests.{eqb-true, le-leb}
 use Rattle.nets.proofs.Strings.{and-left, and-right}
-use Rattle.text.specs.Spans.{allOf, startsOf, leadingOf}
-use Rattle.text.specs.Decimal.{isDigit, decimal, Parsed, parsed, nothing}
+use Rattle.text_decimal.specs.Spans.{allOf, startsOf, leadingOf}
+use Rattle.text_decimal.specs.Decimal.{isDigit, decimal, Parsed, parsed, nothing}
 use Rattle.text.specs.DecOctet.{isDecOctet}
 use Rattle.text.specs.Ipv4.{dot, slash, address}
-use Rattle.text.specs.Places.{startsByte}
-use Rattle.text.proofs.Spans.{leading-none, all-weaken}
-use Rattle.text.proofs.Numbers.{isNumber-is}
+use Rattle.text_decimal.specs.Places.{startsByte}
+use Rattle.text_decimal.proofs.Spans.{leading-none, all-weaken}
+use Rattle.text_decimal.proofs.Numbers.{isNumber-is}
 use Rattle.text.proofs.DecOctet.{octet-number}
 use Rattle.text_hex.specs.Hex.{isHexDigit, hexNumber, colon}
-use Rattle.text_ipv6_read.specs.Ipv6.{isGroup, dotted, pair, Pieces, group, quad, more, Side, empty, pieces}
-use Rattle.text_ipv6_read.specs.Reader.{readGroup, readDotted, Piece, pieceOf, readPiece, goesOn, Ran, ran, runOn, runFrom}
-use Rattle.text_ipv6_read.specs.Reader as reader
-use Rattle.text_ipv6_read.proofs.Groups.{isGroup-is, readGroup-append, readGroup-is}
+use Rattle.text_ipv6_runs.specs.Runs.{isGroup}
+use Rattle.text_ipv6_read.specs.Ipv6.{dotted, pair, Pieces, group, quad, more, Side, empty, pieces}
+use Rattle.text_ipv6_runs.specs.Runs.{readGroup, readDotted, Piece, pieceOf, readPiece, goesOn, Ran, ran, runOn, runFrom}
+use Rattle.text_ipv6_runs.specs.Runs as reader
+use Rattle.text_ipv6_runs.proofs.Groups.{isGroup-is, readGroup-append, readGroup-is}
 use Rattle.text_ipv6_read.proofs.Dotted.{octet-most, readDotted-append, pair-address, readDotted-is, isDigit-hex, startsDigit-hex, hex-no-quad}
 
 -- Bytes at which a run stops: no digit, no dot, no colon with a digit.

@@ -1,9 +1,5 @@
--- The laws of the definitions, from the bottom up: groups and the loop that reads one, pieces, runs turn by turn, the layout of an address, the paths of the
--- code; then what the calls promise together: quads and joined pieces, the grammar, the answers; and examples.
-pub mod Groups
-pub mod Loop
-pub mod Found
-pub mod Turns
+-- The laws of the definitions, from the bottom up: the layout of an address, the paths of the code; then what the calls promise together: quads and
+-- joined pieces, the grammar, the answers; and examples.
 pub mod Laying
 pub mod Reading
 pub mod Dotted

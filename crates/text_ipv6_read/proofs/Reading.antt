@@ -5,9 +5,9 @@ use mathlib.Core.Path.{_≡_, refl, ap, sym, _∙_}
 use Prim.Native.Nat.{ℕ, _+_, _≤_, _<_}
 use lib.ListN.{length, drop, drop-of-length-le}
 use lib.Seq.{drop-cons, drop-drop}
-use Rattle.text.specs.Decimal.{Parsed, parsed, nothing, readNumber}
+use Rattle.text_decimal.specs.Decimal.{Parsed, parsed, nothing, readNumber}
 use Rattle.text.specs.Ipv4.{slash, badText}
-use Rattle.text.specs.Places.{startsByte}
+use Rattle.text_decimal.specs.Places.{startsByte}
 use Rattle.text_ipv6_read.specs.Ipv6.{ipv6}
 use Rattle.text_ipv6_read.specs.Reader.{Outline, readAddress, isOutline, laid, withLength6, lineFrom, readLine6}
 use Rattle.text_ipv6_read.specs.Places.{placed, outlineAs}

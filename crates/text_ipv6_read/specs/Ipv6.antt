@@ -1,27 +1,23 @@
 -- The line of an IPv6 network: an address in one of the three forms of RFC 4291 section 2.2, then a slash and a length, a number up to 128 without a leading
 -- zero.
 --
---   isGroup s          s is a group: one to four hexadecimal digits, of either case
 --   dotted a b c d     four numbers joined by dots
 --   Pieces q s xs      s has the groups xs, joined by colons (form 1); where q is true, a quad of four dec-octets stands for the last two of them (form 3)
 --   Side q s xs        such pieces, or nothing at all
 --   IsAddress s xs     s has the eight groups xs: all of them, or with one double colon for one or more that are zero (form 2)
 --   IsLine6 s n        s is a line of the network n: the grammar
-use mathlib.Core.Bool.{Bool, true, false, _&&_}
+use mathlib.Core.Bool.{Bool, true, false}
 use mathlib.Core.List.{List, [], _∷_, _++_}
 use mathlib.Core.Path.{_≡_}
 use Prim.Native.Nat.{ℕ, _+_, _-_, _*_, _≤_}
-use lib.Dec.{leb}
 use lib.ListN.{length, replicate}
 use Rattle.nets.specs.Networks.{netOf, bigEndian}
 use Rattle.nets.specs.declared.Net.{Net}
-use Rattle.text.specs.Decimal.{decimal, isNumber}
+use Rattle.text_decimal.specs.Decimal.{decimal, isNumber}
 use Rattle.text.specs.DecOctet.{isDecOctet}
 use Rattle.text.specs.Ipv4.{dot, slash}
-use Rattle.text_hex.specs.Hex.{colon, allHexDigits, hexNumber}
-
-unfoldable pub isGroup : List ℕ → Bool
-isGroup s = allHexDigits s && (leb 1 (length s) && leb (length s) 4)
+use Rattle.text_hex.specs.Hex.{colon, hexNumber}
+use Rattle.text_ipv6_runs.specs.Runs.{isGroup}
 
 unfoldable pub dotted : List ℕ → List ℕ → List ℕ → List ℕ → List ℕ
 dotted a b c d = a ++ (dot ∷ (b ++ (dot ∷ (c ++ (dot ∷ d)))))

@@ -1,11 +1,6 @@
 -- Reading a line from its first byte on: the groups up to a double colon, those behind it, the length. proofs/Grammar shows that exactly the lines of the
 -- grammar are read.
 --
---   readGroup s        the group that s begins with, taken as far as its digits go
---   readDotted s       the number of the four dec-octets that s begins with
---   readPiece k s      what s begins with: a quad, where two groups have room, or a group
---   goesOn s           a colon and a digit stand first
---   runFrom k xs s     pieces joined by colons, up to k groups, behind the groups xs
 --   readAddress s      the groups up to a double colon and behind it
 --   isOutline o        these make eight groups: all of them, or at most seven around a double colon
 --   laid xs g          the groups xs, g of them before the zeros that a double colon stands for
@@ -13,58 +8,17 @@
 --   enteredLine6 s     the line s taken in: its refusal, or the cleared network and whether a bit was cut
 use mathlib.Core.Bool.{Bool, true, false, not, cond, _&&_}
 use mathlib.Core.List.{List, [], _∷_, _++_}
-use Prim.Native.Nat.{ℕ, zero, suc, _+_, _-_, _*_, _/_, _%_}
+use Prim.Native.Nat.{ℕ, _-_}
 use lib.Dec.{eqb, leb}
 use lib.ListN.{length, take, drop, replicate}
 use Rattle.nets.specs.Networks.{takenIn}
 use Rattle.nets.specs.declared.Net.{Net}
-use Rattle.text.specs.Spans.{startsOf, leadingOf, behindOf}
-use Rattle.text.specs.Decimal.{Parsed, parsed, nothing, andThen, readNumber}
-use Rattle.text.specs.Ipv4.{dot, slash, readNext, badText}
-use Rattle.text.specs.Places.{startsByte}
-use Rattle.text_hex.specs.Hex.{isHexDigit, hexNumber, colon}
-use Rattle.text_ipv6_read.specs.Ipv6.{isGroup, ipv6}
-
-unfoldable pub readGroup : List ℕ → Parsed
-readGroup s = let d = leadingOf isHexDigit s in cond (isGroup d) (parsed (hexNumber d) (behindOf isHexDigit s)) nothing
-
-unfoldable pub readDotted : List ℕ → Parsed
-readDotted s = andThen (readNext dot (readNext dot (readNext dot (parsed 0 s)))) (λ v t. andThen (readNumber 255 t) (λ x u. parsed (v * 256 + x) u))
-
-pub data Piece : Type 0 where
-  group : ℕ → List ℕ → Piece
-  quad : ℕ → List ℕ → Piece
-  none : Piece
-
-abbrev pub pieceOf : Parsed → Parsed → Piece
-pieceOf (parsed v t) g = quad v t
-pieceOf nothing (parsed x t) = group x t
-pieceOf nothing nothing = none
-
-unfoldable pub readPiece : ℕ → List ℕ → Piece
-readPiece k s = pieceOf (cond (leb 2 k) (readDotted s) nothing) (readGroup s)
-
-unfoldable pub goesOn : List ℕ → Bool
-goesOn s = startsByte colon s && startsOf isHexDigit (drop 1 s)
-
--- the groups of a run, whether a quad ended it, and what follows
-pub record Ran : Type 0 where
-  pub groups : List ℕ
-  pub quad : Bool
-  pub rest : List ℕ
-
-abbrev pub ran : List ℕ → Bool → List ℕ → Ran
-ran xs q t = record { groups = xs; quad = q; rest = t }
-
--- behind the groups xs and a piece at s, where f reads on behind groups and a colon
-abbrev pub runOn : List ℕ → List ℕ → Piece → (List ℕ → List ℕ → Ran) → Ran
-runOn xs s (group x t) f = cond (goesOn t) (f (xs ++ (x ∷ [])) (drop 1 t)) (ran (xs ++ (x ∷ [])) false t)
-runOn xs s (quad v t) f = ran (xs ++ (v / 65536 ∷ v % 65536 ∷ [])) true t
-runOn xs s none f = ran xs false s
-
-unfoldable pub runFrom : ℕ → List ℕ → List ℕ → Ran
-runFrom zero xs s = ran xs false s
-runFrom (suc k) xs s = runOn xs s (readPiece (suc k) s) (λ ys t. runFrom k ys t)
+use Rattle.text_decimal.specs.Decimal.{Parsed, parsed, nothing, readNumber}
+use Rattle.text_decimal.specs.Places.{startsByte}
+use Rattle.text.specs.Ipv4.{slash, badText}
+use Rattle.text_hex.specs.Hex.{colon}
+use Rattle.text_ipv6_runs.specs.Runs.{Ran, runFrom}
+use Rattle.text_ipv6_read.specs.Ipv6.{ipv6}
 
 -- the groups of an address, whether there is a double colon, how many stand before it, and what follows the address
 pub record Outline : Type 0 where

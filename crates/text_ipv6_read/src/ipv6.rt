@@ -5,10 +5,10 @@ ghost use Rattle.text_ipv6_read.specs.Reader.{readLine6};
 use crate::outlines;
 use nets::Refusal;
 use nets::Taken;
-use text::cursor::Cursor;
-use text::cursor::Read;
-use text::cursor::byte_at;
-use text::decimal;
+use text_decimal::cursor::Cursor;
+use text_decimal::cursor::Read;
+use text_decimal::cursor::byte_at;
+use text_decimal::decimal;
 
 // The network of a line, with its address as the line has it.
 pub fn read(line: &[u8]) -> Taken

@@ -7,8 +7,6 @@ use nets::Taken;
 
 pub mod ipv6;
 mod outlines;
-mod pieces;
-mod runs;
 
 // The network of a line, taken in.
 pub fn read_line(line: &[u8]) -> Entered

@@ -7,11 +7,11 @@ ghost use lib.ListN.{drop, getD};
 ghost use Rattle.text_ipv6_read.specs.Ipv6.{ipv6};
 ghost use Rattle.text_ipv6_read.specs.Reader.{startsDouble, readAddress, laid};
 ghost use Rattle.text_ipv6_read.specs.Places.{outlineWords, placed, Sized, outlineAs};
-use crate::runs;
-use crate::runs::Run;
 use addresses::groups_to_network;
 use nets::Net;
-use text::cursor::byte_at;
+use text_decimal::cursor::byte_at;
+use text_ipv6_runs::runs;
+use text_ipv6_runs::runs::Run;
 
 // The groups and how many; whether a double colon stands among them, and behind how many; and the place behind the address.
 pub struct Outline {

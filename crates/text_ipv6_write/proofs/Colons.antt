@@ -6,8 +6,8 @@ use native.Mathlib.Numerals.{add-one}
 use native.Mathlib.Omega.{arith}
 use lib.ListN.{length, take, getD, length-append, drop-of-length-le}
 use lib.Seq.{slice, slice-cons, length-take-le, length-sets}
-use Rattle.text.specs.Places.{Stored}
-use Rattle.text.proofs.Writing.{stored-append}
+use Rattle.text_decimal.specs.Places.{Stored}
+use Rattle.text_decimal.proofs.Writing.{stored-append}
 use Rattle.text_hex.specs.Hex.{hexDigitsOf, colon}
 use Rattle.text_hex.proofs.Written.{length-hexDigitsOf}
 use Rattle.text_ipv6_write.specs.Ipv6.{led, joined, digits}

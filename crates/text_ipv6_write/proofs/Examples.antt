@@ -6,7 +6,7 @@ use Prim.Native.Nat.{ℕ}
 use Prim.Native.String.{String}
 use Rattle.nets.specs.Bits.{bits}
 use Rattle.nets.specs.Networks.{width, netBits, netFrom, netOf, cleared, bigEndian}
-use Rattle.text.specs.Decimal.{digitsOf}
+use Rattle.text_decimal.specs.Decimal.{digitsOf}
 use Rattle.text_hex.specs.Hex.{hexByteOf, hexDigitsOf}
 use Rattle.text_ipv6_write.specs.Ipv6.{groupsOf, zeros, longestFrom, led, joined, bothSides, textWith, textOf, lineAs6, lineOf6}
 

@@ -13,8 +13,8 @@ use borrow.Author.Tests.{lt-ltb, ltb-true, ltb-false, eqb-true}
 use Rattle.nets.specs.Networks.{value, netBits, address, cleared, bigEndian}
 use Rattle.nets.specs.declared.Net.{Net}
 use Rattle.nets.proofs.Numbers.{cleared-one}
-use Rattle.text.specs.Spans.{allOf}
-use Rattle.text.proofs.Writing.{length-digitsOf}
+use Rattle.text_decimal.specs.Spans.{allOf}
+use Rattle.text_decimal.proofs.Writing.{length-digitsOf}
 use Rattle.text_ipv6_write.specs.Ipv6.{groupsOf, zeros, longest, led, joined, digits, bothSides, textOf, lineAs6, lineOf6}
 use Rattle.text_hex.specs.Hex.{colon}
 use Rattle.text_ipv6_write.specs.Rfc5952.{Recommended}

@@ -9,8 +9,8 @@ use lib.Dec.{eqb, leb, ltb}
 use lib.ListN.{length, take, drop}
 use borrow.Author.Tests.{leb-true, ltb-true, eqb-false, ne-eqb, not-true}
 use Rattle.nets.proofs.Strings.{and-left, and-right, and-both, or-cases}
-use Rattle.text.specs.Decimal.{plain}
-use Rattle.text.specs.Spans.{allOf}
+use Rattle.text_decimal.specs.Decimal.{plain}
+use Rattle.text_decimal.specs.Spans.{allOf}
 use Rattle.text_hex.specs.Hex.{within, hexValue, hexNumber, hexNumberFrom, hexByteOf, hexDigitsOf}
 use Rattle.text_hex.proofs.Digits.{within-is, within-le, within-past, hexValue-digit, hexValue-lower, hexValue-most}
 use Rattle.text_hex.proofs.Written.{hexByteOf-digit, hexByteOf-letter, hexByteOf-cases, hexDigitsOf-cases, hexNumber-hexDigitsOf}

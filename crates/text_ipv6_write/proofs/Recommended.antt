@@ -7,7 +7,7 @@ use native.Mathlib.Omega.{arith}
 use lib.Dec.{ltb}
 use lib.ListN.{take, drop}
 use borrow.Author.Tests.{ltb-true, ltb-false}
-use Rattle.text.specs.Spans.{allOf}
+use Rattle.text_decimal.specs.Spans.{allOf}
 use Rattle.text_ipv6_write.specs.Ipv6.{longest, joined, digits, textOf}
 use Rattle.text_ipv6_write.specs.Rfc5952.{Zeros, Shortens, Recommended, whole, shortened}
 use Rattle.text_ipv6_write.proofs.Longest.{longest-shortens, shortens-one, longest-none}

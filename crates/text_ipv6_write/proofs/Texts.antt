@@ -9,9 +9,9 @@ use lib.Seq.{take-all}
 use borrow.Author.Tests.{lt-ltb, le-ltb}
 use Rattle.nets.specs.Networks.{address}
 use Rattle.nets.specs.declared.Net.{Net}
-use Rattle.text.specs.Decimal.{digitsOf}
+use Rattle.text_decimal.specs.Decimal.{digitsOf}
 use Rattle.text.specs.Ipv4.{slash}
-use Rattle.text.specs.Places.{Stored}
+use Rattle.text_decimal.specs.Places.{Stored}
 use Rattle.text_ipv6_write.specs.Ipv6.{longest, joined, digits, bothSides, textWith, textOf, groupsOf, lineAs6}
 use Rattle.text_hex.specs.Hex.{colon}
 use Rattle.text_ipv6_write.proofs.Longest.{longest-within}

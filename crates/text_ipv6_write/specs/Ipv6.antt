@@ -17,7 +17,7 @@ use lib.Dec.{eqb, leb, ltb}
 use lib.ListN.{take, drop}
 use Rattle.nets.specs.Networks.{address, cleared}
 use Rattle.nets.specs.declared.Net.{Net}
-use Rattle.text.specs.Decimal.{digitsOf}
+use Rattle.text_decimal.specs.Decimal.{digitsOf}
 use Rattle.text.specs.Ipv4.{slash}
 use Rattle.text_hex.specs.Hex.{colon, hexDigitsOf}
 

@@ -12,8 +12,8 @@ use mathlib.Core.Path.{_≡_}
 use Prim.Native.Nat.{ℕ, _+_, _≤_, _<_}
 use lib.Dec.{leb}
 use lib.ListN.{length, take, drop, getD}
-use Rattle.text.specs.Decimal.{plain}
-use Rattle.text.specs.Spans.{allOf}
+use Rattle.text_decimal.specs.Decimal.{plain}
+use Rattle.text_decimal.specs.Spans.{allOf}
 use Rattle.text_hex.specs.Hex.{within, hexNumber}
 use Rattle.text_ipv6_write.specs.Ipv6.{joined, bothSides}
 

@@ -2,13 +2,13 @@
 ghost use mathlib.Core.Path.{_≡_};
 ghost use Prim.Native.Nat.{_≤_};
 ghost use lib.ListN.{length};
-ghost use Rattle.text.specs.Places.{Stored};
+ghost use Rattle.text_decimal.specs.Places.{Stored};
 ghost use Rattle.text_ipv6_write.specs.Ipv6.{textOf, lineAs6};
 use crate::groups;
 use crate::joined;
 use crate::runs;
 use nets::Net;
-use text::decimal;
+use text_decimal::decimal;
 
 // How many bytes the text of the groups has.
 fn text_length(g: [u16; 8]) -> usize

@@ -3,7 +3,7 @@ ghost use mathlib.Core.Path.{_≡_};
 ghost use Prim.Native.Nat.{_+_, _*_, _≤_};
 ghost use lib.ListN.{length};
 ghost use lib.Seq.{slice};
-ghost use Rattle.text.specs.Places.{Stored};
+ghost use Rattle.text_decimal.specs.Places.{Stored};
 ghost use Rattle.text_ipv6_write.specs.Ipv6.{joined, digits};
 use text_hex::group;
 

@@ -18,37 +18,40 @@ use Rattle.trie_emit.specs.declared.emitting.Emitted.the-variants.{Empty, Full,
 use Rattle.trie_emit.proofs.Answers.{by-kind, emits-flat}
 use Rattle.trie_blocks.proofs.Simplify.{Fork}
 use Rattle.trie_blocks.specs.Joins.{Apart}
-use Rattle.trie_blocks.proofs.Plain.{apart-simple, apart-kept}
+use Rattle.trie_blocks.proofs.Plain.{Block, apart-simple, apart-kept}
+
+segment-block : {w : List ℕ} {b i e u : ℕ} {t : Trie} {rest : List ℕ} → Segment w b i e u t rest → Block w b i e t
+segment-block {t = t} {rest = rest} g = record { has = has-front (enc t) rest (g .has); one = g .one; end = g .end }
 
 -- A trie by its nodes.
-some-child : (l r : Trie) → bare l r ≡ false → 1 ≤ size l + size r
+pub some-child : (l r : Trie) → bare l r ≡ false → 1 ≤ size l + size r
 unfolding size
 some-child none none e = absurd (true≢false e)
 some-child none (node c d) e = omega arith
 some-child (node a b) r e = omega arith
 
-size-one : (t : Trie) → size t ≡ 1 → t ≡ leaf
+pub size-one : (t : Trie) → size t ≡ 1 → t ≡ leaf
 unfolding size
 size-one = by-kind (λ t. size t ≡ 1 → t ≡ leaf) (λ e. absurd (omega arith)) (λ e. refl) (λ l r b e. absurd (omega (arith, some-child l r b)))
 
-size-more : (t : Trie) → 2 ≤ size t → kindOf t ≡ mixed
+pub size-more : (t : Trie) → 2 ≤ size t → kindOf t ≡ mixed
 unfolding size
 size-more = by-kind (λ t. 2 ≤ size t → kindOf t ≡ mixed) (λ e. absurd (omega arith)) (λ e. absurd (omega arith)) (λ l r b e. rw b)
 
-answer-mixed : (o : ℕ) (t : Trie) → kindOf t ≡ mixed → answer o t ≡ Node (o + size t)
+pub answer-mixed : (o : ℕ) (t : Trie) → kindOf t ≡ mixed → answer o t ≡ Node (o + size t)
 unfolding answer
 answer-mixed o t k = rw k
 
-body-mixed : (t : Trie) → kindOf t ≡ mixed → body t ≡ enc t
+pub body-mixed : (t : Trie) → kindOf t ≡ mixed → body t ≡ enc t
 unfolding body
 body-mixed t k = rw k
 
 module _ {w : List ℕ} {b i e o fuel : ℕ} {t : Trie} (s : Source w b i e o fuel t) (a : Apart w b i e e) where
   simple : simplifyT t ≡ t
-  simple = apart-simple (s .here) a
+  simple = apart-simple (segment-block (s .here)) a
 
   stands : Has w (place b i) (enc t)
-  stands = has-front (enc t) (s .rest) (s .here .has)
+  stands = segment-block (s .here) .has
 
   pub moved-none : i ≡ e → Emits w w b o Empty (simplifyT t)
   unfolding simplifyT
@@ -84,13 +87,13 @@ module _ {w : List ℕ} {b i e o fuel : ℕ} {t : Trie} (s : Source w b i e o fu
 
 -- Going down: what is known of a node is known of its children, and of the second also once something is written of the first.
 pub segment-asks : {w : List ℕ} {b m e u : ℕ} {t : Trie} {rest : List ℕ} → Segment w b m e u t rest
-    → (1 ≤ m) × (m ≤ 1073741824) × (place b e ≤ length w) × (b < 1073741824) × (e ≤ 1073741824)
+    → (1 ≤ m) × (m ≤ 1073741824) × (place b e ≤ length w) × (e ≤ 1073741824)
 segment-asks g =
     let f = segment-fit g in
     let x = g .one in
     let y = g .few in
     let z = g .end in
-    (x, omega arith, omega arith, g .low, omega arith)
+    (x, omega arith, omega arith, omega arith)
 
 module _ {w : List ℕ} {b i e o fuel m next : ℕ} {l r : Trie} (d : Fork w b i e o fuel m l r) (a : Apart w b i e next) where
   pub left-apart : Apart w b (i + 1) m next
@@ -101,7 +104,7 @@ module _ {w : List ℕ} {b i e o fuel m next : ℕ} {l r : Trie} (d : Fork w b i
   right-apart k =
       let g = segment-right (d .src .here) in
       let h : Apart w b (i + 1 + size l) e next = record { no = λ j le lt fit. a .no j (omega arith) lt fit } in
-      apart-kept (rw (← d .middle) at g) k (rw (← d .middle) at h)
+      apart-kept (segment-block (rw (← d .middle) at g)) (segment-block k) (rw (← d .middle) at h)
 
 pub whole-apart : {w : List ℕ} {b i e next : ℕ} → Apart w b i e next → e ≤ next → Apart w b i e e
 whole-apart a q = record { no = λ j le lt fit. a .no j le (omega arith) fit }

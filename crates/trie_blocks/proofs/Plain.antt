@@ -5,12 +5,11 @@ use mathlib.Core.Path.{_≡_, refl, sym, _∙_}
 use Prim.Native.Nat.{ℕ, suc, _+_, _-_, _≤_, _<_}
 use native.Mathlib.Decide.{decLt}
 use native.Mathlib.Omega.{arith}
-use lib.ListN.{getD, List·getD-append, length-append, length}
+use lib.ListN.{getD, List·getD-append}
 use lib.Seq.{getD-append-add}
 use Rattle.nets.specs.Tries.{Trie, none, node, leaf, size, bare, glue, simplifyT}
 use Rattle.nets.proofs.Listing.{leaf-is}
-use Rattle.nodes.specs.Words.{place, wordAt, enc, word, link0, link1}
-use Rattle.nodes.specs.Segments.{Segment}
+use Rattle.nodes.specs.Words.{Has, place, wordAt, enc, word, link0, link1}
 use Rattle.nodes.proofs.Tries.{length-enc}
 use Rattle.trie_emit.proofs.Answers.{by-glue}
 use Rattle.trie_blocks.specs.Joins.{Apart}
@@ -52,12 +51,17 @@ plain-simple (node l r) h = go (bare l r) refl (plain-simple l (plain-left l r h
     go true e p q = sym (leaf-is (node l r) e)
     go false e p q = rw (p, q) (glue-plain l r e h)
 
--- by the words
-module _ {w : List ℕ} {b i e u : ℕ} {t : Trie} {rest : List ℕ} (g : Segment w b i e u t rest) where
+-- by the words, where t stands from node i up to node e
+pub record Block (w : List ℕ) (b i e : ℕ) (t : Trie) : Type 0 where
+  pub has : Has w (place b i) (enc t)
+  pub one : 1 ≤ i
+  pub end : e ≡ i + size t
+
+module _ {w : List ℕ} {b i e : ℕ} {t : Trie} (g : Block w b i e t) where
   word-in : (j : ℕ) → j < size t → wordAt w b (i + j) ≡ getD (enc t) j 0
   word-in j lt =
       let q : place b (i + j) ≡ place b i + j = omega (arith, g .one) in
-      rw q (g .has .at j (omega (arith, length-append (enc t) rest, length-enc t)) ∙ List·getD-append (enc t) rest 0 j (omega (arith, length-enc t)))
+      rw q (g .has .at j (omega (arith, length-enc t)))
 
   plain-words : Apart w b i e e → Plain t
   unfolding Plain
@@ -69,7 +73,7 @@ module _ {w : List ℕ} {b i e u : ℕ} {t : Trie} {rest : List ℕ} (g : Segmen
   apart-simple h = plain-simple t (plain-words h)
 
 -- what is known of the words stays where they do
-pub apart-kept : {w v : List ℕ} {b m e u x n : ℕ} {t : Trie} {rest more : List ℕ} → Segment w b m e u t rest → Segment v b m e x t more → Apart w b m e n → Apart v b m e n
+pub apart-kept : {w v : List ℕ} {b m e n : ℕ} {t : Trie} → Block w b m e t → Block v b m e t → Apart w b m e n → Apart v b m e n
 apart-kept {w} {v} {b} {m} {e} g k h = record { no = λ j le lt fit a c. h .no j le lt fit (same j le (omega arith) ∙ a) (same (j + 2) (omega arith) fit ∙ c) }
   where
     same : (j : ℕ) → m ≤ j → j < e → wordAt w b j ≡ wordAt v b j

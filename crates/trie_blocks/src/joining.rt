@@ -11,7 +11,7 @@ const FORK: u32 = 5;
 
 // Whether node n is one over two leaves.
 fn is_join(w: &[u32], b: usize, n: usize) -> bool
-    requires { ⌜ (1 ≤ n) × (place b (n + 2) < length (now w)) × (b < 1073741824) × (n ≤ 1073741824) ⌝ }
+    requires { ⌜ (1 ≤ n) × (place b (n + 2) < length (now w)) × (n ≤ 1073741824) ⌝ }
     ensures { λ r. ⌜ (r ≡ false → wordAt (now (w .entry)) b n ≡ 5 → wordAt (now (w .entry)) b (n + 2) ≡ 0 → ⊥) ⌝ }
 {
     if w[b + (n - 1)] != FORK {
@@ -22,7 +22,7 @@ fn is_join(w: &[u32], b: usize, n: usize) -> bool
 
 // Up to where no two leaves from node k on, before node e, are halves of one block: the node over the first two that are, or e.
 pub fn next_join(w: &[u32], b: usize, k: usize, e: usize) -> usize
-    requires { ⌜ (1 ≤ k) × (k ≤ 1073741824) × (place b e ≤ length (now w)) × (b < 1073741824) × (e ≤ 1073741824) ⌝ }
+    requires { ⌜ (1 ≤ k) × (k ≤ 1073741824) × (place b e ≤ length (now w)) × (e ≤ 1073741824) ⌝ }
     ensures { λ r. ⌜ Apart (now (w .entry)) b k e r ⌝ }
 {
     let mut n = k;
@@ -33,4 +33,16 @@ pub fn next_join(w: &[u32], b: usize, k: usize, e: usize) -> usize
         n += 1;
     }
     e
+}
+
+// The same from node m on, where it is known up to node `next`.
+pub fn join_from(w: &[u32], b: usize, m: usize, e: usize, next: usize) -> usize
+    requires { ⌜ (1 ≤ m) × (m ≤ 1073741824) × (place b e ≤ length (now w)) × (e ≤ 1073741824) ⌝ }
+    requires { ⌜ Apart (now w) b m e next ⌝ }
+    ensures { λ r. ⌜ Apart (now (w .entry)) b m e r ⌝ }
+{
+    if m <= next {
+        return next;
+    }
+    next_join(w, b, m, e)
 }

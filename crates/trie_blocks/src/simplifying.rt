@@ -1,13 +1,11 @@
 // Joins the halves of each block, in place. A part in which nothing joins stays as it is: only the nodes over a pair of leaves are gone down to, and the parts between them are moved as blocks. The
 // simplified trie is written at a node that is not behind the one where the trie is read, and so never ahead of what is read.
-ghost use Prim.Native.Nat.{ℕ, _≤_, _<_};
-ghost use lib.ListN.{length};
+ghost use Prim.Native.Nat.{ℕ};
 ghost use Rattle.nets.specs.Tries.{Trie, simplifyT};
-ghost use Rattle.nodes.specs.Words.{place};
 ghost use Rattle.trie_emit.specs.Answers.{Emits};
 ghost use Rattle.trie_blocks.specs.Simplify.{Source};
 ghost use Rattle.trie_blocks.specs.Joins.{Apart};
-use crate::joining::next_join;
+use crate::joining::join_from;
 use nodes::steps;
 use nodes::steps::View;
 use nodes::writing;
@@ -30,18 +28,6 @@ fn moved(w: &mut [u32], b: usize, i: usize, e: usize, o: usize) -> Emitted
     }
     writing::shift(w, b + (i - 1), b + (o - 1), e - i);
     Emitted::Node(o + (e - i))
-}
-
-// Up to where nothing joins from node m on, before node e, where that is known up to node `next`.
-fn join_from(w: &[u32], b: usize, m: usize, e: usize, next: usize) -> usize
-    requires { ⌜ (1 ≤ m) × (m ≤ 1073741824) × (place b e ≤ length (now w)) × (b < 1073741824) × (e ≤ 1073741824) ⌝ }
-    requires { ⌜ Apart (now w) b m e next ⌝ }
-    ensures { λ r. ⌜ Apart (now (w .entry)) b m e r ⌝ }
-{
-    if m <= next {
-        return next;
-    }
-    next_join(w, b, m, e)
 }
 
 // Reads the trie that stands from node i up to node e and writes what it is simplified to from node o on; before node `next` nothing joins.

@@ -115,7 +115,7 @@ rank-flat (flat true) true e = refl
 rank-flat mixed false e = absurd (omega arith)
 rank-flat mixed true e = absurd (omega arith)
 
-rank-mixed : (k : Kind) → (rank k ≡ 0 → ⊥) → (rank k ≡ 2 → ⊥) → k ≡ mixed
+pub rank-mixed : (k : Kind) → (rank k ≡ 0 → ⊥) → (rank k ≡ 2 → ⊥) → k ≡ mixed
 rank-mixed (flat false) f n = absurd (f refl)
 rank-mixed (flat true) f n = absurd (n refl)
 rank-mixed mixed f n = refl
@@ -125,7 +125,7 @@ module _ (j : Bool) (f : Bool → Bool → Bool) (t u : Trie) where
   step-flat zero h x e = absurd (omega arith)
   step-flat (suc k) h x e = opT-flat j f k t u x e
 
-  step-mixed : (n : ℕ) → 1 ≤ n → verdict f (kindOf t) (kindOf u) ≡ mixed → opT j f n t u ≡ glue j (opHalf j f (n - 1) t u false) (opHalf j f (n - 1) t u true)
+  pub step-mixed : (n : ℕ) → 1 ≤ n → verdict f (kindOf t) (kindOf u) ≡ mixed → opT j f n t u ≡ glue j (opHalf j f (n - 1) t u false) (opHalf j f (n - 1) t u true)
   step-mixed zero h e = absurd (omega arith)
   step-mixed (suc k) h e = let p : suc k - 1 ≡ k = omega arith in rw p (opT-mixed j f k t u e)
 
@@ -159,10 +159,10 @@ module _ {w : List ℕ} {b op a c o g fuel : ℕ} {t u : Trie} {al cl ar cr : �
   step : opOn op fuel t u ≡ glue (joined op) (part false) (part true)
   step = step-mixed (joined op) (opOf op) t u fuel (d .src .turn) (d .mixes)
 
-  part-size : (s : Bool) (i k : ℕ) → Means w b o g i (half s t) × Means w b o g k (half s u) → size (part s) ≤ 4294967297
+  pub part-size : (s : Bool) (i k : ℕ) → Means w b o g i (half s t) × Means w b o g k (half s u) → size (part s) ≤ 4294967297
   part-size s i k m = omega (arith, size-op (joined op) (opOf op) (fuel - 1) (half s t) (half s u), means-body i (half s t) (m .0), means-body k (half s u) (m .1))
 
-  half-inputs : (w₁ : List ℕ) (s : Bool) (i k o′ : ℕ) → o ≤ o′ → o′ + 2 ^ 33 * (fuel - 1) < 2 ^ 62 → Means w₁ b o g i (half s t) × Means w₁ b o g k (half s u)
+  pub half-inputs : (w₁ : List ℕ) (s : Bool) (i k o′ : ℕ) → o ≤ o′ → o′ + 2 ^ 33 * (fuel - 1) < 2 ^ 62 → Means w₁ b o g i (half s t) × Means w₁ b o g k (half s u)
       → Inputs w₁ b i k o′ g (fuel - 1) (half s t) (half s u)
   half-inputs w₁ s i k o′ le few m =
       let turn = d .src .turn in
@@ -215,11 +215,7 @@ module _ {w : List ℕ} {b op a c o g fuel : ℕ} {t u : Trie} {al cl ar cr : �
     pub left-gap : Gap w b (o + 1) g (part false)
     left-gap = record { one = omega arith; fits = fits .0; room = p .room; low = p .low }
 
-    module _ (w₁ : List ℕ) (x : Emitted) (m : ℕ)
-        (hl : (n : ℕ) (v y : Trie) → Inputs w b al cl (o + 1) n (fuel - 1) v y → Gap w b (o + 1) n (opOn op (fuel - 1) v y) → Emits w w₁ b (o + 1) x (opOn op (fuel - 1) v y)) (end : m ≡ endOf x (o + 1)) where
-      done : Emits w w₁ b (o + 1) x (part false)
-      done = hl g (half false t) (half false u) left-inputs left-gap
-
+    module _ (w₁ : List ℕ) (x : Emitted) (m : ℕ) (done : Emits w w₁ b (o + 1) x (part false)) (end : m ≡ endOf x (o + 1)) where
       stays : (i : ℕ) (v : Trie) → Means w b o g i v → Means w₁ b o g i v
       stays i v n = rw (done .wrote) (means-put (o + 1) (body (part false)) (omega arith) (omega arith) (fits-body (o + 1) g (part false) (fits .0)) i v n)
 
@@ -232,11 +228,7 @@ module _ {w : List ℕ} {b op a c o g fuel : ℕ} {t u : Trie} {al cl ar cr : �
       pub rest-gap : Gap w₁ b m g (part true)
       rest-gap = let e = second x m (done .answers) end in record { one = omega arith; fits = rw e (fits .1); room = rw same (p .room); low = p .low }
 
-      module _ (w₂ : List ℕ) (y : Emitted)
-          (hr : (n : ℕ) (v z : Trie) → Inputs w₁ b ar cr m n (fuel - 1) v z → Gap w₁ b m n (opOn op (fuel - 1) v z) → Emits w₁ w₂ b m y (opOn op (fuel - 1) v z)) where
-        rest-done : Emits w₁ w₂ b m y (part true)
-        rest-done = hr g (half true t) (half true u) rest-inputs rest-gap
-
+      module _ (w₂ : List ℕ) (y : Emitted) (rest-done : Emits w₁ w₂ b m y (part true)) where
         pub pending : Pending w w₂ b (joined op) o x y (part false) (part true)
         pending =
             let n : length w₂ ≡ length w = rw (rest-done .wrote) (length-put w₁ (place b m) (body (part true)) ∙ same) in

@@ -62,7 +62,7 @@ rank-bare false f = refl
 
 -- A node that stands there, its kind and its children.
 module _ {w : List ℕ} {b o g i : ℕ} {l r : Trie} (h : Here w b o g i (node l r)) where
-  parts : Split w b i l r
+  pub parts : Split w b i l r
   parts = apart l r (h .one) (h .has)
 
   here-bare : eqb (wordAt w b i) 0 ≡ bare l r
@@ -80,7 +80,7 @@ means-here (node l r) h = standing h
 abbrev next : ℕ → ℕ → ℕ
 next i d = cond (eqb d 0) 0 (i + d)
 
-inside : {w : List ℕ} {b o g i : ℕ} {t : Trie} → Here w b o g i t → (j : ℕ) (v : Trie) → Has w (place b j) (enc v) → i ≤ j → j + size v ≤ i + size t → Here w b o g j v
+pub inside : {w : List ℕ} {b o g i : ℕ} {t : Trie} → Here w b o g i t → (j : ℕ) (v : Trie) → Has w (place b j) (enc v) → i ≤ j → j + size v ≤ i + size t → Here w b o g j v
 inside h j v has le fit = record { has = has; one = omega (arith, h .one); few = omega (arith, h .few); clear = λ k p q. h .clear k (omega arith) (omega arith) }
 
 child : {w : List ℕ} {b o g i : ℕ} (s : Bool) (l r : Trie) → Here w b o g i (node l r) → Means w b o g (next i (side s (link0 l) (link1 l r))) (side s l r)

@@ -10,12 +10,12 @@ use crate::emitting;
 use crate::emitting::Emitted;
 use nodes::steps;
 
-const ALL: usize = 4294967295;
+pub const ALL: usize = 4294967295;
 
 // The kinds of a trie, as truth values: false, unknown, true.
 pub const EMPTY: usize = 0;
 
-const MIXED: usize = 1;
+pub const MIXED: usize = 1;
 
 pub const FULL: usize = 2;
 
@@ -36,7 +36,7 @@ fn kind(w: &[u32], b: usize, i: usize) -> usize
     MIXED
 }
 
-fn most(x: usize, y: usize) -> usize
+pub fn most(x: usize, y: usize) -> usize
     ensures { λ r. ⌜ r ≡ max x y ⌝ }
 {
     if x < y { y } else { x }
@@ -49,7 +49,7 @@ fn least(x: usize, y: usize) -> usize
 }
 
 // What the operation makes of two kinds, where that settles it, else MIXED: or, and, and not, of three truth values.
-fn settled(op: usize, x: usize, y: usize) -> usize
+pub fn settled(op: usize, x: usize, y: usize) -> usize
     requires { ⌜ y ≤ 2 ⌝ }
     ensures { λ r. ⌜ ((k l : Kind) → x ≡ rank k → y ≡ rank l → r ≡ rank (verdict (opOf op) k l)) ⌝ }
 {

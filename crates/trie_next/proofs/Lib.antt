@@ -1,3 +1,2 @@
--- The laws of going on from a place, and of going through a set: one step, and the spots that are reached.
+-- The laws of going on from a place.
 pub mod Resuming
-pub mod Onward

@@ -1,3 +1,2 @@
--- The network that follows a place; and how far one has come who goes through a set.
+-- The network that follows a place.
 pub mod Following
-pub mod Spots

@@ -22,21 +22,21 @@ use denote.Struct.Laws as LL
 use denote.Triple.Statement.{Contract, Triple}
 use denote.Triple.Spec.{tripleOf}
 use denote.Triple.Clauses.{ensured, lasts}
-use Rattle.trie_next.specs.declared.spots.Spot.{Spot}
-use Rattle.trie_next.proofs.spots.Spot as O
-use Rattle.trie_next.proofs.spots.Spot.Laws as O′
-use Rattle.walk.specs.Places.{firstTurn, turnAfter}
-use Rattle.walk.specs.declared.turns.Turn.{Turn}
-use Rattle.walk.proofs.turns.Turn as Y
-use Rattle.walk.proofs.turns.Turn.Laws as Y′
+use Rattle.trie_spots.specs.declared.spots.Spot.{Spot}
+use Rattle.trie_spots.proofs.spots.Spot as O
+use Rattle.trie_spots.proofs.spots.Spot.Laws as O′
+use Rattle.walk_turns.specs.Turns.{firstTurn, turnAfter}
+use Rattle.walk_turns.specs.declared.turns.Turn.{Turn}
+use Rattle.walk_turns.proofs.turns.Turn as Y
+use Rattle.walk_turns.proofs.turns.Turn.Laws as Y′
 use Rattle.walk.proofs.start as start
 use Rattle.walk.proofs.start.Symbol as start-def
-use Rattle.walk.proofs.turns.first as first
-use Rattle.walk.proofs.turns.first.Symbol as first-def
+use Rattle.walk_turns.proofs.turns.first as first
+use Rattle.walk_turns.proofs.turns.first.Symbol as first-def
 use Rattle.walk.proofs.walking.Walk.next as next
 use Rattle.walk.proofs.walking.Walk.next.Symbol as next-def
-use Rattle.walk.proofs.turns.after as after
-use Rattle.walk.proofs.turns.after.Symbol as after-def
+use Rattle.walk_turns.proofs.turns.after as after
+use Rattle.walk_turns.proofs.turns.after.Symbol as after-def
 
 -- the machine values of a spot and of a turn
 abbrev pub spot : Spot → Val

@@ -7,19 +7,20 @@ use Prim.Native.Nat.{ℕ, zero, suc, _≤_, _<_}
 use native.Mathlib.Omega.{arith}
 use denote.Ref.{RefT}
 use lib.ListN.{length, getD}
-use borrow.Author.Tests.{lt-ltb, le-ltb}
+use borrow.Author.Tests.{le-leb, lt-leb}
 use Rattle.nets.specs.Bits.{Bits}
 use Rattle.nets.specs.Lists.{Found, found, missing}
 use Rattle.nets.specs.Networks.{netFrom}
 use Rattle.nets.specs.declared.Refusal.the-variants.{Damaged, NoSet}
 use Rattle.pool_state.specs.States.{State}
 use Rattle.pool_state.specs.Decode.{damaged, sound, decode}
+use Rattle.pool_state.specs.Rules.{answerOn}
 use Rattle.pool_state.specs.Changes.{listAt}
 use Rattle.listing.specs.Calls.{foundAs, followerAs}
 use Rattle.listing.specs.declared.Follower.{Follower}
 use Rattle.listing.specs.declared.Follower.the-variants.{Network, End, Refused}
 use Rattle.listing.proofs.Outcomes.{followerAs-one}
-use Rattle.walk.specs.Walks.{walkNo, walkStart, walkOn}
+use Rattle.walk.specs.Walks.{walkStart, walkOn}
 use Rattle.walk.specs.Places.{nthL, lastL, placeRule, nthRule, lastRule}
 use Rattle.walk.specs.declared.walking.Walk.{Walk}
 
@@ -58,18 +59,18 @@ place-determined f w k r s e g = followerAs-one r s (e ∙ sym g)
 
 module _ (f : List Bits → Found) (w : List ℕ) (k : ℕ) (r : Follower) (h : followerAs r ≡ placeRule f (decode w) k) where
   place-damaged : decode w ≡ damaged → r ≡ Refused Damaged
-  unfolding placeRule
+  unfolding placeRule answerOn
   place-damaged d = followerAs-one r (Refused Damaged) (h ∙ rw d)
 
   module _ (S : State) (d : decode w ≡ sound S) where
     place-noset : length (S .sets) ≤ k → r ≡ Refused NoSet
-    unfolding placeRule walkNo
-    place-noset le = followerAs-one r (Refused NoSet) (h ∙ rw (d, le-ltb k (length (S .sets)) le))
+    unfolding placeRule answerOn
+    place-noset le = followerAs-one r (Refused NoSet) (h ∙ rw (d, le-leb (length (S .sets)) k le))
 
     module _ (lt : k < length (S .sets)) where
       granted : followerAs r ≡ (0, foundAs (S .family) (f (listAt S k)))
-      unfolding placeRule walkNo
-      granted = h ∙ rw (d, lt-ltb k (length (S .sets)) lt)
+      unfolding placeRule answerOn
+      granted = h ∙ rw (d, lt-leb (length (S .sets)) k lt)
 
       place-found : (p : Bits) → f (listAt S k) ≡ found p → r ≡ Network (netFrom (S .family) p)
       place-found p e = followerAs-one r (Network (netFrom (S .family) p)) (granted ∙ rw e)

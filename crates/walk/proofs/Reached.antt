@@ -1,4 +1,4 @@
--- Going to a place of the list: a law for each return of the turns' functions, the turns of `reach`, and what the spots that it reaches say of the list. Nothing here is about memory. Assumes nothing.
+-- Going to a place of the list: the turns of `reach`, and what the spots that it reaches say of the list. Nothing here is about memory. Assumes nothing.
 use mathlib.Core.Path.{_≡_, refl, sym, ap, _∙_}
 use mathlib.Core.Bool.{Bool, true, false, cond, true≢false}
 use mathlib.Core.List.{List, [], _∷_}
@@ -6,7 +6,7 @@ use mathlib.Core.Logic.{inl, inr}
 use Prim.Native.Nat.{ℕ, zero, suc, _-_, _≤_, _<_}
 use native.Mathlib.Omega.{arith}
 use denote.Ref.{RefT, now}
-use lib.Dec.{ltb}
+use lib.Dec.{leb}
 use lib.ListN.{length}
 use borrow.Author.Tests.{ne-eqb}
 use Rattle.nets.specs.Bits.{Bits}
@@ -16,67 +16,39 @@ use Rattle.nets.specs.Refusals.{answered}
 use Rattle.nets.specs.declared.Net.{Net}
 use Rattle.nets.specs.declared.Refusal.the-variants.{Damaged, NoSet}
 use Rattle.pool_state.specs.Decode.{Decoded, damaged, sound, decode}
+use Rattle.pool_state.specs.Rules.{answerOn}
 use Rattle.listing.specs.Calls.{nothing, foundAs, followerAs}
 use Rattle.listing.specs.declared.Follower.{Follower}
 use Rattle.listing.specs.declared.Follower.the-variants.{Network, End, Refused}
 use Rattle.nodes.specs.declared.seats.Seat.{Seat}
-use Rattle.trie_next.specs.Spots.{beforeAll, placeIn, landed, goneOn}
-use Rattle.trie_next.specs.declared.spots.Spot.{Spot}
-use Rattle.trie_next.proofs.Onward.{ahead, ahead-all}
+use Rattle.trie_spots.specs.Spots.{beforeAll, placeIn, landed, goneOn}
+use Rattle.trie_spots.specs.declared.spots.Spot.{Spot}
+use Rattle.trie_spots.proofs.Onward.{ahead, ahead-all}
 use Rattle.walk.specs.Walks.{walkNo, listIn, seatIn, walkStart, walkOn, Walking}
-use Rattle.walk.specs.Places.{nthL, lastL, placeRule, spotAfter, stageIn, firstTurn, idle, turnAfter, IsNo, toldOf}
+use Rattle.walk_turns.specs.Turns.{firstTurn, idle, turnAfter, IsNo, toldOf}
+use Rattle.walk.specs.Places.{nthL, lastL, placeRule, spotAfter, stageIn}
 use Rattle.walk.specs.declared.beginning.Stage.{Stage}
-use Rattle.walk.specs.declared.turns.Turn.{Turn}
+use Rattle.walk_turns.specs.declared.turns.Turn.{Turn}
 use Rattle.walk.specs.declared.walking.Walk.{Walk}
+use Rattle.walk_turns.proofs.Returns.{after-here, after-on, after-end}
 use Rattle.walk.proofs.Steps.{listOn, list-small, on-more, on-end, on-seat, walking-from, walking-on}
-
--- The returns of `after`.
-module _ (s : Spot) (t : Turn) where
-  pub after-here : s .more ≡ true → t .left ≡ 0 → idle t ≡ turnAfter s t
-  after-here m e = rw (m, e)
-
-  pub after-on : s .more ≡ true → (t .left ≡ 0 → ⊥) → firstTurn (t .left - 1) ≡ turnAfter s t
-  after-on m e = rw (m, ne-eqb (t .left) 0 e)
-
-  pub after-end : s .more ≡ false → idle t ≡ turnAfter s t
-  after-end m = rw m
-
--- The returns of `told`.
-module _ (b : Bool) (n : Net) (x : ℕ) where
-  pub told-damaged : x ≡ 2 → followerAs (Refused Damaged) ≡ toldOf b n x
-  told-damaged e = rw e
-
-  pub told-noset : x ≡ 3 → followerAs (Refused NoSet) ≡ toldOf b n x
-  told-noset e = rw e
-
-  granted : (x ≡ 2 → ⊥) → (x ≡ 3 → ⊥) → IsNo x → x ≡ 0
-  granted a b (inl e) = e
-  granted a b (inr (inl e)) = absurd (a e)
-  granted a b (inr (inr e)) = absurd (b e)
-
-  module _ (a : x ≡ 2 → ⊥) (c : x ≡ 3 → ⊥) (i : IsNo x) where
-    pub told-network : b ≡ true → followerAs (Network n) ≡ toldOf b n x
-    told-network m = rw (granted a c i, m)
-
-    pub told-end : b ≡ false → followerAs End ≡ toldOf b n x
-    told-end m = rw (granted a c i, m)
 
 -- The number of a walk, and the rule by the list that it goes through.
 is-no : (d : Decoded) (k : ℕ) → IsNo (walkNo d k)
 unfolding walkNo
 is-no damaged k = inr (inl refl)
-is-no (sound S) k = go (ltb k (length (S .sets)))
+is-no (sound S) k = go (leb (length (S .sets)) k)
   where
-    go : (b : Bool) → IsNo (cond b 0 3)
-    go true = inl refl
-    go false = inr (inr refl)
+    go : (b : Bool) → IsNo (cond b 3 0)
+    go true = inr (inr refl)
+    go false = inl refl
 
 rule-is : (f : List Bits → Found) (d : Decoded) (k : ℕ) → placeRule f d k ≡ answered (walkNo d k) nothing (foundAs (seatIn d k .family) (f (listIn d k)))
-unfolding placeRule walkNo seatIn listIn
+unfolding placeRule answerOn walkNo seatIn listIn
 rule-is f damaged k = refl
-rule-is f (sound S) k = go (ltb k (length (S .sets))) refl
+rule-is f (sound S) k = go (leb (length (S .sets)) k) refl
   where
-    go : (b : Bool) → ltb k (length (S .sets)) ≡ b → placeRule f (sound S) k ≡ answered (walkNo (sound S) k) nothing (foundAs (seatIn (sound S) k .family) (f (listIn (sound S) k)))
+    go : (b : Bool) → leb (length (S .sets)) k ≡ b → placeRule f (sound S) k ≡ answered (walkNo (sound S) k) nothing (foundAs (seatIn (sound S) k .family) (f (listIn (sound S) k)))
     go true e = rw e
     go false e = rw e
 

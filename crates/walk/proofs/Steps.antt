@@ -5,9 +5,9 @@ use mathlib.Core.List.{List, [], _∷_, map}
 use Prim.Native.Nat.{ℕ, zero, suc, _<_}
 use native.Mathlib.Omega.{arith}
 use denote.Ref.{RefT, now}
-use lib.Dec.{ltb}
+use lib.Dec.{leb}
 use lib.ListN.{length}
-use borrow.Author.Tests.{lt-ltb, le-ltb, ltb-true}
+use borrow.Author.Tests.{lt-leb, le-leb, leb-false}
 use Rattle.nets.specs.Bits.{Bits}
 use Rattle.nets.specs.Networks.{isFamily, netFrom}
 use Rattle.nets.specs.Tries.{Trie, none, levels, listOf}
@@ -22,9 +22,9 @@ use Rattle.nodes.specs.declared.seats.Seat.{Seat}
 use Rattle.trie_paths.proofs.Reading.{spans-small}
 use Rattle.trie_paths.proofs.Counting.{listOf-size}
 use Rattle.listing.proofs.Seats.{Sits, sits-at}
-use Rattle.trie_next.specs.Spots.{nowhere, beforeAll, goneOn, Right, StandsIn, Goes}
-use Rattle.trie_next.specs.declared.spots.Spot.{Spot}
-use Rattle.trie_next.proofs.Onward.{stands-nowhere, seat-gone, Lists, lists-trie, ahead, ahead-all, gone-more, gone-last, right-gone}
+use Rattle.trie_spots.specs.Spots.{nowhere, beforeAll, goneOn, Right, StandsIn, Goes}
+use Rattle.trie_spots.specs.declared.spots.Spot.{Spot}
+use Rattle.trie_spots.proofs.Onward.{stands-nowhere, seat-gone, Lists, lists-trie, ahead, ahead-all, gone-more, gone-last, right-gone}
 use Rattle.walk.specs.Walks.{walkNo, listIn, seatIn, beginIn, walkStart, walkOn, Walking, pass, through}
 use Rattle.walk.specs.declared.walking.Walk.{Walk}
 
@@ -32,11 +32,11 @@ use Rattle.walk.specs.declared.walking.Walk.{Walk}
 pub begins-refused : (d : Decoded) (k x : ℕ) → Refuses d k x → record { spot = beforeAll nowhere; no = x } ≡ beginIn d k
 unfolding walkNo seatIn
 begins-refused damaged k x e = rw e
-begins-refused (sound S) k x e = rw (e .1, le-ltb k (length (S .sets)) (e .0))
+begins-refused (sound S) k x e = rw (e .1, le-leb (length (S .sets)) k (e .0))
 
 pub begins-at : {w : List ℕ} {k : ℕ} {S : State} {s : Seat} → Sits w k S s → record { spot = beforeAll s; no = 0 } ≡ beginIn (decode w) k
 unfolding walkNo seatIn
-begins-at {k = k} {S = S} h = rw (h .decoded, lt-ltb k (length (S .sets)) (h .known), h .seat)
+begins-at {k = k} {S = S} h = rw (h .decoded, lt-leb (length (S .sets)) k (h .known), h .seat)
 
 -- What stands in the seat of a set: the trie of its list.
 pub record Held (w : List ℕ) (k : ℕ) : Type 0 where
@@ -52,15 +52,15 @@ holds w k = go (decode w) refl
     nothing : seatIn (decode w) k ≡ nowhere → listIn (decode w) k ≡ [] → Held w k
     nothing e f = record { trie = none; stands = rw e (stands-nowhere w); list = sym f; family = rw e }
 
-    by : (S : State) → decode w ≡ sound S → (b : Bool) → ltb k (length (S .sets)) ≡ b → Held w k
-    by S d true e =
-        let h = sits-at w S k d (ltb-true k (length (S .sets)) e) in
+    by : (S : State) → decode w ≡ sound S → (b : Bool) → leb (length (S .sets)) k ≡ b → Held w k
+    by S d false e =
+        let h = sits-at w S k d (leb-false (length (S .sets)) k e) in
         record { trie = trieAt S k; stands = rw (d, e) (h .holds); list = rw (d, e) (h .list); family = rw (d, e) (isState-family S (decode-state w S d)) }
-    by S d false e = nothing (rw (d, e)) (rw (d, e))
+    by S d true e = nothing (rw (d, e)) (rw (d, e))
 
     go : (x : Decoded) → decode w ≡ x → Held w k
     go damaged d = nothing (rw d) (rw d)
-    go (sound S) d = by S d (ltb k (length (S .sets))) refl
+    go (sound S) d = by S d (leb (length (S .sets)) k) refl
 
 pub lists : (w : List ℕ) (k : ℕ) → Lists (seatIn (decode w) k .family) (listIn (decode w) k)
 lists w k = let h = holds w k in rw (h .list) at (lists-trie (seatIn (decode w) k .family) (h .trie) (h .stands .deep) (h .family))

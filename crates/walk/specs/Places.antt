@@ -1,4 +1,4 @@
--- The networks at a place and at the end of a list: the answers as functions of the words, and the turns on the way there.
+-- The networks at a place and at the end of a list: the answers as functions of the words.
 --
 --   nthL l i         the member of l at place i, counted from 0
 --   lastL l          the last member of l
@@ -6,26 +6,21 @@
 --   nthRule, lastRule            the same for these two
 --   spotAfter n l s  the spot n steps behind s in the list l
 --   stageIn d k n    where a walk through set k is behind n networks and one step more
---   firstTurn, turnAfter s t     the turns: before the first network, and at the next spot s
---   toldOf b n x     the answer of a walk with the number x, where the network n is there or not
-use mathlib.Core.Path.{_≡_}
-use mathlib.Core.Bool.{Bool, true, false, cond}
+use mathlib.Core.Bool.{Bool}
 use mathlib.Core.List.{List, [], _∷_}
-use mathlib.Core.Logic.{_⊎_}
-use Prim.Native.Nat.{ℕ, zero, suc, _-_}
-use lib.Dec.{eqb}
+use Prim.Native.Nat.{ℕ, zero, suc}
 use Rattle.nets.specs.Bits.{Bits}
 use Rattle.nets.specs.Lists.{Found, found, missing}
 use Rattle.nets.specs.Refusals.{answered}
 use Rattle.nets.specs.declared.Net.{Net}
-use Rattle.pool_state.specs.Decode.{Decoded, damaged, sound}
+use Rattle.pool_state.specs.Decode.{Decoded}
+use Rattle.pool_state.specs.Rules.{answerOn, unknown}
 use Rattle.pool_state.specs.Changes.{listAt}
 use Rattle.listing.specs.Calls.{nothing, foundAs}
-use Rattle.trie_next.specs.Spots.{beforeAll, goneOn}
-use Rattle.trie_next.specs.declared.spots.Spot.{Spot}
+use Rattle.trie_spots.specs.Spots.{beforeAll, goneOn}
+use Rattle.trie_spots.specs.declared.spots.Spot.{Spot}
 use Rattle.walk.specs.Walks.{walkNo, listIn, seatIn}
 use Rattle.walk.specs.declared.beginning.Stage.{Stage}
-use Rattle.walk.specs.declared.turns.Turn.{Turn}
 
 unfoldable pub nthL : List Bits → ℕ → Found
 nthL [] i = missing
@@ -38,8 +33,7 @@ lastL (p ∷ []) = found p
 lastL (p ∷ q ∷ l) = lastL (q ∷ l)
 
 unfoldable pub placeRule : (List Bits → Found) → Decoded → ℕ → ℕ × (Bool × Net)
-placeRule f damaged k = (2, nothing)
-placeRule f (sound S) k = answered (walkNo (sound S) k) nothing (foundAs (S .family) (f (listAt S k)))
+placeRule f d k = answerOn d (λ S. unknown S k ∷ []) nothing (λ S. foundAs (S .family) (f (listAt S k)))
 
 abbrev pub nthRule : Decoded → ℕ → ℕ → ℕ × (Bool × Net)
 nthRule d k i = placeRule (λ l. nthL l i) d k
@@ -53,19 +47,3 @@ spotAfter (suc n) l s = spotAfter n l (goneOn l s)
 
 abbrev pub stageIn : Decoded → ℕ → ℕ → Stage
 stageIn d k n = record { spot = spotAfter (suc n) (listIn d k) (beforeAll (seatIn d k)); no = walkNo d k }
-
-abbrev pub firstTurn : ℕ → Turn
-firstTurn n = record { more = true; left = n }
-
-abbrev pub idle : Turn → Turn
-idle t = record { more = false; left = t .left }
-
-abbrev pub turnAfter : Spot → Turn → Turn
-turnAfter s t = cond (s .more) (cond (eqb (t .left) 0) (idle t) (firstTurn (t .left - 1))) (idle t)
-
--- the numbers of a walk
-abbrev pub IsNo : ℕ → Type 0
-IsNo x = (x ≡ 0) ⊎ ((x ≡ 2) ⊎ (x ≡ 3))
-
-abbrev pub toldOf : Bool → Net → ℕ → ℕ × (Bool × Net)
-toldOf b n x = answered x nothing (cond b (true, n) nothing)

@@ -12,29 +12,30 @@ use mathlib.Core.Bool.{Bool, true, false, cond}
 use mathlib.Core.List.{List, [], _∷_}
 use Prim.Native.Nat.{ℕ, zero, suc}
 use denote.Ref.{RefT, now}
-use lib.Dec.{ltb}
+use lib.Dec.{leb}
 use lib.ListN.{length}
 use Rattle.nets.specs.Bits.{Bits}
+use Rattle.nets.specs.Refusals.{firstNo}
 use Rattle.nets.specs.declared.Net.{Net}
 use Rattle.pool_state.specs.Decode.{Decoded, damaged, sound, decode}
 use Rattle.pool_state.specs.Changes.{listAt}
-use Rattle.pool_state.specs.Rules.{seatAt}
+use Rattle.pool_state.specs.Rules.{unknown, seatAt}
 use Rattle.nodes.specs.declared.seats.Seat.{Seat}
-use Rattle.trie_next.specs.Spots.{nowhere, beforeAll, goneOn, Right}
+use Rattle.trie_spots.specs.Spots.{nowhere, beforeAll, goneOn, Right}
 use Rattle.walk.specs.declared.beginning.Stage.{Stage}
 use Rattle.walk.specs.declared.walking.Walk.{Walk}
 
 unfoldable pub walkNo : Decoded → ℕ → ℕ
 walkNo damaged k = 2
-walkNo (sound S) k = cond (ltb k (length (S .sets))) 0 3
+walkNo (sound S) k = firstNo (unknown S k ∷ [])
 
 unfoldable pub listIn : Decoded → ℕ → List Bits
 listIn damaged k = []
-listIn (sound S) k = cond (ltb k (length (S .sets))) (listAt S k) []
+listIn (sound S) k = cond (leb (length (S .sets)) k) [] (listAt S k)
 
 unfoldable pub seatIn : Decoded → ℕ → Seat
 seatIn damaged k = nowhere
-seatIn (sound S) k = cond (ltb k (length (S .sets))) (seatAt S k) nowhere
+seatIn (sound S) k = cond (leb (length (S .sets)) k) nowhere (seatAt S k)
 
 abbrev pub beginIn : Decoded → ℕ → Stage
 beginIn d k = record { spot = beforeAll (seatIn d k); no = walkNo d k }

@@ -4,9 +4,9 @@ ghost use Rattle.pool_state.specs.Decode.{decode};
 ghost use Rattle.walk.specs.Walks.{beginIn};
 use pool_check::seats::seat_of;
 use pool_state::Seated;
-use trie_next::spots::Spot;
-use trie_next::spots::before_all;
-use trie_next::spots::nowhere;
+use trie_spots::spots::Spot;
+use trie_spots::spots::before_all;
+use trie_spots::spots::nowhere;
 
 // How far a walk has come, and its number of the table.
 pub struct Stage {

@@ -8,12 +8,11 @@ ghost use Rattle.walk.specs.Places.{nthRule, lastRule};
 use beginning::begin;
 use listing::Follower;
 use reaching::reach;
-use turns::told;
+use walk_turns::turns::told;
 use walking::Walk;
 
 mod beginning;
 mod reaching;
-mod turns;
 pub mod walking;
 
 // More networks than a set can have.

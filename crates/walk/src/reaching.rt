@@ -4,8 +4,8 @@ ghost use Rattle.pool_state.specs.Decode.{decode};
 ghost use Rattle.walk.specs.Places.{stageIn};
 use crate::beginning::Stage;
 use crate::start;
-use crate::turns::after;
-use crate::turns::first;
+use walk_turns::turns::after;
+use walk_turns::turns::first;
 
 // Where a walk is that has passed so many networks of a set and has gone on to the one behind them, or to the end.
 pub fn reach(pool: &[u32], set: u32, left: u32) -> Stage

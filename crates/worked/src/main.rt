@@ -1,5 +1,6 @@
 // Runs the scope document's worked networks that are not proved as a table through the public calls, with cases at full pools, at the ends of the
-// address words and at refusals: the rows of its input, each against what it must answer.
+// address words, at refusals, of public-only and of indexed sets: the rows of its input, each against what it must answer.
+use lookup::Contained;
 use pool_state::Told;
 use test_counts::Tally;
 use test_counts::calls;
@@ -8,7 +9,7 @@ use test_counts::calls::taken;
 use test_counts::table;
 use test_counts::table::Place;
 
-// The words of the largest pool here: one set, 256 nodes.
+// The words of the largest pools here: one set of 256 nodes, three of 250.
 const WORDS: usize = 2120;
 
 fn told(a: Told) -> Got {
@@ -16,6 +17,21 @@ fn told(a: Told) -> Got {
         Told::Is(b) => calls::numbers(b as u64, 0),
         Told::Refused(no) => calls::refusal(no),
     }
+}
+
+fn looked(a: Contained) -> Got {
+    match a {
+        Contained::Is(b, steps, _) => calls::numbers(b as u64, steps as u64),
+        Contained::Refused(no) => calls::refusal(no),
+    }
+}
+
+// The word of the pool at a number.
+fn viewed(pool: &[u32], at: usize) -> u32 {
+    if at < pool.len() {
+        return pool[at];
+    }
+    0
 }
 
 // The call with three numbers that the row begins with; compare takes two.
@@ -37,6 +53,9 @@ fn on_sets(pool: &mut [u32], row: &[u8], letter: u8) -> Got {
 fn call(pool: &mut [u32], row: &[u8]) -> Got {
     let letter = calls::letter(row);
     match letter {
+        b'p' => calls::answer(make_public::make_public(pool, taken(row, 1))),
+        b'q' => looked(lookup::contains(pool, taken(row, 1), calls::net(row))),
+        b'v' => calls::numbers(viewed(pool, taken(row, 1) as usize) as u64, 0),
         b'm' | b'i' | b'e' | b'k' | b'g' | b'c' => on_sets(pool, row, letter),
         _ => calls::call(pool, row),
     }

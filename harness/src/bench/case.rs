@@ -1,6 +1,7 @@
 //! One table in a pool and as an IpRange, and the clock: the library and iprange in turns.
 use super::tables::{second, table, Shape};
-use crate::exports::free;
+use crate::exports::{free, layout_indexed, load};
+use crate::files::file;
 use crate::layout::{encode, Set, State, MARK};
 use crate::lists::{width, List, Member};
 use crate::oracle::{ranges, Numbers};
@@ -30,7 +31,7 @@ impl Pool {
         let used: usize = lists.iter().map(|l| nodes(width(family), l)).sum();
         let mut w = vec![0u32; FIRST_NODE + used];
         w[..4].copy_from_slice(&[MARK, family as u32, 4, NODES]);
-        let set = |k: usize| Set { share: 0, limit: NODES, public, list: lists.get(k).map_or(List::new(), |&l| l.clone()) };
+        let set = |k: usize| Set { share: 0, limit: NODES, public, indexed: false, list: lists.get(k).map_or(List::new(), |&l| l.clone()) };
         encode(&mut w, &State { family, nodes: NODES, sets: (0..4).map(set).collect() });
         Pool(w)
     }
@@ -43,6 +44,14 @@ impl Pool {
     pub fn words(&self) -> Vec<u32> {
         let mut w = vec![0u32; FIRST_NODE + 8 * NODES as usize];
         self.again(&mut w);
+        w
+    }
+
+    /// The words of a whole pool whose first set is indexed and has this list, as the library itself writes them.
+    pub fn indexed(family: u8, list: &List) -> Vec<u32> {
+        let mut w = vec![0u32; FIRST_NODE + 8 * NODES as usize + 256];
+        assert_eq!(layout_indexed(&mut w, family, 4, NODES, NODES, 1), 0);
+        assert_eq!(load(&mut w, 0, &file(family, list)), nodes(width(family), list) as u64);
         w
     }
 

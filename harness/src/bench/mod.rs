@@ -21,6 +21,8 @@ const MIX: [usize; 3] = [2_000, 20_000, 200_000];
 const SIDE: [usize; 3] = [10_000, 200_000, 2_000_000];
 /// The largest mix of IPv6 of which two tables, and what is made of both, fit in a pool.
 const TWO_SIX: usize = 100_000;
+/// The most networks for a row that makes a call for each.
+const FEW: usize = 20_000;
 
 /// What a run measures, and against what.
 struct Bench {
@@ -79,6 +81,7 @@ impl Bench {
     fn fits(&self, r: &Row, shape: Shape, family: u8, n: usize, nodes: usize) -> bool {
         match r.needs {
             Needs::One => family == 4 || n != TWO_SIX || self.networks.is_some(),
+            Needs::Few => n <= FEW,
             Needs::Twice => (family == 4 || n != TWO_SIX || self.networks.is_some()) && 2 * nodes <= NODES as usize,
             Needs::Two => shape == Shape::Mix && (family == 4 || n <= TWO_SIX),
         }

@@ -65,6 +65,11 @@ impl Line {
         format!("{} | {} | {}", self.spread(self.took.ours), theirs, self.times().map_or(String::new(), rounded))
     }
 
+    /// What stands beside it is a call of ours, not iprange's.
+    fn beside_ours(&self) -> bool {
+        self.what.ends_with("not marked") || self.what.ends_with("not indexed") || self.what.contains("/ a loop of our ")
+    }
+
     /// The part of a call that goes into the check of its pool.
     fn part(&self) -> String {
         if self.took.nodes == 0 {
@@ -148,6 +153,12 @@ fn growth(lines: &[Line], shape: Shape) -> String {
     s
 }
 
+/// The rows of calls that take many at once, on every table.
+fn many(lines: &[Line]) -> String {
+    let rows = lines.iter().filter(|l| ["contains_all_", "add_file", "remove_file"].iter().any(|front| l.name.starts_with(front)));
+    [WHOLE.to_string()].into_iter().chain(rows.map(Line::whole)).map(|line| line + "\n").collect()
+}
+
 fn apart(lines: &[Line]) -> String {
     let mut s = "| row | what | family | entries or lines | ns for each | spread | beside | spread | times | a second |\n".to_string();
     s += "|---|---|---|---|---|---|---|---|---|---|\n";
@@ -161,7 +172,7 @@ fn apart(lines: &[Line]) -> String {
 fn ratios(lines: &[Line], targets: &[Target]) -> String {
     let all = largest(lines);
     let mut s = String::new();
-    for l in all.iter().filter(|l| l.family == 4 && l.theirs().is_some() && l.each != "call" && !l.what.ends_with("not marked")) {
+    for l in all.iter().filter(|l| l.family == 4 && l.theirs().is_some() && l.each != "call" && !l.beside_ours()) {
         write!(s, "{}", l.name).unwrap();
         for family in [4, 6] {
             let same = all.iter().find(|k| (k.name, k.family) == (l.name, family));
@@ -191,6 +202,7 @@ pub fn write(to: &Path, lines: &[Line], wanted: &[Target]) -> std::io::Result<()
     std::fs::write(to.join("growth.md"), growth(lines, Shape::Mix))?;
     std::fs::write(to.join("large.md"), growth(lines, Shape::Side))?;
     std::fs::write(to.join("apart.md"), apart(lines))?;
+    std::fs::write(to.join("many.md"), many(lines))?;
     std::fs::write(to.join("ratios.dat"), ratios(lines, wanted))?;
     std::fs::write(to.join("curves.dat"), curves(lines))
 }

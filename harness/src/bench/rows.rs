@@ -15,6 +15,8 @@ use std::hint::black_box;
 #[derive(Clone, Copy, PartialEq, Eq)]
 pub enum Needs {
     One,
+    /// One, of few networks: each call checks the whole pool, and there are as many calls as networks.
+    Few,
     /// The table twice.
     Twice,
     /// The table, a second one and what is made of both.
@@ -42,8 +44,13 @@ macro_rules! rows {
 pub const ROWS: &[Row] = rows! {
     contains_hit, "contains, hit / contains", "lookup", One;
     contains_miss, "contains, miss / contains", "lookup", One;
+    contains_indexed_hit, "contains of an indexed set, hit / contains", "lookup", One;
+    contains_indexed_miss, "contains of an indexed set, miss / contains", "lookup", One;
+    indexed_hit, "contains of an indexed set, hit / not indexed", "lookup", One;
+    indexed_miss, "contains of an indexed set, miss / not indexed", "lookup", One;
     contains_all_hit, "contains_all, hit / contains", "lookup", One;
     contains_all_miss, "contains_all, miss / contains", "lookup", One;
+    contains_all_loop, "contains_all, hit / a loop of our contains", "lookup", One;
     supernet, "supernet / supernet", "lookup", One;
     list, "list / iterate", "network", One;
     ranges, "ranges", "network", One;
@@ -51,6 +58,7 @@ pub const ROWS: &[Row] = rows! {
     load, "load / collect", "network", One;
     save, "save", "network", One;
     add_file, "add_file of half a table to the rest / add", "network of the file", One;
+    add_file_loop, "add_file of half a table to the rest / a loop of our add", "network of the file", Few;
     remove_file, "remove_file of half a table / remove", "network of the file", One;
     simplify, "simplify / simplify", "network", One;
     merge, "merge / merge", "network of both", Two;
@@ -80,11 +88,10 @@ fn lookups<N: Numbers + Clone>(c: &Case<N>, hit: bool, ours: impl Fn(&Net) -> bo
     c.beside(QUERIES, a, || seconds(|| right(same.iter().filter(|n| theirs(n)).count()))).checked(0)
 }
 
-/// All queries in one call of ours.
-fn many<N: Numbers + Clone>(c: &Case<N>, hit: bool) -> Took {
-    let wanted = queries(c.family, &c.list, hit);
-    let asked: Vec<u64> = wanted.iter().map(|&m| net(c.family, m)).flat_map(|n| [n.hi, n.lo, n.len as u64]).collect();
-    let same: Vec<N> = wanted.iter().map(|&m| N::of(m)).collect();
+/// All queries in one call of ours, and one by one beside it.
+fn many<N: Numbers + Clone>(c: &Case<N>, hit: bool, one: impl Fn(&Net, &N) -> bool) -> Took {
+    let (nets, same): (Vec<Net>, Vec<N>) = queries(c.family, &c.list, hit).iter().map(|&m| (net(c.family, m), N::of(m))).unzip();
+    let asked: Vec<u64> = nets.iter().flat_map(|n| [n.hi, n.lo, n.len as u64]).collect();
     let right = |n: usize| assert_eq!(n, if hit { QUERIES } else { 0 });
     let a = || {
         let mut answers = vec![0; QUERIES];
@@ -93,15 +100,46 @@ fn many<N: Numbers + Clone>(c: &Case<N>, hit: bool) -> Took {
             right(answers.iter().filter(|&a| a >> 48 & 1 == 1).count())
         })
     };
-    c.beside(QUERIES, a, || seconds(|| right(same.iter().filter(|n| c.range.contains(*n)).count()))).checked(0)
+    c.beside(QUERIES, a, || seconds(|| right(nets.iter().zip(&same).filter(|(n, same)| one(n, same)).count()))).checked(0)
+}
+
+fn contains_indexed_hit<N: Numbers + Clone>(c: &Case<N>) -> Took {
+    let w = Pool::indexed(c.family, &c.list);
+    lookups(c, true, |n| call::contains(&w, 0, n), |n| c.range.contains(n))
+}
+
+fn contains_indexed_miss<N: Numbers + Clone>(c: &Case<N>) -> Took {
+    let w = Pool::indexed(c.family, &c.list);
+    lookups(c, false, |n| call::contains(&w, 0, n), |n| c.range.contains(n))
+}
+
+/// An indexed set beside one that is not, of the same list.
+fn indexed<N: Numbers + Clone>(c: &Case<N>, hit: bool) -> Took {
+    let w = Pool::indexed(c.family, &c.list);
+    let nets: Vec<Net> = queries(c.family, &c.list, hit).iter().map(|&m| net(c.family, m)).collect();
+    let right = if hit { QUERIES } else { 0 };
+    let asked = |w: &[u32]| seconds(|| assert_eq!(nets.iter().filter(|n| call::contains(w, 0, n)).count(), right));
+    c.beside(QUERIES, || asked(&w), || asked(&c.words)).checked(0)
+}
+
+fn indexed_hit<N: Numbers + Clone>(c: &Case<N>) -> Took {
+    indexed(c, true)
+}
+
+fn indexed_miss<N: Numbers + Clone>(c: &Case<N>) -> Took {
+    indexed(c, false)
 }
 
 fn contains_all_hit<N: Numbers + Clone>(c: &Case<N>) -> Took {
-    many(c, true)
+    many(c, true, |_, n| c.range.contains(n))
 }
 
 fn contains_all_miss<N: Numbers + Clone>(c: &Case<N>) -> Took {
-    many(c, false)
+    many(c, false, |_, n| c.range.contains(n))
+}
+
+fn contains_all_loop<N: Numbers + Clone>(c: &Case<N>) -> Took {
+    many(c, true, |n, _| call::contains(&c.words, 0, n))
 }
 
 fn contains_hit<N: Numbers + Clone>(c: &Case<N>) -> Took {
@@ -177,6 +215,24 @@ fn add_file<N: Numbers + Clone>(c: &Case<N>) -> Took {
         seconds(|| nets.iter().cloned().for_each(|n| _ = r.add(n)))
     };
     Took { nodes: pool.nodes(), ..c.beside(nets.len(), ours, theirs) }
+}
+
+fn add_file_loop<N: Numbers + Clone>(c: &Case<N>) -> Took {
+    let [half, rest] = halves(&c.list);
+    let (f, nets) = (file(c.family, &half), half.iter().map(|&m| net(c.family, m)).collect::<Vec<Net>>());
+    let pool = Pool::of(c.family, &[&rest], false);
+    let (mut v, mut w) = (pool.words(), pool.words());
+    let ours = || {
+        pool.again(&mut v);
+        seconds(|| granted(call::add_file(&mut v, 0, &f)))
+    };
+    let theirs = || {
+        pool.again(&mut w);
+        seconds(|| nets.iter().for_each(|n| granted(call::add(&mut w, 0, n))))
+    };
+    let took = c.beside(nets.len(), ours, theirs);
+    assert!(v == w, "the same words");
+    Took { nodes: pool.nodes(), ..took }
 }
 
 fn remove_file<N: Numbers + Clone>(c: &Case<N>) -> Took {

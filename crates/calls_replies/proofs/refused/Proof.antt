@@ -9,4 +9,4 @@ refused-spec =
     (tie.spec
     (λ c κs. search needs)
     (λ c κs. search needs)
-    (λ c. cc))
+    (λ c. rw (c .only .ensures, c .before .number .ensures)))

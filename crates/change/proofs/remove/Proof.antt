@@ -5,7 +5,7 @@ use native.Mathlib.Omega.{arith}
 use borrow.Author.Needs.{needs}
 use Rattle.nets.specs.Lists.{removeL}
 use Rattle.nets.specs.TrieOps.{removeT}
-use Rattle.pool_state.proofs.OnTries.{result-refused, result-fits, result-relinks, result-granted}
+use Rattle.pool_state.proofs.OnTries.{result-refused, result-fits, result-settles, result-granted}
 use Rattle.change.specs.Steps.{Ready}
 use Rattle.trie_remove.proofs.Splices.{left-root}
 use Rattle.change.proofs.Calls.{Counted, works-remove, clear-remove, seat-stands, result, result-stands, result-few, result-room, result-wrote}
@@ -41,7 +41,7 @@ remove-spec =
     let e = i .before .before .before in
     let j = e .before .before in
     let h = counted (j .before .before) in
-    result-relinks (result h) (j .judge .ensures) (e .enum-told .given .1) (result-wrote h (left-root _ (i .remove .ensures _ _ (result-stands h)))))
+    result-settles (result h) (j .judge .ensures) (e .enum-told .given .1) (result-wrote h (left-root _ (i .remove .ensures _ _ (result-stands h)))))
     (λ c κs. search needs)
     (λ c. search needs)
     (λ c. reports-refused (c .before .asked .given .0 .0) ((rw (c .before .asked .given .1) at (c .before .before .before .ask .ensures)) _))

@@ -18,7 +18,7 @@ Inv-loop w f b n root q i₀ least₀ count₀ i least count = Down f w b n root
 abbrev μ-loop : tie.MeasureT-loop
 μ-loop w f b n root q i₀ least₀ count₀ i least count = q .len + 1 - least
 
-step-le : (c : Bool) (d : ℕ) {x : ℕ} → x ≡ side c 1 d → x ≤ 1 + d
+step-le : (c : Bool) (d : ℕ) {x : ℕ} → x ≡ side c d 1 → x ≤ 1 + d
 step-le true d e = omega arith
 step-le false d e = omega arith
 

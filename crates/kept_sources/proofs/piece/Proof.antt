@@ -16,7 +16,7 @@ place : (c : tie.Else2) → let a = start c .args in (1 ≤ a .i) × (a .i ≤ a
 place c = let (o, g, p, t, m, e) = start c .pre .1 in piece-place (start c .args .second) _ t m _ (c .before .before .kind .ensures o g p t m e)
     (c .before .if1 .left) (c .if2 .left)
 
-toward-le : (s : Bool) (d : ℕ) {x : ℕ} → x ≡ side s 1 d → x ≤ 1 + d
+toward-le : (s : Bool) (d : ℕ) {x : ℕ} → x ≡ side s d 1 → x ≤ 1 + d
 toward-le true d e = omega arith
 toward-le false d e = omega arith
 

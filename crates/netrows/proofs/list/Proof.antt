@@ -55,9 +55,9 @@ use Rattle.nets.proofs.Net.Laws as T′
 use Rattle.pool_state.specs.declared.Answer.{Answer}
 use Rattle.pool_state.proofs.Answer as P
 use Rattle.pool_state.proofs.Answer.Laws as P′
-use Rattle.trie_next.specs.Spots.{StandsIn}
-use Rattle.trie_next.proofs.spots.Spot as O
-use Rattle.trie_next.proofs.spots.Spot.Laws as O′
+use Rattle.trie_spots.specs.Spots.{StandsIn}
+use Rattle.trie_spots.proofs.spots.Spot as O
+use Rattle.trie_spots.proofs.spots.Spot.Laws as O′
 use Rattle.netrows.specs.Rows.{Listed}
 use Rattle.netrows.specs.Turns.{turnAfter, Stores, Begins}
 use Rattle.netrows.specs.declared.turns.Turn.{Turn}

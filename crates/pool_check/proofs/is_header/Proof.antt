@@ -1,17 +1,10 @@
--- `checking::is_header` meets its contract: its tests are those of `isHeader`, and no sum wraps behind `is_size`. Assumes nothing.
-use denote.Ref.{now}
+-- `is_header` meets its contract: its tests are those of `isHeader`. Assumes nothing.
 use mathlib.Core.Path.{sym, _∙_}
-use native.Mathlib.Omega.{arith}
-use lib.ListN.{getD}
 use borrow.Author.Needs.{needs}
 use borrow.Author.Tests.{not-true, not-false}
-use Rattle.pool_state.proofs.Claims.{Sized, isSize-is}
-use Rattle.pool_state.proofs.Header.{isHeader-short, isHeader-mark, isHeader-family, isHeader-size, isHeader-long}
+use Rattle.pool_state.proofs.Header.{isHeader-short, isHeader-mark, isHeader-family, isHeader-size, isHeader-indexed, isHeader-long}
 use Rattle.pool_check.proofs.is_header.Statement.{statement}
 use Rattle.pool_check.proofs.is_header.Tie as tie
-
-small : (c : tie.Else4) → let w = now (c .before .before .before .before .before .before .before .before .before .before .before .args .w) in Sized (getD w 2 0) (getD w 3 0)
-small c = isSize-is _ _ (sym (c .before .is-size .ensures) ∙ not-false _ (c .if4 .left))
 
 pub is-header-spec : {M : Type 1} → statement M
 is-header-spec =
@@ -27,12 +20,11 @@ is-header-spec =
     (λ c. search needs)
     (λ c κs. search needs)
     (λ c. isHeader-size _ (sym (c .before .is-size .ensures) ∙ not-true _ (c .if4 .taken)))
-    (λ c. omega (arith, small c))
-    (λ c. omega (arith, small c))
-    (λ c. omega (arith, small c))
-    (λ c. omega (arith, small c))
-    (λ c. omega (arith, small c))
-    (λ c. omega (arith, small c))
+    (λ c. search needs)
+    (λ c. isHeader-indexed _ (c .if5 .taken))
+    (λ c κs. search needs)
     (λ c.
-    let d = c .before .before .before .before in
-    isHeader-long _ (d .before .before .before .if2 .left) (sym (d .before .is-family .ensures) ∙ not-false _ (d .if3 .left)) (sym (c .before .is-size .ensures) ∙ not-false _ (c .if4 .left))))
+    let z = c .before .before .before in
+    let d = z .before .before .before .before in
+    isHeader-long _ (d .before .before .before .if2 .left) (sym (d .before .is-family .ensures) ∙ not-false _ (d .if3 .left)) (sym (z .before .is-size .ensures) ∙ not-false _ (z .if4 .left))
+    (c .before .if5 .left) (c .least-words .ensures)))

@@ -1,6 +1,6 @@
 -- `main` is safe and ends. The bytes that are lent are too many to be counted one by one: a law gives their number. Assumes nothing.
 use borrow.Author.Needs.{needs}
-use Rattle.tool_io.proofs.Zeros.{count-zeros}
+use Rattle.tool_files.proofs.Zeros.{count-zeros}
 use Rattle.salvage_file.proofs.main.Statement.{statement}
 use Rattle.salvage_file.proofs.main.Tie as tie
 

@@ -1,6 +1,6 @@
 -- `main` is safe and ends. The words of the pool and the bytes of a file are too many to be counted one by one: a law gives their number. Assumes nothing.
 use borrow.Author.Needs.{needs}
-use Rattle.tool_io.proofs.Zeros.{count-zeros}
+use Rattle.tool_files.proofs.Zeros.{count-zeros}
 use Rattle.set_to_lines.proofs.main.Statement.{statement}
 use Rattle.set_to_lines.proofs.main.Tie as tie
 

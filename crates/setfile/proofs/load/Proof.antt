@@ -1,7 +1,7 @@
 -- `load` meets its contract, each return by the tests on the way to it. Assumes nothing.
 use denote.Ref.{now}
 use borrow.Author.Needs.{needs}
-use Rattle.pool_state.proofs.OnTries.{result-refused, result-fits, result-relinks, result-granted}
+use Rattle.pool_state.proofs.OnTries.{result-refused, result-fits, result-settles, result-granted}
 use Rattle.setfile.specs.LoadSteps.{Ready}
 use Rattle.setfile.proofs.Loads.{load-result, load-writes, load-wrote}
 use Rattle.setfile.proofs.load.Statement.{statement}
@@ -32,7 +32,7 @@ load-spec =
     let j = e .before .before in
     let m = j .before .before in let h = ready (m .before .before .before) in
     let z = e .enum-told .given .1 in
-    result-relinks (load-result h (m .is-admitted .ensures)) (j .judge .ensures) z (load-wrote h (result-fits (load-result h (m .is-admitted .ensures)) (j .judge .ensures) z) (x .write .ensures)))
+    result-settles (load-result h (m .is-admitted .ensures)) (j .judge .ensures) z (load-wrote h (result-fits (load-result h (m .is-admitted .ensures)) (j .judge .ensures) z) (x .write .ensures)))
     (λ c. search needs)
     (λ c. rw (c .before .asked .given .1) at (c .before .before .before .ask .ensures))
     (λ c. search needs)

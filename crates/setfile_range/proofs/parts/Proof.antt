@@ -1,7 +1,6 @@
 -- `parts` meets its contract. Assumes nothing.
-use mathlib.Core.Bool.{not, _||_, Bool·beq as same}
-use mathlib.Core.Path.{_≡_, refl, sym, ap₂, _∙_}
-use borrow.Author.Needs.{needs}
+use mathlib.Core.Bool.{not, Bool·beq as same}
+use mathlib.Core.Path.{sym, ap₂, _∙_}
 use Rattle.setfile_range.proofs.parts.Statement.{statement}
 use Rattle.setfile_range.proofs.parts.Tie as tie
 

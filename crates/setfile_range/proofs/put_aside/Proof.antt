@@ -1,7 +1,7 @@
 -- `put_aside` meets its contract, each return by the tests on the way to it. Assumes nothing.
 use mathlib.Core.Bool.{Bool, not, Bool·beq as same}
 use mathlib.Core.List.{[], _∷_}
-use mathlib.Core.Path.{_≡_, refl, sym, ap, _∙_}
+use mathlib.Core.Path.{_≡_, sym, ap, _∙_}
 use Prim.Native.Nat.{ℕ, _+_, _≤_}
 use native.Mathlib.Omega.{arith}
 use borrow.Author.Needs.{needs}

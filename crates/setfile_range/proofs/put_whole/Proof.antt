@@ -1,7 +1,5 @@
 -- `put_whole` meets its contract. Assumes nothing.
-use mathlib.Core.Bool.{true, _||_, or-true}
-use mathlib.Core.List.{[], _∷_}
-use mathlib.Core.Path.{_≡_, refl}
+use mathlib.Core.List.{[]}
 use native.Mathlib.Omega.{arith}
 use borrow.Author.Needs.{needs}
 use Rattle.setfile_range.proofs.Laying.{lays-none, lays-one, whole-room}

@@ -1,15 +1,14 @@
 -- `range_file` meets its contract: the entries, then the header in front of them. Assumes nothing.
-use mathlib.Core.Path.{_≡_, _∙_}
+use mathlib.Core.Path.{_∙_}
 use Prim.Native.Nat.{_-_}
 use native.Mathlib.Omega.{arith}
 use borrow.Author.Needs.{needs}
 use denote.Ref.{now}
-use lib.ListN.{length}
 use Rattle.nets.specs.Bits.{bits}
 use Rattle.nets.specs.Tries.{listOf}
 use Rattle.nets.specs.Networks.{width}
 use Rattle.ranges.specs.Addresses.{addressOf, afterOf}
-use Rattle.setfile_range.specs.Edges.{opened, Lays, Edges}
+use Rattle.setfile_range.specs.Edges.{opened, Lays}
 use Rattle.setfile_range.proofs.Files.{range-edges, range-few, range-size, range-written}
 use Rattle.setfile_range.proofs.Laying.{lays-length}
 use Rattle.setfile_range.proofs.range_file.Statement.{statement}

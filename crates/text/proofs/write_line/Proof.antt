@@ -6,7 +6,8 @@ use borrow.Author.Needs.{needs}
 use Rattle.nets.specs.Networks.{refusalOf, cleared, hasBitPast}
 use Rattle.nets.specs.declared.Refusal.the-variants.{WrongFamily, BadNetwork, ShortBuffer}
 use Rattle.text.specs.Ipv4.{lineOf}
-use Rattle.text.proofs.Writing.{length-digitsOf, length-lineAs}
+use Rattle.text_decimal.proofs.Writing.{length-digitsOf}
+use Rattle.text.proofs.Writing.{length-lineAs}
 use Rattle.text.proofs.Answers.{entered-granted, entered-refused, lineRefusal-family, lineRefusal-range, lineRefusal-short, lineRefusal-granted, over-refused, over-line}
 use Rattle.text.proofs.write_line.Statement.{statement}
 use Rattle.text.proofs.write_line.Tie as tie

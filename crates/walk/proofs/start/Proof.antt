@@ -41,8 +41,8 @@ use denote.Triple.Table.{entered, cited}
 use denote.Triple.Walked.{says, Stays, stay-none-slice, stay-none, walkOf, goes-none-slice, goes-none, Walks, ends-at, walked, walk-meets}
 use denote.Exit.{yes}
 use Rattle.pool_state.specs.Decode.{decode}
-use Rattle.trie_next.proofs.spots.Spot as O
-use Rattle.trie_next.proofs.spots.Spot.Laws as O′
+use Rattle.trie_spots.proofs.spots.Spot as O
+use Rattle.trie_spots.proofs.spots.Spot.Laws as O′
 use Rattle.walk.specs.Walks.{beginIn}
 use Rattle.walk.specs.declared.walking.Walk.{Walk}
 use Rattle.walk.specs.declared.beginning.Stage.{Stage}

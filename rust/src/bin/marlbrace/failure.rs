@@ -14,12 +14,12 @@ pub enum Failure {
 
 impl Failure {
     pub fn refused(place: &str, no: Refusal) -> Failure {
-        let hint = match no {
-            Refusal::OverLimit | Refusal::NoRoom => "; there are 4,194,304 nodes",
-            Refusal::WrongFamily => "; all inputs have to be of one",
-            _ => "",
+        let why = match no {
+            Refusal::OverLimit | Refusal::NoRoom => format!("{no}; there are 4,194,304 nodes"),
+            Refusal::WrongFamily => "there are networks of two families, and all have to be of one".to_string(),
+            _ => no.to_string(),
         };
-        Failure::Wrong(format!("{place} refused: {no}{hint} ({no:?}, {} in docs/REFUSALS.md)", no.number()))
+        Failure::Wrong(format!("{place} refused: {why} ({no:?}, {} in docs/REFUSALS.md)", no.number()))
     }
 
     pub fn system(place: &str, error: io::Error) -> Failure {

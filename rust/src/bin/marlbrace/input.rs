@@ -5,15 +5,16 @@ use marlbrace::{IpNet, IpRange, Refusal};
 use std::ffi::OsStr;
 use std::fs::File;
 use std::io::{stdin, BufRead, BufReader, Error, Read};
+use std::net::IpAddr;
 use std::os::fd::AsFd;
 
 /// The bytes of the longest set file, 4,194,304 entries of IPv6, and one more.
 const FILE: u64 = 16 + 17 * 4_194_304 + 1;
 
-/// No line is longer, its comment included.
-const LONGEST: u64 = 65_536;
+/// No line is longer, its comment and its end included.
+const LONGEST: usize = 65_536;
 
-/// Lines between two looks at the clock.
+/// Lines between two words on how far it is.
 const STEP: u64 = 1024;
 
 pub struct Input {
@@ -71,11 +72,11 @@ impl Input {
 pub struct Reader<'a> {
     lenient: bool,
     family: Option<u8>,
-    progress: &'a mut Progress,
+    progress: &'a Progress,
 }
 
 impl Reader<'_> {
-    pub fn new(lenient: bool, progress: &mut Progress) -> Reader<'_> {
+    pub fn new(lenient: bool, progress: &Progress) -> Reader<'_> {
         Reader { lenient, family: None, progress }
     }
 
@@ -87,7 +88,8 @@ impl Reader<'_> {
             Err(Refusal::BadText) => {}
             Err(no) => return Err(Failure::refused(&format!("{name}:"), no)),
         }
-        let mut bytes = BufReader::with_capacity(1 << 16, open(word).map_err(|e| Failure::system(&name, e))?);
+        self.progress.say(|| format!("{name}: reading"));
+        let mut bytes = BufReader::with_capacity(1 << 16, open(word).map_err(|e| unopened(&name, e))?);
         let first = bytes.fill_buf().map_err(|e| Failure::system(&name, e))?.first().copied();
         let content = if first == Some(0) { self.set_file(&name, bytes)? } else { self.lines(&name, bytes)? };
         Ok(Input { name, content })
@@ -102,10 +104,13 @@ impl Reader<'_> {
 
     fn lines(&mut self, name: &str, mut bytes: impl BufRead) -> Result<Content, Failure> {
         let (mut lines, mut number, mut line) = (Lines::default(), 0u64, Vec::new());
-        while bytes.by_ref().take(LONGEST).read_until(b'\n', &mut line).map_err(|e| Failure::system(name, e))? > 0 {
+        while bytes.by_ref().take(LONGEST as u64).read_until(b'\n', &mut line).map_err(|e| Failure::system(name, e))? > 0 {
             number += 1;
             if number % STEP == 0 {
                 self.progress.say(|| format!("{name}: {number} lines"));
+            }
+            if line.len() == LONGEST && line.last() != Some(&b'\n') {
+                return Err(Failure::Wrong(format!("{name}: line {number} refused: it has more than {LONGEST} bytes")));
             }
             self.line(&line, &mut lines).map_err(|no| Failure::refused(&format!("{name}: line {number}"), no))?;
             line.clear();
@@ -146,6 +151,14 @@ impl Reader<'_> {
             Some(other) if other != family => Err(Refusal::WrongFamily),
             _ => Ok(()),
         }
+    }
+}
+
+/// What to say of an input that cannot be opened: an address is most likely meant for a network.
+fn unopened(name: &str, error: Error) -> Failure {
+    match name.parse::<IpAddr>() {
+        Ok(address) => Failure::Wrong(format!("{name}: {error}; a network has its length behind it, as {}", IpNet::from(address))),
+        Err(_) => Failure::system(name, error),
     }
 }
 

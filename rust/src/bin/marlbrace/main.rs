@@ -16,7 +16,7 @@ use words::{Command, Words, USAGE};
 
 fn main() -> ExitCode {
     let words: Vec<_> = std::env::args_os().skip(1).collect();
-    if words.iter().any(|word| word == "-h" || word == "--help") {
+    if words.iter().take_while(|word| *word != "--").any(|word| word == "-h" || word == "--help") {
         return status(Output::standard().write(|out| out.write_all(USAGE.as_bytes())).map(|()| true));
     }
     status(Words::read(words).and_then(|words| run(&words)))
@@ -31,24 +31,27 @@ fn status(ended: Result<bool, Failure>) -> ExitCode {
 }
 
 fn run(words: &Words) -> Result<bool, Failure> {
-    let mut progress = Progress::start();
+    let progress = Progress::start();
     let done = match words.command {
-        Command::Check => check(words, &mut progress),
-        Command::Contains => contains(words, &mut progress),
-        _ => rewrite(words, &mut progress),
+        Command::Check => check(words, &progress),
+        Command::Contains => contains(words, &progress),
+        _ => rewrite(words, &progress),
     };
     progress.clear();
     done
 }
 
 /// Reads the inputs, all of one family, and writes one set.
-fn rewrite(words: &Words, progress: &mut Progress) -> Result<bool, Failure> {
+fn rewrite(words: &Words, progress: &Progress) -> Result<bool, Failure> {
     let mut reader = Reader::new(words.lenient, progress);
     let inputs = words.inputs.iter().map(|name| reader.read(name)).collect::<Result<Vec<_>, _>>()?;
     progress.say(|| "building".to_string());
     let set = combined(words.command, inputs).map_err(|no| Failure::refused(&format!("{}:", words.command.name()), no))?;
-    progress.say(|| "writing".to_string());
     let output = Output::to(words.output.as_deref());
+    progress.clear();
+    if !output.is_terminal() {
+        progress.say(|| "writing".to_string());
+    }
     match words.command {
         Command::Ranges => output.ranges(set.ranges().into_iter())?,
         _ => output.set(&set, words.set)?,
@@ -88,25 +91,28 @@ fn simplified(mut set: IpRange) -> IpRange {
 }
 
 /// Whether the first input has every address of the others; prints those of their networks that it has not.
-fn contains(words: &Words, progress: &mut Progress) -> Result<bool, Failure> {
+fn contains(words: &Words, progress: &Progress) -> Result<bool, Failure> {
     let mut reader = Reader::new(words.lenient, progress);
     let set = reader.read(&words.inputs[0])?.set().map(simplified).map_err(|no| Failure::refused("contains:", no))?;
     let mut outside: Vec<IpNet> = Vec::new();
     for name in &words.inputs[1..] {
-        outside.extend(reader.read(name)?.nets().filter(|&net| !set.contains(net)));
+        let nets: Vec<IpNet> = reader.read(name)?.nets().collect();
+        outside.extend(nets.iter().zip(set.contains_all(&nets)).filter(|(_, inside)| !inside).map(|(net, _)| net));
     }
+    progress.clear();
     Output::standard().lines(outside.iter().copied())?;
     Ok(outside.is_empty())
 }
 
 /// Reads every input for itself; prints a line for each that is right, and says what is wrong with the others.
-fn check(words: &Words, progress: &mut Progress) -> Result<bool, Failure> {
+fn check(words: &Words, progress: &Progress) -> Result<bool, Failure> {
     let mut right = true;
     for name in &words.inputs {
-        match Reader::new(words.lenient, progress).read(name).and_then(report) {
+        let found = Reader::new(words.lenient, progress).read(name).and_then(report);
+        progress.clear();
+        match found {
             Ok(line) => Output::standard().write(|out| writeln!(out, "{line}"))?,
             Err(failure) => {
-                progress.clear();
                 right = false;
                 failure.say();
             }

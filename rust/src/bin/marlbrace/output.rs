@@ -3,7 +3,7 @@ use crate::failure::Failure;
 use marlbrace::{IpNet, IpRange, Refusal, LINE};
 use std::ffi::{OsStr, OsString};
 use std::fs::{self, File};
-use std::io::{self, stdout, BufWriter, ErrorKind, Write};
+use std::io::{self, stdout, BufWriter, ErrorKind, IsTerminal, Write};
 use std::net::IpAddr;
 use std::os::fd::AsFd;
 use std::path::{Path, PathBuf};
@@ -23,6 +23,10 @@ impl Output {
             Some(word) if word != "-" => Output { name: word.to_string_lossy().into_owned(), file: Some(word.into()) },
             _ => Output::standard(),
         }
+    }
+
+    pub fn is_terminal(&self) -> bool {
+        self.file.is_none() && stdout().is_terminal()
     }
 
     /// A set, as a set file or as lines.
@@ -116,6 +120,9 @@ fn replace(name: &Path, work: impl FnOnce(&mut dyn Write) -> io::Result<()>) -> 
     };
     let mut beside = OsString::from(&target);
     beside.push(format!(".new-{}", std::process::id()));
-    let whole = fill(File::create_new(&beside)?, work).and_then(|new| new.sync_all()).and_then(|()| fs::rename(&beside, &target));
+    let new = File::create_new(&beside)?;
+    // it has the mode of the old one from the start: what is private stays so
+    let ready = fs::metadata(&target).map_or(Ok(()), |old| new.set_permissions(old.permissions()));
+    let whole = ready.and_then(|()| fill(new, work)).and_then(|new| new.sync_all()).and_then(|()| fs::rename(&beside, &target));
     whole.inspect_err(|_| drop(fs::remove_file(&beside)))
 }

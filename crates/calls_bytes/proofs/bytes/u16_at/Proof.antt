@@ -16,4 +16,4 @@ u16-at-spec =
     (λ c. search needs)
     (λ c. search needs)
     (λ c. search needs)
-    (λ c. cc))
+    (λ c. rw (c .before .byte-at .ensures, c .byte-at2 .ensures)))

@@ -16,4 +16,4 @@ u32-at-spec =
     (λ c. search needs)
     (λ c. search needs)
     (λ c. search needs)
-    (λ c. cc))
+    (λ c. rw (c .before .u16-at .ensures, c .u16-at2 .ensures)))

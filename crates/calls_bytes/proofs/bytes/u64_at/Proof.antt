@@ -16,4 +16,4 @@ u64-at-spec =
     (λ c. search needs)
     (λ c. search needs)
     (λ c. search needs)
-    (λ c. cc))
+    (λ c. rw (c .before .u32-at .ensures, c .u32-at2 .ensures)))

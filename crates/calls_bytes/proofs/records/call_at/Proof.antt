@@ -20,4 +20,9 @@ call-at-spec =
     (λ c κs. search needs)
     (λ c. search needs)
     (λ c κs. search needs)
-    (λ c. cc))
+    (λ c.
+    let n = c .before in
+    let z = n .before in
+    let y = z .before in
+    let x = y .before in
+    rw (x .before .byte-at .ensures, x .u32-at .ensures, y .u32-at2 .ensures, z .u32-at3 .ensures, n .net-at .ensures, c .u32-at4 .ensures)))

@@ -16,4 +16,4 @@ net-at-spec =
     (λ c κs. search needs)
     (λ c. search needs)
     (λ c κs. search needs)
-    (λ c. cc))
+    (λ c. let l = c .before in let h = l .before in rw (h .before .byte-at .ensures, h .u64-at .ensures, l .u64-at2 .ensures, c .byte-at2 .ensures)))

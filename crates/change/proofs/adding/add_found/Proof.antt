@@ -4,7 +4,7 @@ use native.Mathlib.Omega.{arith}
 use borrow.Author.Needs.{needs}
 use Rattle.nets.specs.Lists.{addL}
 use Rattle.nets.specs.Tries.{insertT}
-use Rattle.pool_state.proofs.OnTries.{result-fits, result-relinks}
+use Rattle.pool_state.proofs.OnTries.{result-fits, result-settles}
 use Rattle.change.specs.Steps.{Ready}
 use Rattle.change.proofs.Calls.{Counted, works-insert, clear-add, seat-stands, result, result-stands, result-few, result-room, result-wrote}
 use Rattle.change.proofs.Growing.{grow-refused, grow-few, grow-granted}
@@ -49,7 +49,7 @@ add-found-spec =
     let e = i .before .before .before .before .before in
     let j = e .before .before in
     let h = counted (j .before .before) in
-    result-relinks (result h) (j .judge .ensures) (e .enum-told .given .1) (result-wrote h (i .insert .ensures _ _ (result-stands h))))
+    result-settles (result h) (j .judge .ensures) (e .enum-told .given .1) (result-wrote h (i .insert .ensures _ _ (result-stands h))))
     (λ c. search needs)
     (λ c. ((rw (c .before .asked .given .1) at (c .before .before .before .ask-found .ensures)) _, refl))
     (λ c. search needs)

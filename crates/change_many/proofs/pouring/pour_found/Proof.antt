@@ -9,7 +9,7 @@ use Rattle.nets.specs.Bits.{Bits}
 use Rattle.nets.specs.Refusals.{Rule}
 use Rattle.nets.specs.Tries.{size}
 use Rattle.pool_state.specs.States.{State}
-use Rattle.pool_state.proofs.OnTries.{result-refused, result-fits, result-relinks, result-granted}
+use Rattle.pool_state.proofs.OnTries.{result-refused, result-fits, result-settles, result-granted}
 use Rattle.change_many.specs.Steps.{Pourable}
 use Rattle.change_many.proofs.Poured.{result-trie, pour-sources, pour-few, pour-result, pour-writable, pour-wrote}
 use Rattle.change_many.proofs.pouring.pour_found.Statement.{statement}
@@ -49,7 +49,7 @@ pour-found-spec =
     let n = counts z _ _ (p .2) in
     let r = pour-result (p .2) n (p .3) in
     let o = e .enum-told .given .1 in
-    result-relinks r (j .judge .ensures) o (pour-wrote (p .2) n (x .write .ensures _ _ (pour-writable (p .2) n (result-fits r (j .judge .ensures) o)))))
+    result-settles r (j .judge .ensures) o (pour-wrote (p .2) n (x .write .ensures _ _ (pour-writable (p .2) n (result-fits r (j .judge .ensures) o)))))
     (λ c. search needs)
     (λ c a g h q.
     let j = c .before .before .before in

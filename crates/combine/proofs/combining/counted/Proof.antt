@@ -3,7 +3,7 @@ use denote.Ref.{now}
 use mathlib.Core.Path.{_≡_, sym, _∙_}
 use borrow.Author.Needs.{needs}
 use Rattle.nets.specs.Tries.{size}
-use Rattle.pool_state.proofs.OnTries.{result-refused, result-fits, result-relinks, result-granted}
+use Rattle.pool_state.proofs.OnTries.{result-refused, result-fits, result-settles, result-granted}
 use Rattle.combine.specs.Steps.{Begun}
 use Rattle.combine.proofs.Calls.{made, made-size, begun-reads, result, result-few, result-writes, result-wrote}
 use Rattle.combine.proofs.combining.counted.Statement.{statement}
@@ -37,7 +37,7 @@ counted-spec =
     let b = start n .pre .2 in
     let z = e .enum-told .given .1 in
     let f = result-fits (result b (counts n b)) (j .judge .ensures) z in
-    result-relinks (result b (counts n b)) (j .judge .ensures) z (result-wrote b (counts n b) f (x .write .ensures _ _ (result-writes b (counts n b) f))))
+    result-settles (result b (counts n b)) (j .judge .ensures) z (result-wrote b (counts n b) f (x .write .ensures _ _ (result-writes b (counts n b) f))))
     (λ c. search needs)
     (λ c first second b.
     let j = c .before .before .before in

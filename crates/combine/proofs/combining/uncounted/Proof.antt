@@ -1,7 +1,7 @@
 -- `combining::uncounted` meets its contract: what surely fits is granted. Assumes nothing.
 use mathlib.Core.Path.{refl}
 use borrow.Author.Needs.{needs}
-use Rattle.combine.proofs.Calls.{sure-last, appended-relinks, appended-granted}
+use Rattle.combine.proofs.Calls.{sure-last, appended-settles, appended-granted}
 use Rattle.combine.proofs.combining.uncounted.Statement.{statement}
 use Rattle.combine.proofs.combining.uncounted.Tie as tie
 
@@ -16,7 +16,7 @@ uncounted-spec =
     (λ c κs.
     let d = c .before .before .before in
     let p = start d .pre in
-    appended-relinks (p .0 .2) (p .1) refl (d .append .ensures))
+    appended-settles (p .0 .2) (p .1) refl (d .append .ensures))
     (λ c. search needs)
     (λ c first second b.
     let g = c .before .before in

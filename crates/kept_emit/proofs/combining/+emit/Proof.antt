@@ -12,13 +12,13 @@ use Rattle.nets.specs.Networks.{netFrom}
 use Rattle.trie_paths.specs.Spans.{snoc}
 use Rattle.kept_emit.specs.Combine.{Inputs, Gap}
 use Rattle.kept_emit.proofs.Answered.{len-of}
-use Rattle.kept_emit.proofs.Steps.{op-none, op-full, op-mixed, Halving, inside, right-inputs, right-gap, rest-inputs, rest-gap, pending, emitted}
+use Rattle.kept_emit.proofs.Steps.{op-none, op-full, op-mixed, Halving, inside, left-inputs, left-gap, rest-inputs, rest-gap, pending, emitted}
 use Rattle.kept_emit.proofs.combining.emit.Reads as emit
 use Rattle.kept_emit.proofs.combining.emit.Kinds as emit-kinds
 use Rattle.kept_emit.proofs.combining.+emit.Lts-emit as emit-lts
 use Rattle.kept_emit.proofs.combining.halves.Reads as halves-reads
 use Rattle.kept_emit.proofs.combining.judge.Reads as judge-reads
-use Rattle.kept_emit.proofs.emitting.child.Reads as child-reads
+use Rattle.kept_reading.proofs.strings.child.Reads as child-reads
 use Rattle.kept_emit.proofs.emitting.start_of.Reads as start-of-reads
 use Rattle.kept_emit.proofs.emitting.finish.Reads as finish-reads
 use Rattle.kept_emit.proofs.combining.+emit.{statement}
@@ -90,7 +90,7 @@ pub +emit-spec : {M : Type 1} → statement M
     let i = c .before .before in
     let (o, p, t, u, is, s, g) = start n i .pre .1 in
     let d = split n i o p t u is s in
-    (omega (arith, start n i .pre .0, s .turn), (o, snoc p true, _, _, c .before .child .ensures _ p is, right-inputs d, right-gap d g)))
+    (omega (arith, start n i .pre .0, s .turn), (o, snoc p false, _, _, c .before .child .ensures _ p is, left-inputs d, left-gap d g)))
     (λ c κs. search needs)
     (λ c κs. let i = c .before .before .before .before .before .before in let (o, p, t, u, is, s, g) = start n i .pre .1 in
     (_, p, is, inside (split n i o p t u is s)))
@@ -99,12 +99,12 @@ pub +emit-spec : {M : Type 1} → statement M
     let i = c .before .before .before .before .before .before .before .before in
     let (o, p, t, u, is, s, g) = start n i .pre .1 in
     let d = split n i o p t u is s in
-    let y = c .before .before .before .before .before .emit .ensures o (snoc p true) _ _
-    (c .before .before .before .before .before .before .before .child .ensures _ p is) (right-inputs d) (right-gap d g) in (
+    let y = c .before .before .before .before .before .emit .ensures o (snoc p false) _ _
+    (c .before .before .before .before .before .before .before .child .ensures _ p is) (left-inputs d) (left-gap d g) in (
       omega (arith, start n i .pre .0, s .turn),
       (
         o,
-        snoc p false,
+        snoc p true,
         _,
         _,
         c .before .child2 .ensures _ p is,
@@ -117,20 +117,20 @@ pub +emit-spec : {M : Type 1} → statement M
     let i = c .before .before .before .before .before .before .before .before .before .before .before .before in
     let (o, p, t, u, is, s, g) = start n i .pre .1 in
     let d = split n i o p t u is s in
-    let y = c .before .before .before .before .before .before .before .before .before .emit .ensures o (snoc p true) _ _
-    (c .before .before .before .before .before .before .before .before .before .before .before .child .ensures _ p is) (right-inputs d) (right-gap d g) in
+    let y = c .before .before .before .before .before .before .before .before .before .emit .ensures o (snoc p false) _ _
+    (c .before .before .before .before .before .before .before .before .before .before .before .child .ensures _ p is) (left-inputs d) (left-gap d g) in
     let k = c .before .before .before .before .before .before .start-of .ensures in
-    let x = c .before .before .before .emit2 .ensures o (snoc p false) _ _ (c .before .before .before .before .before .child2 .ensures _ p is)
+    let x = c .before .before .before .emit2 .ensures o (snoc p true) _ _ (c .before .before .before .before .before .child2 .ensures _ p is)
     (rest-inputs d g _ _ _ y k) (rest-gap d g _ _ _ y k) in
     (_, p, _, _, is, pending d g _ _ _ y k _ _ x))
     (λ c. search needs)
     (λ c o p t u is s g.
     let i = c .before .before .before .before .before .before .before .before .before .before .before .before .before .before .before in
     let d = split n i o p t u is s in
-    let y = c .before .before .before .before .before .before .before .before .before .before .before .before .emit .ensures o (snoc p true) _ _
-    (c .before .before .before .before .before .before .before .before .before .before .before .before .before .before .child .ensures _ p is) (right-inputs d)
-    (right-gap d g) in
+    let y = c .before .before .before .before .before .before .before .before .before .before .before .before .emit .ensures o (snoc p false) _ _
+    (c .before .before .before .before .before .before .before .before .before .before .before .before .before .before .child .ensures _ p is) (left-inputs d)
+    (left-gap d g) in
     let k = c .before .before .before .before .before .before .before .before .before .start-of .ensures in
-    let x = c .before .before .before .before .before .before .emit2 .ensures o (snoc p false) _ _
+    let x = c .before .before .before .before .before .before .emit2 .ensures o (snoc p true) _ _
     (c .before .before .before .before .before .before .before .before .child2 .ensures _ p is) (rest-inputs d g _ _ _ y k) (rest-gap d g _ _ _ y k) in
     emitted d g _ _ _ y k _ _ x _ _ (λ v q a b r h. c .before .before .finish .ensures v q a b (is ∙ r) h))

@@ -28,10 +28,10 @@ finish-spec =
     (λ c κs. search needs)
     (λ c κs. search needs)
     (λ c κs. search needs)
-    (λ c κs. let f = facts (c .before .before) in ((λ h. omega (arith, f .full-r h)), omega (arith, f .second, f .few, f .low)))
+    (λ c κs. let f = facts (c .before .before) in ((λ h. omega (arith, f .full-l h)), omega (arith, f .second, f .few, f .low)))
     (λ c κs. search needs)
     (λ c κs. let f = facts (c .before .before .before .before .before .before .before) in
-    ((λ h. omega (arith, f .full-l h)), omega (arith, f .first, f .second, f .few, f .low)))
+    ((λ h. omega (arith, f .full-r h)), omega (arith, f .first, f .second, f .few, f .low)))
     (λ c κs. let f = facts (c .before .before .before .before .before .before .before .before .before .before .before) in
     ((λ h g. omega (arith, f .over h g)), omega (arith, f .first, f .second, f .few, f .low)))
     (λ c v p t u is h. finish-flat h _ (c .before .before .over .ensures t u (h .both)) (λ k q. Node≢ k .0 (sym (c .enum-told .given .1) ∙ q)))
@@ -41,8 +41,8 @@ finish-spec =
     let d = c .before .before .before .before .before .before .before .before .before .before .before .before .before .before in
     finish-node h _ (d .before .before .before .before .over .ensures t u (h .both)) _ (d .before .before .enum-told3 .given .1) _ _ (d .before .start-of .ensures)
     (d .start-of2 .ensures)
-    _ _ _ (c .before .before .before .before .before .before .before .before .before .before .before .settle .ensures (snoc p true)
-    (c .before .before .before .before .before .before .before .before .before .before .before .before .before .child .ensures _ p is) (half-within h true))
-    (c .before .before .before .before .before .before .settle2 .ensures (snoc p false)
-    (c .before .before .before .before .before .before .before .before .child2 .ensures _ p is) (half-within h false)) (c .before .before .top .ensures p is
+    _ _ _ (c .before .before .before .before .before .before .before .before .before .before .before .settle .ensures (snoc p false)
+    (c .before .before .before .before .before .before .before .before .before .before .before .before .before .child .ensures _ p is) (half-within h false))
+    (c .before .before .before .before .before .before .settle2 .ensures (snoc p true)
+    (c .before .before .before .before .before .before .before .before .child2 .ensures _ p is) (half-within h true)) (c .before .before .top .ensures p is
     (path-within h))))

@@ -12,13 +12,13 @@ use Rattle.lookup.proofs.walking.walk_down.Statement.{statement}
 use Rattle.lookup.proofs.walking.walk_down.Tie as tie
 
 abbrev Inv-loop : tie.InvT-loop
-Inv-loop w b n root bits last p₀ left₀ p left = Placed w b n (walk w b n 0 root (bitsLeft bits)) (bits .len) p left
+Inv-loop w b n root len last p₀ left₀ p left = Placed w b n (walk w b n (len - left₀ .len) root (bitsLeft left₀)) len p left
 
 abbrev μ-loop : tie.MeasureT-loop
-μ-loop w b n root bits last p₀ left₀ p left = left .len
+μ-loop w b n root len last p₀ left₀ p left = left .len
 
 abbrev turn : tie.After-next Inv-loop μ-loop → tie.At-loop Inv-loop μ-loop
-turn c = c .before .before .before
+turn c = c .before .before
 
 abbrev start : tie.At-loop Inv-loop μ-loop → tie.Start Inv-loop μ-loop
 start c = c .before .before
@@ -31,7 +31,7 @@ seen : (c : tie.Else1 Inv-loop μ-loop) →
     let t = told (c .before) in
     let o = turn (t .before .before) in
     let a = start o .args in
-    Seen (now (a .w)) (a .b) (a .n) (walk (now (a .w)) (a .b) (a .n) 0 (a .root) (bitsLeft (a .bits))) (a .bits .len) (o .loop .p) (o .loop .left) (getD (now (a .w)) (o .loop .p) 0)
+    Seen (now (a .w)) (a .b) (a .n) (walk (now (a .w)) (a .b) (a .n) (a .len - a .bits .len) (a .root) (bitsLeft (a .bits))) (a .len) (o .loop .p) (o .loop .left) (getD (now (a .w)) (o .loop .p) 0)
     (t .next2 .given .0 .0) (t .next2 .given .0 .1 .0)
 seen c =
     let t = told (c .before) in
@@ -47,7 +47,7 @@ walk-down-spec =
     (λ c. search needs)
     (λ c. search needs)
     (λ c. search needs)
-    (λ c. let h = c .before .pre in placed-start (h .1) (h .2) (h .3))
+    (λ c. let h = c .before .pre in placed-start (h .1) (h .2) (h .3) (h .4))
     (λ c. search needs)
     (λ c κs. search needs)
     (λ c. search needs)

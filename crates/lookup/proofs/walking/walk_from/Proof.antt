@@ -1,5 +1,6 @@
 -- `walking::walk_from` meets its contract, by its tests. Assumes nothing.
 use mathlib.Core.Path.{_∙_}
+use native.Mathlib.Omega.{arith}
 use borrow.Author.Needs.{needs}
 use Rattle.lookup.proofs.Turns.{walkFrom-none, walkFrom-over, walkFrom-node}
 use Rattle.lookup.proofs.walking.walk_from.Statement.{statement}
@@ -12,4 +13,4 @@ walk-from-spec =
     (λ c. walkFrom-none _ _ _ _ _ (c .if1 .taken))
     (λ c. walkFrom-over _ _ _ _ _ (c .if2 .taken))
     (λ c κs. search needs)
-    (λ c. c .walk-down .ensures ∙ walkFrom-node _ _ _ _ _ (c .before .before .if1 .left) (c .before .if2 .left)))
+    (λ c. c .walk-down .ensures ∙ walkFrom-node _ _ _ _ _ _ (omega arith) (c .before .before .if1 .left) (c .before .if2 .left)))

@@ -21,9 +21,9 @@ one-by-one-spec =
     (tie.spec
     Inv-loop
     μ-loop
-    (λ c. let h = c .before .before .before .pre in filling-start _ _ _ _ (h .1) (h .2))
+    (λ c. let h = c .before .before .before .pre in filling-start _ _ _ _ (h .2) (h .3))
     (λ c κs. c .loop-test .taken)
-    (λ c κs. c .before .before .before .before .before .before .pre .0)
+    (λ c κs. let h = c .before .before .before .before .before .before .pre in (h .0, h .1))
     (λ c κs. search needs)
     (λ c. search needs)
     (λ c. let t = c .before .before .before in omega (arith, t .before .loop .inv .room, t .loop-test .taken))

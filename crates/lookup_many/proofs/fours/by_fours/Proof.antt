@@ -1,10 +1,9 @@
--- `fours::by_fours` meets its contract. The loop's invariant: the answers up to number i are written. Assumes nothing.
-use denote.Ref.{now}
+-- `fours::by_fours` meets its contract. The loop's invariant: what is written are the answers up to i. Assumes nothing.
 use mathlib.Core.Path.{refl}
 use Prim.Native.Nat.{_-_, _/_}
+use lib.ListN.{length}
 use native.Mathlib.Omega.{arith}
 use borrow.Author.Needs.{needs}
-use lib.ListN.{length}
 use Rattle.pool_state.proofs.Header.{isHeader-header}
 use Rattle.lookup_many.specs.Rules.{askedOf}
 use Rattle.lookup_many.proofs.Rows.{fill-none, Written, written-start, written-next}
@@ -13,10 +12,10 @@ use Rattle.lookup_many.proofs.fours.by_fours.Statement.{statement}
 use Rattle.lookup_many.proofs.fours.by_fours.Tie as tie
 
 abbrev Inv-loop : tie.InvT-loop
-Inv-loop w root family queries answers₀ b n i₀ answers i = Written (askedOf w root family queries) (length queries / 3) answers₀ answers i
+Inv-loop w set family queries answers₀ b n root tag i₀ answers i = Written (askedOf w set family queries) (length queries / 3) answers₀ answers i
 
 abbrev μ-loop : tie.MeasureT-loop
-μ-loop w root family queries answers₀ b n i₀ answers i = length queries / 3 - i
+μ-loop w set family queries answers₀ b n root tag i₀ answers i = length queries / 3 - i
 
 pub by-fours-spec : {M : Type 1} → statement M
 by-fours-spec =
@@ -24,11 +23,21 @@ by-fours-spec =
     (tie.spec
     Inv-loop
     μ-loop
-    (λ c. omega (arith, isHeader-header _ (c .before .before .before .before .pre .0)))
-    (λ c. omega (arith, isHeader-header _ (c .before .before .before .before .pre .0)))
-    (λ c. omega (arith, isHeader-header _ (c .before .before .before .before .pre .0)))
-    (λ c. omega (arith, isHeader-header _ (c .before .before .before .before .pre .0)))
-    (λ c. omega (arith, isHeader-header _ (c .before .before .before .before .before .pre .0)))
+    (λ c. let h = c .before .before .before .before .pre in omega (arith, h .1, isHeader-header _ (h .0)))
+    (λ c. let h = c .before .before .before .before .pre in omega (arith, h .1, isHeader-header _ (h .0)))
+    (λ c. let h = c .before .before .before .before .pre in omega (arith, h .1, isHeader-header _ (h .0)))
+    (λ c. let h = c .before .before .before .before .pre in omega (arith, h .1, isHeader-header _ (h .0)))
+    (λ c. let h = c .before .before .before .before .before .pre in omega (arith, h .1, isHeader-header _ (h .0)))
+    (λ c. let h = c .before .before .before .before .before .pre in omega (arith, h .1, isHeader-header _ (h .0)))
+    (λ c. let h = c .before .before .before .before .before .pre in omega (arith, h .1, isHeader-header _ (h .0)))
+    (λ c. let h = c .before .before .before .before .before .pre in omega (arith, h .1, isHeader-header _ (h .0)))
+    (λ c. let h = c .before .before .before .before .before .before .pre in omega (arith, h .1, isHeader-header _ (h .0)))
+    (λ c. let h = c .before .before .before .before .before .before .pre in omega (arith, h .1, isHeader-header _ (h .0)))
+    (λ c. let h = c .before .before .before .before .before .before .pre in omega (arith, h .1, isHeader-header _ (h .0)))
+    (λ c. let h = c .before .before .before .before .before .before .pre in omega (arith, h .1, isHeader-header _ (h .0)))
+    (λ c. let h = c .before .before .before .before .before .before .pre in omega (arith, h .1, isHeader-header _ (h .0)))
+    (λ c. let h = c .before .before .before .before .before .before .before .pre in omega (arith, h .1, isHeader-header _ (h .0)))
+    (λ c. (omega arith, fill-none _ _))
     (λ c. (omega arith, fill-none _ _))
     (λ c. (omega arith, fill-none _ _))
     (λ c. written-start _ _ _)
@@ -37,8 +46,11 @@ by-fours-spec =
     let t = c .before in
     let l = t .before in
     let e = l .before in
-    let h = e .before .before .before .before .before .before .before .pre in
-    (seated (h .0) refl refl (e .before .if1 .left) (e .if2 .left) (h .1), record { queries = t .loop-test .taken; answers = omega (arith, l .loop .inv .same, h .2) }))
+    let d = e .before in
+    let h = d .before .before .before .before .before .before .before .before .before .pre in (
+      seated (h .0) (h .1) (d .before .if1 .left) refl refl (d .if2 .left) (e .if3 .left) (h .2),
+      record { queries = t .loop-test .taken; answers = omega (arith, l .loop .inv .same, h .3) },
+    ))
     (λ c. search (needs, c .before .before .before .before .loop-test .taken))
     (λ c. omega (arith, c .before .before .before .before .loop-test .taken))
     (λ c.

@@ -1,6 +1,6 @@
 -- `edges::down` meets its contract, by the half that the bit names. Assumes nothing.
 use borrow.Author.Needs.{needs}
-use mathlib.Core.Path.{_≡_, sym, ap, _∙_}
+use mathlib.Core.Path.{sym, ap, _∙_}
 use Rattle.nets.specs.Networks.{netFrom}
 use Rattle.trie_paths.specs.Spans.{snoc}
 use Rattle.setfile_range.proofs.edges.down.Statement.{statement}

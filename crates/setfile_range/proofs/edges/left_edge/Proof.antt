@@ -1,5 +1,5 @@
 -- `edges::left_edge` meets its contract. Assumes nothing.
-use mathlib.Core.Path.{_≡_, _∙_}
+use mathlib.Core.Path.{_∙_}
 use borrow.Author.Needs.{needs}
 use Rattle.setfile_range.proofs.Walking.{front-low, told-address}
 use Rattle.setfile_range.proofs.edges.left_edge.Statement.{statement}

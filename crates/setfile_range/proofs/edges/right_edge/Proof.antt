@@ -1,7 +1,7 @@
 -- `edges::right_edge` meets its contract. Assumes nothing.
 use borrow.Author.Needs.{needs}
 use mathlib.Core.Bool.{not}
-use mathlib.Core.Path.{_≡_, sym, ap, _∙_}
+use mathlib.Core.Path.{ap, _∙_}
 use lib.Dec.{eqb}
 use Rattle.setfile_range.proofs.Walking.{after-low, told-address}
 use Rattle.setfile_range.proofs.edges.right_edge.Statement.{statement}

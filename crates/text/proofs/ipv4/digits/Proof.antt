@@ -2,7 +2,7 @@
 use lib.ListN.{length}
 use borrow.Author.Needs.{needs}
 use mathlib.Core.Path.{ap, _∙_}
-use Rattle.text.specs.Decimal.{digitsOf}
+use Rattle.text_decimal.specs.Decimal.{digitsOf}
 use Rattle.text.proofs.ipv4.digits.Statement.{statement}
 use Rattle.text.proofs.ipv4.digits.Tie as tie
 

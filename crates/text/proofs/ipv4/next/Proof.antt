@@ -6,11 +6,11 @@ use native.Mathlib.Omega.{arith}
 use lib.ListN.{drop}
 use borrow.Author.Needs.{needs}
 use borrow.Author.Tests.{not-true, not-false}
-use Rattle.text.specs.Decimal.{parsed, readNumber}
+use Rattle.text_decimal.specs.Decimal.{parsed, readNumber}
 use Rattle.text.specs.Ipv4.{readNext}
-use Rattle.text.specs.Places.{startsByte}
-use Rattle.text.proofs.Numbers.{readNumber-most}
-use Rattle.text.proofs.Places.{starts-within}
+use Rattle.text_decimal.specs.Places.{startsByte}
+use Rattle.text_decimal.proofs.Numbers.{readNumber-most}
+use Rattle.text_decimal.proofs.Places.{starts-within}
 use Rattle.text.proofs.Reading.{readAs-is, readNext-nothing, readNext-other, readNext-ended}
 use Rattle.text.proofs.ipv4.next.Statement.{statement}
 use Rattle.text.proofs.ipv4.next.Tie as tie

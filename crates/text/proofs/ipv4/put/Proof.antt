@@ -3,10 +3,10 @@ use mathlib.Core.Path.{refl, ap}
 use native.Mathlib.Omega.{arith}
 use lib.ListN.{length}
 use borrow.Author.Needs.{needs}
-use Rattle.text.specs.Decimal.{digitsOf}
+use Rattle.text_decimal.specs.Decimal.{digitsOf}
 use Rattle.text.specs.Ipv4.{octetOf}
-use Rattle.text.specs.Places.{Stored}
-use Rattle.text.proofs.Writing.{stored-append}
+use Rattle.text_decimal.specs.Places.{Stored}
+use Rattle.text_decimal.proofs.Writing.{stored-append}
 use Rattle.text.proofs.ipv4.put.Statement.{statement}
 use Rattle.text.proofs.ipv4.put.Tie as tie
 

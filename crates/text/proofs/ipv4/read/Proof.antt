@@ -3,9 +3,9 @@ use mathlib.Core.Path.{_≡_}
 use native.Mathlib.Omega.{arith}
 use lib.ListN.{drop}
 use borrow.Author.Needs.{needs}
-use Rattle.text.specs.Decimal.{parsed, readNumber}
+use Rattle.text_decimal.specs.Decimal.{parsed, readNumber}
 use Rattle.text.specs.Ipv4.{readQuad}
-use Rattle.text.proofs.Numbers.{readNumber-most}
+use Rattle.text_decimal.proofs.Numbers.{readNumber-most}
 use Rattle.text.proofs.Reading.{readAs-is, readLine-nothing, readLine-unread, readLine-more, readLine-whole}
 use Rattle.text.proofs.ipv4.read.Statement.{statement}
 use Rattle.text.proofs.ipv4.read.Tie as tie

@@ -1,7 +1,8 @@
 -- `ipv4::write` meets its contract: each call stores behind the one before it, and what they store makes the line. Assumes nothing.
 use native.Mathlib.Omega.{arith}
 use borrow.Author.Needs.{needs}
-use Rattle.text.proofs.Writing.{stored-append, stored-line, lengths}
+use Rattle.text_decimal.proofs.Writing.{stored-append}
+use Rattle.text.proofs.Writing.{stored-line, lengths}
 use Rattle.text.proofs.ipv4.write.Statement.{statement}
 use Rattle.text.proofs.ipv4.write.Tie as tie
 

@@ -7,7 +7,7 @@ use lib.ListN.{length, length-append}
 use borrow.Author.Needs.{needs}
 use borrow.Fn.Kinds.{In}
 use borrow.Fn.PlainCycle.{Measures, is, falls, and}
-use Rattle.text.proofs.Writing.{stored-append}
+use Rattle.text_decimal.proofs.Writing.{stored-append}
 use Rattle.text_hex.specs.Hex.{hexByteOf, hexDigitsOf}
 use Rattle.text_hex.proofs.Written.{hexDigitsOf-one, hexDigitsOf-last}
 use Rattle.text_hex.proofs.group.put.Reads as put

@@ -6,11 +6,11 @@ use native.Mathlib.Omega.{arith}
 use lib.ListN.{drop}
 use borrow.Author.Needs.{needs}
 use borrow.Author.Tests.{not-true, not-false}
-use Rattle.text.specs.Decimal.{parsed, readNumber}
+use Rattle.text_decimal.specs.Decimal.{parsed, readNumber}
 use Rattle.text.specs.Ipv4.{slash}
-use Rattle.text.specs.Places.{startsByte}
-use Rattle.text.proofs.Numbers.{readNumber-most}
-use Rattle.text.proofs.Places.{starts-within}
+use Rattle.text_decimal.specs.Places.{startsByte}
+use Rattle.text_decimal.proofs.Numbers.{readNumber-most}
+use Rattle.text_decimal.proofs.Places.{starts-within}
 use Rattle.text.proofs.Reading.{readAs-is}
 use Rattle.text_ipv6_read.specs.Reader.{isOutline}
 use Rattle.text_ipv6_read.specs.Places.{outlineAs}

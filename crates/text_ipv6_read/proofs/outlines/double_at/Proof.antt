@@ -3,8 +3,8 @@ use mathlib.Core.Path.{refl, sym, _∙_}
 use native.Mathlib.Omega.{arith}
 use lib.ListN.{drop}
 use borrow.Author.Needs.{needs}
-use Rattle.text.specs.Places.{startsByte}
-use Rattle.text.proofs.Places.{starts-within}
+use Rattle.text_decimal.specs.Places.{startsByte}
+use Rattle.text_decimal.proofs.Places.{starts-within}
 use Rattle.text_hex.specs.Hex.{colon}
 use Rattle.text_ipv6_read.proofs.Laying.{startsDouble-other, startsDouble-behind}
 use Rattle.text_ipv6_read.proofs.outlines.double_at.Statement.{statement}

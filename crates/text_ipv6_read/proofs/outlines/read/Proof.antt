@@ -6,7 +6,7 @@ use lib.ListN.{drop}
 use borrow.Author.Needs.{needs}
 use borrow.Author.Tests.{not-true, not-false}
 use Rattle.text_ipv6_read.specs.Reader.{startsDouble}
-use Rattle.text_ipv6_read.specs.Places.{ranAs}
+use Rattle.text_ipv6_runs.specs.Places.{ranAs}
 use Rattle.text_ipv6_read.proofs.Laying.{startsDouble-within, address-quad, address-other, outline-whole, outline-behind}
 use Rattle.text_ipv6_read.proofs.outlines.read.Statement.{statement}
 use Rattle.text_ipv6_read.proofs.outlines.read.Tie as tie

@@ -20,4 +20,13 @@ of-spec =
     (λ c.
     let s = c .before .before .before .before .before .before .before .before in
     rw (groupsOf-words (s .args .net .hi) (s .args .net .lo) (omega arith))
-    (cc)))
+    (rw (
+      c .before .before .before .before .before .before .before .group .ensures,
+      c .before .before .before .before .before .before .group2 .ensures,
+      c .before .before .before .before .before .group3 .ensures,
+      c .before .before .before .before .group4 .ensures,
+      c .before .before .before .group5 .ensures,
+      c .before .before .group6 .ensures,
+      c .before .group7 .ensures,
+      c .group8 .ensures,
+    ))))

@@ -5,7 +5,7 @@ use native.Mathlib.Omega.{arith}
 use borrow.Author.Needs.{needs}
 use lib.ListN.{length, length-set}
 use lib.Seq.{length-sets}
-use Rattle.text.proofs.Writing.{stored-append}
+use Rattle.text_decimal.proofs.Writing.{stored-append}
 use Rattle.text_ipv6_write.specs.Ipv6.{joined}
 use Rattle.text_ipv6_write.proofs.Colons.{part}
 use Rattle.text_ipv6_write.proofs.Texts.{within, whole, around, length-sides, stored-colons}

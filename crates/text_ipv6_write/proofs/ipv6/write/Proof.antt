@@ -7,10 +7,10 @@ use borrow.Author.Needs.{needs}
 use lib.ListN.{length, length-set}
 use lib.Seq.{length-sets}
 use Rattle.nets.specs.Networks.{address}
-use Rattle.text.specs.Decimal.{digitsOf}
+use Rattle.text_decimal.specs.Decimal.{digitsOf}
 use Rattle.text.specs.Ipv4.{slash}
-use Rattle.text.specs.Places.{Stored}
-use Rattle.text.proofs.Writing.{stored-append}
+use Rattle.text_decimal.specs.Places.{Stored}
+use Rattle.text_decimal.proofs.Writing.{stored-append}
 use Rattle.text_ipv6_write.specs.Ipv6.{groupsOf, textOf}
 use Rattle.text_ipv6_write.proofs.Texts.{length-lineAs6, stored-lineAs6}
 use Rattle.text_ipv6_write.proofs.ipv6.write.Statement.{statement}

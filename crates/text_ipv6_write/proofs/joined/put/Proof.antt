@@ -5,7 +5,7 @@ use Prim.Native.Nat.{_+_, _-_, _≤_}
 use native.Mathlib.Omega.{arith}
 use lib.ListN.{length, length-append, length-set, getD}
 use lib.Seq.{length-sets}
-use Rattle.text.proofs.Writing.{stored-append}
+use Rattle.text_decimal.proofs.Writing.{stored-append}
 use Rattle.text_hex.specs.Hex.{hexDigitsOf, colon}
 use Rattle.text_ipv6_write.specs.Ipv6.{led}
 use Rattle.text_ipv6_write.proofs.Colons.{part, Put, put-start, put-room, put-length, put-step, put-all, joined-none, joined-cons}

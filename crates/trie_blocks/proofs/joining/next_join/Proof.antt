@@ -21,12 +21,12 @@ next-join-spec =
     μ-loop
     (λ c. (c .before .pre .0, c .before .pre .1, record { no = λ j le lt. absurd (omega arith) }))
     (λ c. search needs)
-    (λ c κs. let h = c .before .loop .inv in let p = c .before .before .before .pre in (h .0, omega (arith, c .loop-test .taken, p .2, h .0), p .3, h .1))
+    (λ c κs. let h = c .before .loop .inv in let p = c .before .before .before .pre in (h .0, omega (arith, c .loop-test .taken, p .2, h .0), h .1))
     (λ c. c .before .before .before .loop .inv .2)
     (λ c. search needs)
     (λ c. omega (arith, c .before .before .loop-test .taken))
     (λ c.
     let i = c .before .before in
     let h = i .before .loop .inv in
-    (omega arith, omega (arith, i .loop-test .taken, i .before .before .before .pre .4), apart-more (h .2) (c .before .is-join .ensures (c .if1 .left))))
+    (omega arith, omega (arith, i .loop-test .taken, i .before .before .before .pre .3), apart-more (h .2) (c .before .is-join .ensures (c .if1 .left))))
     (λ c. apart-end (c .before .loop .inv .2) (c .loop-test .left)))

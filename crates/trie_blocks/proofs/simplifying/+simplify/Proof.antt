@@ -13,7 +13,7 @@ use Rattle.trie_blocks.proofs.simplifying.simplify.Reads as simplify
 use Rattle.trie_blocks.proofs.simplifying.simplify.Kinds as simplify-kinds
 use Rattle.trie_blocks.proofs.simplifying.+simplify.Lts-simplify as simplify-lts
 use Rattle.trie_blocks.proofs.simplifying.moved.Reads as moved-reads
-use Rattle.trie_blocks.proofs.simplifying.join_from.Reads as join-from-reads
+use Rattle.trie_blocks.proofs.joining.join_from.Reads as join-from-reads
 use Rattle.nodes.proofs.steps.look.Reads as look-reads
 use Rattle.trie_emit.proofs.emitting.end_of.Reads as end-of-reads
 use Rattle.trie_emit.proofs.emitting.finish.Reads as finish-reads

@@ -72,16 +72,20 @@ pub +emit-spec : {M : Type 1} → statement M
     (λ c κs.
     let (g, t, u, s, p) = start n (c .before .before .before .before .before .before) .pre .1 in
     let d = split n (c .before .before .before .before .before .before) g t u s in
-    let l = c .before .before .before .before .emit .ensures in
+    let l = c .before .before .before .before .emit .ensures g _ _ (left-inputs d) (left-gap d p) in
     let e = c .before .end-of .ensures in
     (omega (arith, start n (c .before .before .before .before .before .before) .pre .0, s .turn), (g, _, _, rest-inputs d p _ _ _ l e, rest-gap d p _ _ _ l e)))
     (λ c κs.
     let (g, t, u, s, p) = start n (c .before .before .before .before .before .before .before .before .before .before) .pre .1 in
     let k = c .before .before .before in
     let d = split n (k .before .before .before .before .before .before .before) g t u s in
-    (_, _, _, pending d p _ _ _ (k .before .before .before .before .before .emit .ensures) (k .before .before .end-of .ensures) _ _ (k .emit2 .ensures)))
+    let l = k .before .before .before .before .before .emit .ensures g _ _ (left-inputs d) (left-gap d p) in
+    let e = k .before .before .end-of .ensures in
+    (_, _, _, pending d p _ _ _ l e _ _ (k .emit2 .ensures g _ _ (rest-inputs d p _ _ _ l e) (rest-gap d p _ _ _ l e))))
     (λ c. search needs)
     (λ c g t u s p.
     let k = c .before .before .before .before .before .before in
     let d = split n (k .before .before .before .before .before .before .before) g t u s in
-    emitted d p _ _ _ (k .before .before .before .before .before .emit .ensures) (k .before .before .end-of .ensures) _ _ (k .emit2 .ensures) _ _ (c .before .before .finish .ensures))
+    let l = k .before .before .before .before .before .emit .ensures g _ _ (left-inputs d) (left-gap d p) in
+    let e = k .before .before .end-of .ensures in
+    emitted d p _ _ _ l e _ _ (k .emit2 .ensures g _ _ (rest-inputs d p _ _ _ l e) (rest-gap d p _ _ _ l e)) _ _ (c .before .before .finish .ensures))

@@ -48,14 +48,15 @@ use denote.Triple.Clauses.{ensured, lasts}
 use denote.Triple.Walked.{says, Stays, stay-none, stay-none-slice, walkOf, goes-none, goes-none-slice, Walks, ends-at, walked, walk-meets}
 use denote.Exit.{yes}
 use Rattle.pool_state.specs.Decode.{decode}
-use Rattle.trie_next.specs.declared.spots.Spot.{Spot}
-use Rattle.trie_next.proofs.spots.Spot as O
-use Rattle.trie_next.proofs.spots.Spot.Laws as O′
+use Rattle.trie_spots.specs.declared.spots.Spot.{Spot}
+use Rattle.trie_spots.proofs.spots.Spot as O
+use Rattle.trie_spots.proofs.spots.Spot.Laws as O′
 use Rattle.walk.specs.Walks.{walkNo, walkStart, walkOn, Walking}
-use Rattle.walk.specs.Places.{stageIn, firstTurn, turnAfter}
+use Rattle.walk_turns.specs.Turns.{firstTurn, turnAfter}
+use Rattle.walk.specs.Places.{stageIn}
 use Rattle.walk.specs.declared.beginning.Stage.{Stage}
 use Rattle.walk.specs.declared.walking.Walk.{Walk}
-use Rattle.walk.specs.declared.turns.Turn.{Turn}
+use Rattle.walk_turns.specs.declared.turns.Turn.{Turn}
 use Rattle.walk.proofs.Reached as reached
 use Rattle.walk.proofs.Calling.{spot, turn, R, Start, First, Next, After, Known, to-first, goes-first, first-said, to-after, goes-after, after-said}
 use Rattle.walk.proofs.Reached.{Going}
@@ -63,20 +64,20 @@ use Rattle.walk.proofs.walking.Walk as T
 use Rattle.walk.proofs.walking.Walk.Laws as T′
 use Rattle.walk.proofs.beginning.Stage as P
 use Rattle.walk.proofs.beginning.Stage.Laws as P′
-use Rattle.walk.proofs.turns.Turn as Y
-use Rattle.walk.proofs.turns.Turn.Laws as Y′
+use Rattle.walk_turns.proofs.turns.Turn as Y
+use Rattle.walk_turns.proofs.turns.Turn.Laws as Y′
 use Rattle.walk.proofs.start as start
 use Rattle.walk.proofs.start.Symbol as start-def
 use Rattle.walk.proofs.start.Met as start-thm
-use Rattle.walk.proofs.turns.first as first
-use Rattle.walk.proofs.turns.first.Symbol as first-def
-use Rattle.walk.proofs.turns.first.Met as first-thm
+use Rattle.walk_turns.proofs.turns.first as first
+use Rattle.walk_turns.proofs.turns.first.Symbol as first-def
+use Rattle.walk_turns.proofs.turns.first.Met as first-thm
 use Rattle.walk.proofs.walking.Walk.next as next
 use Rattle.walk.proofs.walking.Walk.next.Symbol as next-def
 use Rattle.walk.proofs.walking.Walk.next.Met as next-thm
-use Rattle.walk.proofs.turns.after as after
-use Rattle.walk.proofs.turns.after.Symbol as after-def
-use Rattle.walk.proofs.turns.after.Met as after-thm
+use Rattle.walk_turns.proofs.turns.after as after
+use Rattle.walk_turns.proofs.turns.after.Symbol as after-def
+use Rattle.walk_turns.proofs.turns.after.Met as after-thm
 use Rattle.walk.proofs.reaching.reach.Key.{name as #reach}
 use Rattle.walk.proofs.reaching.reach as f
 use Rattle.walk.proofs.reaching.reach.Statement as stated
@@ -390,7 +391,7 @@ reach-spec 𝓤 H 𝓜 𝓖 𝓡 =
     (tables 𝓤 H 𝓜 𝓡 code.env .C) (tables 𝓤 H 𝓜 𝓡 code.env .Λ) #reach code.function (code.unfolded 𝓤 H 𝓜 𝓡)
     (reach-meets 𝓤 H (𝓖 .A) (givenOf 𝓤 H 𝓜 𝓖) (𝓜 .mem) (𝓡 .run) (tablesOf 𝓤 H 𝓜 (tables 𝓤 H 𝓜 𝓡 code.env)) (record {
       start = cited 𝓤 H (Start 𝓤 H (𝓖 .A) (𝓜 .mem) (𝓡 .run)) 𝓜 𝓡 code.env start-def.name start-def.routine code.calls-walk·start (start-thm.met 𝓤 H 𝓜 𝓖 𝓡);
-      first = cited 𝓤 H (First 𝓤 H (𝓖 .A) (𝓜 .mem) (𝓡 .run)) 𝓜 𝓡 code.env first-def.name first-def.routine code.calls-walk·turns·first (first-thm.met 𝓤 H 𝓜 𝓖 𝓡);
+      first = cited 𝓤 H (First 𝓤 H (𝓖 .A) (𝓜 .mem) (𝓡 .run)) 𝓜 𝓡 code.env first-def.name first-def.routine code.calls-walk-turns·turns·first (first-thm.met 𝓤 H 𝓜 𝓖 𝓡);
       next = cited 𝓤 H (Next 𝓤 H (𝓖 .A) (𝓜 .mem) (𝓡 .run)) 𝓜 𝓡 code.env next-def.name next-def.routine code.calls-walk·walking·Walk·next (next-thm.met 𝓤 H 𝓜 𝓖 𝓡);
-      after = cited 𝓤 H (After 𝓤 H (𝓖 .A) (𝓜 .mem) (𝓡 .run)) 𝓜 𝓡 code.env after-def.name after-def.routine code.calls-walk·turns·after (after-thm.met 𝓤 H 𝓜 𝓖 𝓡);
+      after = cited 𝓤 H (After 𝓤 H (𝓖 .A) (𝓜 .mem) (𝓡 .run)) 𝓜 𝓡 code.env after-def.name after-def.routine code.calls-walk-turns·turns·after (after-thm.met 𝓤 H 𝓜 𝓖 𝓡);
     }))

@@ -1,0 +1,2 @@
+-- The words that each plan leaves.
+pub mod Acted

@@ -1,0 +1,2 @@
+-- The blocks beside a network.
+pub mod Remaining

@@ -1,0 +1,2 @@
+-- What is left of a member without a network inside it.
+pub mod Blocks

@@ -1,0 +1,2 @@
+-- A trie of the second form that is listed.
+pub mod Listed

@@ -1,0 +1,2 @@
+-- The network that follows a place, among nodes in any order.
+pub mod Nearest

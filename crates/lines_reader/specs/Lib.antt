@@ -1,0 +1,2 @@
+-- What a reader of lines holds.
+pub mod Kept

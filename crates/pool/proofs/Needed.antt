@@ -1,0 +1,32 @@
+-- The words that a pool needs, by the tests of the call; and a granted layout, by what each of its writes leaves. Assumes nothing.
+use mathlib.Core.Path.{_≡_, ap, _∙_}
+use mathlib.Core.Bool.{true, false}
+use mathlib.Core.List.{List, [], _∷_}
+use Prim.Native.Nat.{ℕ, _≤_, _<_}
+use lib.ListN.{length, replicate}
+use borrow.Author.Tests.{le-leb, lt-leb}
+use Rattle.pool_state.specs.States.{isSize}
+use Rattle.nodes.specs.Words.{put}
+use Rattle.pool_state.specs.Decode.{mark, leastWords, overRecords, overIndexes}
+use Rattle.pool_state.specs.Rules.{Setup, marks, isSetup, emptySets, blanks, Laid}
+use Rattle.pool_state.proofs.Setups.{layout-granted}
+use Rattle.pool.specs.Words.{wordsRule}
+
+module _ (m n j : ℕ) where
+  pub words-size : isSize m n ≡ false → (1, 0) ≡ wordsRule m n j
+  unfolding wordsRule
+  words-size e = rw e
+
+  pub words-many : isSize m n ≡ true → m < j → (1, 0) ≡ wordsRule m n j
+  unfolding wordsRule
+  words-many e lt = rw (e, lt-leb j m lt)
+
+  pub words-are : isSize m n ≡ true → j ≤ m → {r : ℕ} → r ≡ leastWords m n j → (0, r) ≡ wordsRule m n j
+  unfolding wordsRule
+  words-are e le q = rw (e, le-leb j m le, q)
+
+pub layout-done : (w : List ℕ) (p : Setup) → isSetup (length w) p ≡ true → {j n m : ℕ} {u v y z : List ℕ} → j ≡ marks (p .sets) (p .indexed) → n ≡ leastWords (p .sets) (p .nodes) j
+    → u ≡ put w 0 (replicate n 0) → v ≡ put u 0 (mark ∷ p .family ∷ p .sets ∷ p .nodes ∷ []) → y ≡ overRecords v 0 1 (emptySets (p .shares) (p .limits) 0)
+    → m ≡ leastWords (p .sets) (p .nodes) 0 → z ≡ overIndexes y m 0 0 (blanks (p .sets) (p .indexed)) → Laid w p (0, 0) z
+layout-done w p h {j} {n} {m} {u} {v} {y} {z} ej en a b c em d =
+    layout-granted w p h n u v y z (en ∙ ap (leastWords (p .sets) (p .nodes)) ej) a b c (d ∙ ap (λ k. overIndexes y k 0 0 (blanks (p .sets) (p .indexed))) em)

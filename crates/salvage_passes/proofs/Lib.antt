@@ -1,0 +1,3 @@
+-- Why: counting and filling by batches.
+pub mod Batches
+pub mod Fillings

@@ -1,0 +1,2 @@
+-- What the passes ask and leave.
+pub mod Parts

@@ -1,0 +1,2 @@
+-- Stores of bytes, one behind another.
+pub mod Stores

@@ -1,0 +1,2 @@
+-- What writing an entry asks and leaves.
+pub mod Putting

@@ -1,0 +1,2 @@
+// Numbers and entries of a set file as bytes.
+pub mod writing;

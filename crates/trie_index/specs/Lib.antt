@@ -1,0 +1,2 @@
+-- The index of a trie by its first eight bits.
+pub mod Index

@@ -1,0 +1,2 @@
+-- A law for each return.
+pub mod Returns

@@ -1,0 +1,2 @@
+-- The turns of going to a place of a list.
+pub mod Turns
