@@ -25,9 +25,9 @@ pub fn least(sets: u64, nodes: u64, j: u64) -> u64 {
     64 + 8 * sets + 8 * nodes + 256 * j
 }
 
-/// Words 0 to 4 and the length: the family, the sets and the nodes.
+/// Words 0 to 5 and the length: the family, the sets and the nodes.
 pub fn header(w: &[u32]) -> Option<(u8, usize, u32)> {
-    if w.len() < 64 || w[0] != MARK || !(w[1] == 4 || w[1] == 6) {
+    if w.len() < 64 || w[0] != MARK || !(w[1] == 4 || w[1] == 6) || w[5] != 0 {
         return None;
     }
     let (sets, nodes) = (w[2] as u64, w[3] as u64);

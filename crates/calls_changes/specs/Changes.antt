@@ -44,7 +44,7 @@ limitsOf c s = numbersFrom s (35 + 4 * c .net .len) (c .c % 256)
 
 -- the answer of layout, and the words that it leaves
 abbrev pub laidBy : List ℕ → ℕ → ℕ → ℕ → List ℕ → List ℕ → ℕ → Reply × List ℕ
-laidBy w f n m xs ys x = let p = setup f n m xs ys x in (noReply (layoutNo w p), cond (eqb (layoutNo w p) 0) (laid w p) w)
+laidBy w f n m xs ys x = let p = setup f 0 n m xs ys x in (noReply (layoutNo w p), cond (eqb (layoutNo w p) 0) (laid w p) w)
 
 unfoldable pub layoutOf : List ℕ → Call → List ℕ → Reply × List ℕ
 layoutOf w c s = laidBy w (c .net .family) (c .a) (c .b) (sharesOf c s) (limitsOf c s) (c .net .hi)

@@ -44,6 +44,7 @@ pub fn lay(pool: &mut [u32], c: Call, s: &[u8]) -> Reply
     of_answer(pool::layout(
         pool,
         c.net.family,
+        0,
         c.a,
         c.b,
         &shares[..n],

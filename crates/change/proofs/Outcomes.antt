@@ -1,6 +1,6 @@
 -- What the contracts of add and remove come to: one outcome is allowed; and sound words stay sound, with the state that the rule says (`RelistLeaves`). Assumes nothing.
 use mathlib.Core.Path.{_≡_}
-use mathlib.Core.Bool.{true}
+use mathlib.Core.Bool.{Bool, true, false}
 use mathlib.Core.List.{List}
 use Prim.Native.Nat.{ℕ}
 use Rattle.nets.specs.Lists.{isList}
@@ -16,6 +16,7 @@ use Rattle.pool_state.proofs.Claims.{isList-listAt}
 use Rattle.pool_state.proofs.Decoded.{decode-state}
 use Rattle.pool_state.proofs.Leaves.{RelistLeaves, relist-leaves, netRules-within}
 use Rattle.change.specs.Calls.{listWith, listWithout, Added, Removed, notedAs, Reports}
+use Rattle.change.specs.Steps.{listBy}
 use Rattle.change.specs.declared.Noted.{Noted}
 use Rattle.change.proofs.Reported.{reports-one}
 
@@ -26,9 +27,16 @@ add-one n h g = reports-one h g
 pub remove-one : {w v u : List ℕ} {k : ℕ} {r x : Noted} (n : Net) → Reports n (Removed w k n) (notedAs r) v → Reports n (Removed w k n) (notedAs x) u → (r ≡ x) × (v ≡ u)
 remove-one n h g = reports-one h g
 
--- The list with the network is one.
+-- The list with the network is one, and that without it.
 pub add-list : (n : Net) (S : State) (k : ℕ) → isState S ≡ true → firstNo (netRules n S) ≡ 0 → isList (width (S .family)) (listWith k n S) ≡ true
 add-list n S k e z = isList-add (width (S .family)) (listAt S k) (netBits n) (isList-listAt S k e) (netRules-within n S z)
+
+remove-list : (n : Net) (S : State) (k : ℕ) → isState S ≡ true → firstNo (netRules n S) ≡ 0 → isList (width (S .family)) (listWithout k n S) ≡ true
+remove-list n S k e z = isList-remove (width (S .family)) (listAt S k) (netBits n) (isList-listAt S k e) (netRules-within n S z)
+
+pub by-list : (x : Bool) (n : Net) (S : State) (k : ℕ) → isState S ≡ true → firstNo (netRules n S) ≡ 0 → isList (width (S .family)) (listBy x k n S) ≡ true
+by-list true = add-list
+by-list false = remove-list
 
 -- What is left of a sound pool.
 module _ {w v : List ℕ} {S : State} {k : ℕ} {r : ℕ × ℕ} (n : Net) (d : decode w ≡ sound S) where
@@ -36,4 +44,4 @@ module _ {w v : List ℕ} {S : State} {k : ℕ} {r : ℕ × ℕ} (n : Net) (d : 
   add-leaves c = relist-leaves (netRules n) (listWith k n) d (add-list n S k (decode-state w S d)) c
 
   pub remove-leaves : Removed w k n r v → RelistLeaves w S k (netRules n S) (listWithout k n S) r v
-  remove-leaves c = relist-leaves (netRules n) (listWithout k n) d (λ z. isList-remove (width (S .family)) (listAt S k) (netBits n) (isList-listAt S k (decode-state w S d)) (netRules-within n S z)) c
+  remove-leaves c = relist-leaves (netRules n) (listWithout k n) d (remove-list n S k (decode-state w S d)) c

@@ -1,6 +1,8 @@
 // Adding to a set that a pass over the pool has found. It answers what a pass would find then, so one pass serves any number of networks.
 use crate::calling::Asked;
 use crate::calling::ask_found;
+use crate::editing::edit;
+use crate::editing::size_with;
 use inner_nets::walks::is_clear;
 use nets::Net;
 use nets::PrefixBits;
@@ -9,7 +11,6 @@ use pool_change::judging::is_public;
 use pool_change::judging::judge;
 use pool_change::relinking::granted;
 use pool_check::claims::claim_at;
-use pool_check::seats::seat_in;
 use pool_state::Survey;
 use pool_state::Verdict;
 ghost use mathlib.Core.Path.{_≡_};
@@ -62,15 +63,13 @@ pub fn add_found(pool: &mut [u32], set: u32, found: Survey, net: Net) -> Grown
         Asked::Refused(no) => Grown::Refused(no),
         Asked::Go(v, s) => {
             let clear = is_admitted(pool, set, v, s);
-            let at = seat_in(pool, v);
-            let n = trie_insert::insert_size(pool, at.base, at.first, at.end, s) as u32;
+            let n = size_with(pool, v, s, net, true);
             let verdict = judge(pool, set, v, clear, n);
             match verdict {
                 Verdict::No(no) => Grown::Refused(no),
                 Verdict::Fits => {
                     let then = survey_with(pool, set, v, n);
-                    let used = v.used as usize + 1;
-                    trie_insert::insert(pool, at.base, at.first, at.end, used, s);
+                    edit(pool, v, s, net, true);
                     granted(pool, set, v, n);
                     Grown::Grew(then)
                 }

@@ -3,15 +3,16 @@ use adding::Grown;
 use adding::add_found;
 use calling::Asked;
 use calling::ask;
+use editing::edit;
+use editing::size_with;
 use nets::Net;
 use nets::Refusal;
 use nets::has_bit_past;
 use pool_change::judging::judge;
 use pool_change::relinking::granted;
 use pool_change::relinking::shift_behind;
-use pool_check::most_levels;
-use pool_check::seats::seat_in;
 use pool_check::seats::seat_of;
+use pool_check::stride_of;
 use pool_state::Answer;
 use pool_state::Seated;
 use pool_state::Verdict;
@@ -22,6 +23,7 @@ ghost use Rattle.change.specs.Simplified.{Simplifies};
 
 pub mod adding;
 mod calling;
+mod editing;
 mod shrinking;
 
 // What add and remove answer: the nodes of the set, and whether a set bit past the network's length was cut.
@@ -56,14 +58,12 @@ pub fn remove(pool: &mut [u32], set: u32, net: Net) -> Noted
     match asked {
         Asked::Refused(no) => Noted::Refused(no),
         Asked::Go(found, s) => {
-            let at = seat_in(pool, found);
-            let n = trie_remove::remove_size(pool, at.base, at.first, at.end, s) as u32;
+            let n = size_with(pool, found, s, net, false);
             let verdict = judge(pool, set, found, true, n);
             match verdict {
                 Verdict::No(no) => Noted::Refused(no),
                 Verdict::Fits => {
-                    let used = found.used as usize + 1;
-                    trie_remove::remove(pool, at.base, at.first, at.first, at.end, used, s);
+                    edit(pool, found, s, net, false);
                     granted(pool, set, found, n);
                     Noted::Granted(n, has_bit_past(net))
                 }
@@ -81,9 +81,9 @@ pub fn simplify(pool: &mut [u32], set: u32) -> Answer
     match seated {
         Seated::Refused(no) => Answer::Refused(no),
         Seated::At(found, seat) => {
-            let levels = most_levels(seat.family as u32);
-            let nodes = shrink(pool, seat.base, found, levels);
-            shift_behind(pool, seat.base, found, nodes);
+            let stride = stride_of(pool);
+            let nodes = shrink(pool, found, seat);
+            shift_behind(pool, seat.base, stride, found, nodes);
             granted(pool, set, found, nodes)
         }
     }

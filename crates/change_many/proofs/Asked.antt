@@ -1,38 +1,37 @@
 -- What the calls ask first: the rules of a file and of a range, and a law for each return by the tests on the way to it. Assumes nothing.
-use mathlib.Core.Bool.{Bool, true, false, not, _&&_}
-use mathlib.Core.List.{List, []}
-use mathlib.Core.Path.{_≡_, refl, sym, ap, _∙_}
-use Prim.Native.Nat.{ℕ, _^_, _≤_, _<_}
+use mathlib.Core.Bool.{Bool, true, false}
+use mathlib.Core.List.{List}
+use mathlib.Core.Path.{_≡_, refl, sym, _∙_}
+use Prim.Native.Nat.{ℕ, _^_, _<_}
 use native.Mathlib.Omega.{arith}
 use lib.Arith.{digits-lt}
-use lib.Dec.{eqb, ltb}
-use lib.ListN.{getD}
+use lib.Dec.{ltb}
 use borrow.Author.Tests.{lt-ltb, le-ltb, ltb-true, ltb-false, eq-eqb, ne-eqb}
 use Rattle.nets.specs.Bits.{Bits}
-use Rattle.nets.specs.Networks.{isFamily, width, value}
+use Rattle.nets.specs.Networks.{isFamily, width}
 use Rattle.nets.specs.Refusals.{number, firstNo}
 use Rattle.nets.specs.declared.Refusal.{Refusal}
 use Rattle.nets.specs.declared.Refusal.the-variants.{BadFile, WrongFamily, BadNetwork, BadRange}
 use Rattle.nets.proofs.Answers.{number-some}
 use Rattle.nets.proofs.Numbers.{width-4, width-6}
-use Rattle.nets.proofs.Strings.{and-left, and-right}
+use Rattle.nets.proofs.Strings.{and-right}
 use Rattle.nodes.specs.declared.seats.Seat.{Seat}
 use Rattle.ranges.specs.Addresses.{addressOf}
 use Rattle.ranges.specs.declared.addresses.Address.{Address}
 use Rattle.pool_state.specs.States.{State}
-use Rattle.pool_state.specs.Decode.{sound, decode}
+use Rattle.pool_state.specs.Decode.{decode}
 use Rattle.pool_state.specs.Steps.{Refuses}
 use Rattle.pool_state.specs.declared.Survey.{Survey}
 use Rattle.pool_state.proofs.Decoded.{decode-header}
 use Rattle.pool_state.proofs.Header.{isHeader-header}
 use Rattle.pool_state.proofs.Seats.{Seats, seats-family}
-use Rattle.pool_state.proofs.Seen.{Seen, seen, seen-header}
+use Rattle.pool_state.proofs.Seen.{seen, seen-header}
 use Rattle.pool_state.proofs.Returns.{changed, change-seat, change-args}
 use Rattle.setfile_format.specs.Files.{File, broken, file, readFile}
-use Rattle.setfile_order.specs.Flow.{checkedOf}
+use Rattle.setfile_order.specs.Flow.{checkedAs, checkRule}
 use Rattle.setfile_order.specs.declared.Checked.{Checked}
 use Rattle.setfile_order.specs.declared.Checked.the-variants as checked
-use Rattle.setfile.proofs.Loads.{checked-broken, checked-file}
+use Rattle.setfile_order.proofs.Answers.{checked-broken, checked-file}
 use Rattle.change_many.specs.Calls.{fileRules, isSpan, rangeOf, spanRules}
 use Rattle.change_many.specs.Steps.{AsksFile, AsksSpan}
 use Rattle.change_many.specs.declared.Span.{Span}
@@ -58,21 +57,22 @@ module _ (x : File) (S : State) where
 pub file-refused : {w : List ℕ} {k : ℕ} (d : List ℕ) (x : Refusal) → Refuses (decode w) k (number x) → AsksFile w k d (asked.Refused x)
 file-refused {w} {k} d x h g = changed (change-seat (fileRules (readFile d)) g w k h)
 
-module _ {w : List ℕ} {k : ℕ} {v : Survey} {s : Seat} (d : List ℕ) (h : Seats w k v s) {r : Checked} (c : r ≡ checkedOf (readFile d)) where
+module _ {w : List ℕ} {k : ℕ} {v : Survey} {s : Seat} (d : List ℕ) (h : Seats w k v s) where
   file-args : (x : Refusal) → ((S : State) → s .family ≡ S .family → firstNo (fileRules (readFile d) S) ≡ number x) → AsksFile w k d (asked.Refused x)
   file-args x q g =
       let (S, i) = seen (h .surveyed) in
       changed (change-args (fileRules (readFile d)) g i (q S (seats-family h ∙ decode-header w S (i .decoded) .family)) (number-some x))
 
-  pub file-broken : r ≡ checked.Broken → AsksFile w k d (asked.Refused BadFile)
-  file-broken i = file-args BadFile (λ S o. fileRules-broken (readFile d) S (checked-broken (readFile d) (sym c ∙ i)))
+  module _ {r : Checked} (c : checkedAs r ≡ checkRule (readFile d)) where
+    pub file-broken : r ≡ checked.Broken → AsksFile w k d (asked.Refused BadFile)
+    file-broken i = file-args BadFile (λ S o. fileRules-broken (readFile d) S (checked-broken (readFile d) c i))
 
-  module _ {f n : ℕ} (i : r ≡ checked.File f n) where
-    pub file-family : (f ≡ s .family → ⊥) → AsksFile w k d (asked.Refused WrongFamily)
-    file-family ne = let its = checked-file (readFile d) f n (sym c ∙ i) in file-args WrongFamily (λ S o. fileRules-other (readFile d) S (its .1) (λ z. ne (z ∙ sym o)))
+    module _ {f n : ℕ} (i : r ≡ checked.File f n) where
+      pub file-family : (f ≡ s .family → ⊥) → AsksFile w k d (asked.Refused WrongFamily)
+      file-family ne = let its = checked-file (readFile d) c i in file-args WrongFamily (λ S o. fileRules-other (readFile d) S (its .1) (λ z. ne (z ∙ sym o)))
 
-    pub file-ready : f ≡ s .family → AsksFile w k d (asked.File v f)
-    file-ready own = let (l, reads, nodes) = checked-file (readFile d) f n (sym c ∙ i) in record { surveyed = h .surveyed; list = l; reads = reads; family = own ∙ seats-family h }
+      pub file-ready : f ≡ s .family → AsksFile w k d (asked.File v f)
+      file-ready own = let (l, reads, nodes) = checked-file (readFile d) c i in record { surveyed = h .surveyed; list = l; reads = reads; family = own ∙ seats-family h }
 
 -- An address is within the width of its family.
 module _ (f : ℕ) (a : Address) where

@@ -1,60 +1,62 @@
--- Pouring the networks of a file into a set that is found, or out of it: what it asks, what it writes in the two orders, and the result that is judged (`Result` of pool_state's
--- proofs/Returns.antt says what becomes of it). Assumes nothing.
+-- Pouring the networks of a file into a set that is found, or out of it: what it asks, what it writes in the two orders, and the result that is judged (`Counted` of pool_state's
+-- proofs says what becomes of it). Assumes nothing.
 use mathlib.Core.Bool.{Bool, true, false, not, _||_}
-use mathlib.Core.List.{List, [], _∷_, _++_, append-nil}
+use mathlib.Core.List.{List, [], _∷_, _++_}
 use mathlib.Core.Path.{_≡_, refl, sym, ap, _∙_}
-use Prim.Native.Nat.{ℕ, suc, _+_, _-_, _*_, _≤_, _<_}
+use Prim.Native.Nat.{ℕ, _+_, _-_, _*_, _≤_, _<_}
+use native.Mathlib.Nat.{mul-le-mul-left}
 use native.Mathlib.Omega.{arith}
 use lib.Dec.{leb}
 use lib.ListN.{length, getD, take}
 use borrow.Author.Tests.{leb-true}
 use Rattle.nets.specs.Bits.{Bits}
 use Rattle.nets.specs.Tries.{Trie, size, listOf, trieOf}
-use Rattle.nets.specs.Lists.{within, isList, excludeL}
+use Rattle.nets.specs.Lists.{within, excludeL}
 use Rattle.nets.specs.Networks.{width}
-use Rattle.nets.specs.Refusals.{Rule, firstNo}
+use Rattle.nets.specs.Refusals.{Rule}
 use Rattle.nets.proofs.Numbers.{width-le}
 use Rattle.nets.proofs.Strings.{and-left, and-right}
 use Rattle.nets.proofs.TrieOf.{isList-within}
-use Rattle.nodes.specs.Words.{put, place, enc, Has, Apart}
-use Rattle.nodes.specs.Segments.{Segment}
+use Rattle.nodes.specs.Words.{put, Apart}
 use Rattle.nodes.specs.declared.seats.Seat.{Seat}
-use Rattle.nodes.proofs.Put.{length-put}
+use Rattle.nodes.proofs.Put.{length-put, getD-put-before}
 use Rattle.nodes.proofs.Has.{has-put}
 use Rattle.trie_insert.proofs.Insertion.{size-insert}
-use Rattle.nodes.proofs.Tries.{length-enc}
 use Rattle.inner_nets.specs.Inner.{isPublic}
 use Rattle.inner_nets.proofs.Public.{isPublic-exclude}
 use Rattle.ranges.specs.Ranges.{range}
 use Rattle.ranges.specs.Blocks.{netsOf, addAll, addRangeL}
 use Rattle.ranges.specs.Addresses.{addressOf}
 use Rattle.ranges.specs.declared.addresses.Address.{Address}
+use Rattle.pool_state.specs.Kept.{formOf, heldL, encL, spotL}
 use Rattle.pool_state.specs.States.{State, roomOf, admits}
-use Rattle.pool_state.specs.Decode.{base, sound, decode}
+use Rattle.pool_state.specs.Decode.{base, sound, decode, formIn}
 use Rattle.pool_state.specs.Rules.{seatOf}
 use Rattle.pool_state.specs.Changes.{setAt, listAt}
-use Rattle.pool_state.specs.Steps.{Surveyed, behindAt, Shiftable}
+use Rattle.pool_state.specs.Steps.{spotBy, behindAt, Shiftable, strideIn, encIn}
 use Rattle.pool_state.specs.declared.Survey.{Survey}
 use Rattle.pool_state.proofs.Claims.{isList-listAt, admits-listAt}
 use Rattle.pool_state.proofs.Decoded.{decode-header, decode-state}
-use Rattle.pool_state.proofs.Seen.{Seen, seen, seen-as, seen-figures, placeOf, behind-has, behindAt-is}
-use Rattle.pool_state.proofs.OnTries.{seen-segment, seen-size, trie-has, trieAt, withTrie, behind-first, behind-last, Result}
-use Rattle.pool_state.proofs.Changed.{shift-asks}
+use Rattle.pool_state.proofs.Seen.{Seen, seen, seen-as, seen-header, seen-form, seen-figures, own-form, own-has, own-length, spotIn-on, strideIn-is, placeOf, behind-has, behindAt-is, wordsL, strideS}
+use Rattle.pool_state.proofs.Changed.{withWords, words-first, words-last, shift-asks}
+use Rattle.pool_state.proofs.OnTries.{trieAt}
+use Rattle.pool_state.proofs.Counted.{Counted}
 use Rattle.setfile_format.specs.Files.{file, readFile, fileOf}
 use Rattle.setfile_format.proofs.Written.{length-fileOf}
 use Rattle.setfile_format.proofs.RoundTrip.{readFile-is}
-use Rattle.setfile_pour.specs.Pouring.{Sources, Pours}
 use Rattle.trie_pour.specs.Pour.{pourT}
 use Rattle.trie_pour.proofs.Pour.{pour-size}
 use Rattle.setfile.specs.Loading.{fileList}
 use Rattle.setfile_range.specs.Edges.{Rangeable, spanOf, rangeFile}
 use Rattle.setfile_range.proofs.Files.{few-nets, range-reads}
 use Rattle.setfile.proofs.Outcomes.{take-put}
+use Rattle.setfile.proofs.Returns.{decode-few}
 use Rattle.change_many.specs.Calls.{pouredL, fileRules, rangeOf, spanRules}
 use Rattle.change_many.specs.declared.Span.{Span}
-use Rattle.change_many.specs.Steps.{FileReady, SpanReady, Admits, Pourable, Clear, PourFits, withPoured}
+use Rattle.change_many.specs.Steps.{FileReady, SpanReady, Admits, Pourable, Clear, SourcesIn, PoursIn, PourFits, withPoured}
 use Rattle.change_many.proofs.Lists.{listOf-poured, isPublic-addAll}
 use Rattle.change_many.proofs.Asked.{fileRules-right}
+use Rattle.change_many.proofs.InForms.{held-few, takes, words-long, words-trie, words-within, Still, still-sources, still-pours}
 
 -- How many nodes a file can have.
 size-trieOf : (w : ℕ) (l : List Bits) → within w l ≡ true → w ≤ 128 → size (trieOf l) ≤ 129 * length l
@@ -87,6 +89,11 @@ module _ (w : List ℕ) (S : State) (k : ℕ) (d : decode w ≡ sound S) where
       let e = admits-listAt S k (decode-state w S d) in
       admits-same (setAt S k .public) (isPublic f l) (isPublic f (excludeL l ns)) (isPublic f l) e (λ q. isPublic-exclude f l ns q ∙ sym q) ∙ e
 
+-- where the node stands that comes behind n nodes of the set
+next : {w : List ℕ} {S : State} {k : ℕ} {v : Survey} (h : Seen w S k v) (n : ℕ) → spotBy (strideS S) (base (getD w 2 0)) (v .at + n) ≡ placeOf w v + strideS S * n
+unfolding spotL strideIn
+next {w} {S} {k} {v} h n = ap (λ s. spotBy s (base (getD w 2 0)) (v .at + n)) (sym (strideIn-is h)) ∙ sym (spotIn-on h n)
+
 -- What is written.
 module _ {w : List ℕ} {k : ℕ} {v : Survey} {d : List ℕ} {f : ℕ} {x : Bool} {n : ℕ} {S : State} {l : List Bits} (h : PourFits w k v d f x n S l) where
   known : Seen w S k v
@@ -95,69 +102,85 @@ module _ {w : List ℕ} {k : ℕ} {v : Survey} {d : List ℕ} {f : ℕ} {x : Boo
   abbrev new : Trie
   new = pourT x (trieOf l) (trieAt S k)
 
-  stands : {u : List ℕ} → Has u (placeOf w v) (enc (trieAt S k)) → Segment u (base (getD w 2 0)) (v .at) (v .at + v .held) (v .at + v .held) (trieAt S k) []
-  stands o =
-      let s = seen-segment known in
-      record { has = rw (append-nil (enc (trieAt S k))) o; one = s .one; end = s .end; used = omega arith; few = omega (arith, s .used, s .few); low = s .low }
+  abbrev words : List ℕ
+  words = wordsL S (listOf new)
 
-  pub writes-gap : {u : List ℕ} {b : ℕ} → b ≡ base (getD w 2 0) → length u ≡ length w → Shiftable u b v n
-  writes-gap q e = rw q (shift-asks known (h .fits) e)
+  same-words : encIn w (listOf new) ≡ words
+  same-words = rw (seen-form known, seen-header known .family)
 
-  writes-pours : {u : List ℕ} {g : ℕ} → g ≡ v .at + n → length u ≡ length w → Has u (placeOf w v) (enc (trieAt S k))
-      → Pours u (base (getD w 2 0)) (v .at) (v .at + v .held) g d f x l (trieAt S k)
-  writes-pours {u} {g} e s o =
-      let x = seen-figures known in
-      let r = shift-asks known {u = w} (h .fits) refl in
-      record {
-        source = record { here = stands o; reads = h .reads };
-        end = omega (arith, e, h .size);
-        room = omega (arith, e, s, r .room, x .last, x .first);
-        few = omega (arith, e, x .last, x .used, x .claimed, x .nodes, h .fits, decode-header w S (h .decoded) .nodes);
-      }
+  with-is : withWords w S k v words ≡ withPoured w v (listOf new)
+  with-is =
+      ap (λ ys. put w (placeOf w v) (words ++ ys)) (sym (behindAt-is known (behind-has known)) ∙ ap (λ s. behindAt s w (base (getD w 2 0)) v) (sym (strideIn-is known)))
+      ∙ ap (λ xs. put w (placeOf w v) (xs ++ behindAt (strideIn w) w (base (getD w 2 0)) v)) (sym same-words)
 
-  -- the sets behind were moved first: the set is where it was
-  grtrie-has : {u : List ℕ} → v .held < n → u ≡ put w (place (base (getD w 2 0)) (v .at + n)) (behindAt w (base (getD w 2 0)) v) → Has u (placeOf w v) (enc (trieAt S k))
-  grtrie-has lt e =
-      let p = place (base (getD w 2 0)) (v .at + n) in
-      let ys = behindAt w (base (getD w 2 0)) v in
-      let far : Apart (placeOf w v) (length (enc (trieAt S k))) p (length ys) = λ j a b c d. omega (arith, length-enc (trieAt S k), seen-size known, seen-figures known .first) in
-      rw e (has-put p ys (trie-has known) far)
-
-  with-is : withTrie w S k v new ≡ withPoured w v new
-  with-is = ap (λ ys. put w (placeOf w v) (enc new ++ ys)) (sym (behindAt-is known (behind-has known)))
+  stays : Still w w S k v
+  stays = record { long = refl; form = refl; nodes = refl; has = own-has known }
 
   module _ {t : Seat} (q : t ≡ seatOf w v) where
-    base-is : t .base ≡ base (getD w 2 0)
-    base-is = ap (λ (z : Seat). z .base) q
-
-    first-is : t .first ≡ v .at
-    first-is = ap (λ (z : Seat). z .first) q
-
-    pub seat-gap : {u : List ℕ} → length u ≡ length w → Shiftable u (t .base) v n
-    seat-gap e = writes-gap base-is e
-
     pub seat-end : t .first + n < 18446744073709551616
-    seat-end = omega (arith, first-is, writes-pours {u = w} {g = v .at + n} refl refl (trie-has known) .few)
+    seat-end = rw q (omega (arith, words-within known new (h .size) (h .fits), seen-figures known .nodes))
 
-    pub grown-pours : {u : List ℕ} {g : ℕ} → v .held < n → u ≡ put w (place (t .base) (v .at + n)) (behindAt w (t .base) v) → g ≡ t .first + n
-        → Pours u (t .base) (t .first) (t .end) g d f x l (trieAt S k)
-    grown-pours {u} lt e i =
-        let b = base-is in
-        let s : length u ≡ length w = ap length e ∙ length-put w (place (t .base) (v .at + n)) (behindAt w (t .base) v) in
-        let j = rw q at i in
-        rw q (writes-pours j s (grtrie-has lt (rw q at e)))
+    ends : {g : ℕ} → g ≡ t .first + n → g ≡ v .at + n
+    ends i = i ∙ ap (λ (z : Seat). z .first + n) q
 
-    pub shrunk-pours : {g : ℕ} → g ≡ t .first + n → Pours w (t .base) (t .first) (t .end) g d f x l (trieAt S k)
-    shrunk-pours i = let j = rw q at i in rw q (writes-pours j refl (trie-has known))
+    -- the result, written in words of the same form
+    abbrev filled : List ℕ → List ℕ
+    filled u = put u (spotL (formIn u) f (t .base) (t .first)) (encL (formIn u) f (listOf new))
 
-    pub grown-wrote : {u y : List ℕ} → u ≡ put w (place (t .base) (v .at + n)) (behindAt w (t .base) v) → y ≡ put u (place (t .base) (t .first)) (enc new) → y ≡ withPoured w v new
-    grown-wrote e g = behind-first known new (rw (q, h .size) at e) (rw q at g) ∙ with-is
+    filled-is : (u : List ℕ) → formIn u ≡ formIn w → filled u ≡ put u (placeOf w v) words
+    filled-is u e =
+        ap (λ F. put u (spotL F f (t .base) (t .first)) (encL F f (listOf new))) e
+        ∙ ap (λ y. put u (spotL (formIn w) y (t .base) (t .first)) (encL (formIn w) y (listOf new))) (h .family)
+        ∙ ap (λ (y : Seat). put u (spotL (formIn w) (getD w 1 0) (y .base) (y .first)) (encIn w (listOf new))) q
+        ∙ ap (put u (placeOf w v)) same-words
 
-    pub shrunk-wrote : {u y : List ℕ} → n ≤ v .held → u ≡ put w (place (t .base) (t .first)) (enc new) → y ≡ put u (place (t .base) (v .at + n)) (behindAt u (t .base) v) → y ≡ withPoured w v new
-    shrunk-wrote le e g = behind-last known new (omega (arith, h .size)) (rw q at e) (rw (q, h .size) at g) ∙ with-is
+    pub shrunk-pours : {g : ℕ} → g ≡ t .first + n → PoursIn w t g d f x l (trieAt S k)
+    shrunk-pours i = still-pours known stays q (h .reads) (h .family) (h .size) (h .fits) (ends i)
 
-    pub shrunk-length : {u : List ℕ} → u ≡ put w (place (t .base) (t .first)) (enc new) → length u ≡ length w
-    shrunk-length e = ap length e ∙ length-put w (place (t .base) (t .first)) (enc new)
+    pub shrunk-length : {u : List ℕ} → u ≡ filled w → length u ≡ length w
+    shrunk-length e = ap length e ∙ length-put w (spotL (formIn w) f (t .base) (t .first)) (encL (formIn w) f (listOf new))
+
+    module _ {s : ℕ} (c : s ≡ strideIn w) where
+      stride-is : s ≡ strideS S
+      stride-is = c ∙ strideIn-is known
+
+      -- the sets behind are moved
+      abbrev moved : List ℕ → List ℕ
+      moved u = put u (spotBy s (t .base) (v .at + n)) (behindAt s u (t .base) v)
+
+      moved-is : (u : List ℕ) → moved u ≡ put u (spotBy (strideS S) (base (getD w 2 0)) (v .at + n)) (behindAt (strideS S) u (base (getD w 2 0)) v)
+      moved-is u = rw (q, stride-is)
+
+      pub seat-gap : {u : List ℕ} → length u ≡ length w → Shiftable s u (t .base) v n
+      seat-gap e = rw (q, stride-is) (shift-asks known (h .fits) e)
+
+      -- where they were moved first, the set is where it was
+      moved-still : {u : List ℕ} → v .held < n → u ≡ moved w → Still w u S k v
+      moved-still {u} lt e =
+          let p = spotBy (strideS S) (base (getD w 2 0)) (v .at + n) in
+          let ys = behindAt (strideS S) w (base (getD w 2 0)) v in
+          let z : u ≡ put w p ys = e ∙ moved-is w in
+          let low : (i : ℕ) → i < 64 → getD u i 0 ≡ getD w i 0 = λ i a. rw z (getD-put-before w p ys i (omega arith)) in
+          let m : strideS S * v .held ≤ strideS S * n = mul-le-mul-left (strideS S) (omega arith) in
+          let a : spotBy (strideS S) (base (getD w 2 0)) (v .at + n) ≡ placeOf w v + strideS S * n = next known n in
+          let far : Apart (placeOf w v) (length (wordsL S (listAt S k))) p (length ys) = λ j b1 b2 b3 b4. omega (arith, own-length known, m, a) in
+          record {
+            long = ap length z ∙ length-put w p ys;
+            form = ap formOf (low 5 (omega arith));
+            nodes = low 3 (omega arith);
+            has = rw z (has-put p ys (own-has known) far);
+          }
+
+      pub grown-pours : {u : List ℕ} {g : ℕ} → v .held < n → u ≡ moved w → g ≡ t .first + n → PoursIn u t g d f x l (trieAt S k)
+      grown-pours lt e i = still-pours known (moved-still lt e) q (h .reads) (h .family) (h .size) (h .fits) (ends i)
+
+      pub grown-wrote : {u y : List ℕ} → v .held < n → u ≡ moved w → y ≡ filled u → y ≡ withPoured w v (listOf new)
+      grown-wrote {u} lt e g =
+          words-first known words n (words-long known new (h .size)) (e ∙ moved-is w) (g ∙ filled-is u (moved-still lt e .form)) ∙ with-is
+
+      pub shrunk-wrote : {u y : List ℕ} → n ≤ v .held → u ≡ filled w → y ≡ moved u → y ≡ withPoured w v (listOf new)
+      shrunk-wrote {u} le e g =
+          words-last known words n (words-long known new (h .size)) le (e ∙ filled-is w refl) (g ∙ moved-is u) ∙ with-is
 
 -- The result.
 module _ {w : List ℕ} {k : ℕ} {v : Survey} {d : List ℕ} {f : ℕ} {x : Bool} {a : State → List Rule} {g : State → List Bits} (h : Pourable w k v d f x a g) where
@@ -170,15 +193,8 @@ module _ {w : List ℕ} {k : ℕ} {v : Survey} {d : List ℕ} {f : ℕ} {x : Boo
   abbrev pub result-trie : Trie
   result-trie = pourT x (trieOf (h .list)) (trieAt state k)
 
-  pub pour-sources : {t : Seat} → t ≡ seatOf w v → Sources w (t .base) (t .first) (t .end) d f (h .list) (trieAt state k)
-  pour-sources q =
-      let s = seen-segment sees in
-      rw q
-      (record {
-        here =
-            record { has = rw (append-nil (enc (trieAt state k))) (trie-has sees); one = s .one; end = s .end; used = omega arith; few = omega (arith, s .used, s .few); low = s .low };
-        reads = h .reads;
-      })
+  pub pour-sources : {t : Seat} → t ≡ seatOf w v → SourcesIn w t d f (h .list) (trieAt state k)
+  pour-sources q = still-sources sees (record { long = refl; form = refl; nodes = refl; has = own-has sees }) q (h .reads) (h .family)
 
   own-family : f ≡ state .family
   own-family = h .family ∙ decode-header w state (sees .decoded) .family
@@ -189,20 +205,35 @@ module _ {w : List ℕ} {k : ℕ} {v : Survey} {d : List ℕ} {f : ℕ} {x : Boo
       let j = rw own-family at (readFile-is d f (h .list) (h .reads) .list) in
       listOf-poured (width (state .family)) (listAt state k) (h .list) i j x ∙ sym (h .result state (sees .decoded))
 
-  module _ {m : ℕ} (e : m ≡ size result-trie) where
+  module _ {m : ℕ} (e : m ≡ heldL (formIn w) (listOf result-trie)) where
     pub pour-few : m < 4294967296
     pour-few =
-        let s = seen-figures sees in
-        omega (arith, pour-size x (trieOf (h .list)) (trieAt state k), file-nodes d f (h .list) (h .reads), seen-size sees, s .held, s .claimed, s .nodes)
+        let i = isList-listAt state k (decode-state w state (sees .decoded)) in
+        omega (
+          arith,
+          held-few (formIn w) result-trie,
+          pour-size x (trieOf (h .list)) (trieAt state k),
+          file-nodes d f (h .list) (h .reads),
+          size-trieOf (width (state .family)) (listAt state k) (isList-within (width (state .family)) (listAt state k) i) (width-le (state .family)),
+          decode-few w state (sees .decoded) k (sees .known),
+        )
 
-    pub pour-result : {c : Bool} → Clear w k g c → Result w state k v a g result-trie c m
-    pour-result q = record { seen = sees; right = h .right state (sees .decoded); list = its-list; public = q state (sees .decoded); size = sym e }
+    pub pour-counted : {c : Bool} → Clear w k g c → Counted w state k v a g (wordsL state (listOf result-trie)) c m
+    pour-counted q = record {
+      seen = sees;
+      right = h .right state (sees .decoded);
+      public = q state (sees .decoded);
+      held = ap (λ F. heldL F (g state)) (own-form sees) ∙ ap (heldL (state .form)) (sym its-list) ∙ takes sees result-trie e;
+      words = ap (wordsL state) its-list;
+      long = words-long sees result-trie e;
+      trie = words-trie sees result-trie e;
+    }
 
     pub pour-writable : m ≤ roomOf state k → PourFits w k v d f x m state (h .list)
     pour-writable le = record { surveyed = h .surveyed; decoded = sees .decoded; reads = h .reads; family = h .family; size = e; fits = le }
 
-    pub pour-wrote : {u : List ℕ} → u ≡ withPoured w v result-trie → u ≡ withTrie w state k v result-trie
-    pour-wrote q = q ∙ ap (λ ys. put w (placeOf w v) (enc result-trie ++ ys)) (behindAt-is sees (behind-has sees))
+    pub pour-wrote : (le : m ≤ roomOf state k) {u : List ℕ} → u ≡ withPoured w v (listOf result-trie) → u ≡ withWords w state k v (wordsL state (listOf result-trie))
+    pour-wrote le q = q ∙ sym (with-is (pour-writable le))
 
 -- the mark, where networks come in
 pub clear-of : {w : List ℕ} {k : ℕ} {v : Survey} {d : List ℕ} {f : ℕ} {a : State → List Rule} {g : State → List Bits} {c : Bool} → Pourable w k v d f true a g → Admits w k d f c → Clear w k g c

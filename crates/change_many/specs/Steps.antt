@@ -5,26 +5,31 @@
 --   Admits w k d f c         c says whether set k may have the networks of the file d with its own, as far as its mark goes
 --   Pourable .. a g          what pouring asks: the rules a of the call's arguments are kept, and g is the list that the call is to leave
 --   Clear w k g c            c says whether set k may have the list g as far as its mark goes
+--   SourcesIn, PoursIn       what counting a result and writing it ask, in either form
 --   PourFits, withPoured        what writing a result asks, and the words that it leaves
 use mathlib.Core.Bool.{Bool, true}
 use mathlib.Core.List.{List, _++_}
 use mathlib.Core.Path.{_≡_}
 use Prim.Native.Nat.{ℕ, _^_, _≤_, _<_}
-use lib.ListN.{getD}
+use lib.ListN.{length, getD}
 use Rattle.nets.specs.Bits.{Bits}
 use Rattle.nets.specs.Networks.{isFamily, width}
 use Rattle.nets.specs.Refusals.{Rule, number, firstNo}
-use Rattle.nets.specs.Tries.{Trie, trieOf, size}
-use Rattle.nodes.specs.Words.{put, place, enc}
+use Rattle.nets.specs.Tries.{Trie, listOf, trieOf}
+use Rattle.nodes.specs.Words.{put}
+use Rattle.nodes.specs.declared.seats.Seat.{Seat}
 use Rattle.ranges.specs.Blocks.{addAll}
 use Rattle.ranges.specs.Addresses.{addressOf}
+use Rattle.pool_state.specs.Kept.{first, second, heldL}
 use Rattle.pool_state.specs.States.{State, roomOf, admits}
-use Rattle.pool_state.specs.Decode.{base, sound, decode}
+use Rattle.pool_state.specs.Decode.{base, sound, decode, formIn}
 use Rattle.pool_state.specs.Changes.{setAt, listAt, Relisted}
-use Rattle.pool_state.specs.Steps.{Surveyed, behindAt}
+use Rattle.pool_state.specs.Steps.{Surveyed, behindAt, strideIn, spotIn, encIn}
 use Rattle.pool_state.specs.declared.Survey.{Survey}
 use Rattle.setfile_format.specs.Files.{file, readFile}
 use Rattle.trie_pour.specs.Pour.{pourT}
+use Rattle.setfile_pour.specs.Pouring as tries
+use Rattle.kept_pour.specs.Pouring as kept
 use Rattle.change_many.specs.Calls.{pouredL, fileRules, spanRules}
 use Rattle.change_many.specs.declared.Span.{Span}
 use Rattle.change_many.specs.declared.asking.AskedFile.{AskedFile}
@@ -68,15 +73,30 @@ pub record Pourable (w : List ℕ) (k : ℕ) (v : Survey) (d : List ℕ) (f : �
 abbrev pub Clear : List ℕ → ℕ → (State → List Bits) → Bool → Type 0
 Clear w k g c = (S : State) → decode w ≡ sound S → admits (S .family) (setAt S k) (g S) ≡ c
 
+-- the trie t stands in the seat s, and the bytes d are the file of the list l, as the pour of the pool's form asks it;  PoursIn: and there is room for the result up to node g
+pub record SourcesIn (w : List ℕ) (s : Seat) (d : List ℕ) (f : ℕ) (l : List Bits) (t : Trie) : Type 0 where
+  pub long : 64 ≤ length w
+  pub first : formIn w ≡ first → tries.Sources w (s .base) (s .first) (s .end) d f l t
+  pub second : formIn w ≡ second → kept.Sources f w (s .base) (getD w 3 0) (s .first) (s .end) d l t
+
+pub record PoursIn (w : List ℕ) (s : Seat) (g : ℕ) (d : List ℕ) (f : ℕ) (x : Bool) (l : List Bits) (t : Trie) : Type 0 where
+  pub long : 64 ≤ length w
+  pub first : formIn w ≡ first → tries.Pours w (s .base) (s .first) (s .end) g d f x l t
+  pub second : formIn w ≡ second → kept.Pours f w (s .base) (getD w 3 0) (s .first) (s .end) g d x l t
+
+-- the list of the result
+abbrev pub pouredOf : Bool → List Bits → Trie → List Bits
+pouredOf x l t = listOf (pourT x (trieOf l) t)
+
 -- writing a result of n nodes that the room takes
 pub record PourFits (w : List ℕ) (k : ℕ) (v : Survey) (d : List ℕ) (f : ℕ) (x : Bool) (n : ℕ) (S : State) (l : List Bits) : Type 0 where
   pub surveyed : Surveyed w k v
   pub decoded : decode w ≡ sound S
   pub reads : readFile d ≡ file f l
   pub family : f ≡ getD w 1 0
-  pub size : n ≡ size (pourT x (trieOf l) (trieOf (listAt S k)))
+  pub size : n ≡ heldL (formIn w) (pouredOf x l (trieOf (listAt S k)))
   pub fits : n ≤ roomOf S k
 
--- the trie t in the place of the surveyed set, and the sets behind it behind it
-abbrev pub withPoured : List ℕ → Survey → Trie → List ℕ
-withPoured w v t = put w (place (base (getD w 2 0)) (v .at)) (enc t ++ behindAt w (base (getD w 2 0)) v)
+-- the list m in the place of the surveyed set, and the sets behind it behind it
+abbrev pub withPoured : List ℕ → Survey → List Bits → List ℕ
+withPoured w v m = put w (spotIn w (v .at)) (encIn w m ++ behindAt (strideIn w) w (base (getD w 2 0)) v)

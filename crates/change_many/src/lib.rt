@@ -15,6 +15,7 @@ ghost use Rattle.pool_state.specs.Rules.{answerAs};
 ghost use Rattle.change_many.specs.Calls.{spanWords, FileAdded, FileRemoved, RangeAdded};
 
 mod asking;
+mod by_form;
 mod pouring;
 
 // A range of addresses of a family, from its first to its last.

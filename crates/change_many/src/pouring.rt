@@ -1,15 +1,16 @@
 // Pouring the networks of a file into a set that a pass over the pool has found, or out of it: the result is counted and judged before anything is written, and then written in its place.
+use crate::by_form::pour_seated;
+use crate::by_form::poured_nodes;
 use pool_change::judging::is_public;
 use pool_change::judging::judge;
 use pool_change::relinking::granted;
 use pool_change::relinking::shift_behind;
 use pool_check::seats::seat_in;
+use pool_check::stride_of;
 use pool_state::Answer;
 use pool_state::Survey;
 use pool_state::Verdict;
 use setfile_clear::entries::file_is_clear;
-use setfile_pour::pour;
-use setfile_pour::poured_size;
 ghost use mathlib.Core.Path.{_≡_};
 ghost use mathlib.Core.Bool.{true};
 ghost use mathlib.Core.List.{List};
@@ -21,8 +22,7 @@ ghost use Rattle.pool_state.specs.Changes.{listAt, Relisted};
 ghost use Rattle.pool_state.specs.Rules.{answerAs};
 ghost use Rattle.pool_state.specs.Steps.{Surveyed};
 ghost use Rattle.setfile_format.specs.Files.{readFile, file};
-ghost use Rattle.trie_pour.specs.Pour.{pourT};
-ghost use Rattle.change_many.specs.Steps.{Admits, Pourable, Clear, PourFits, withPoured};
+ghost use Rattle.change_many.specs.Steps.{Admits, Pourable, Clear, PourFits, pouredOf, withPoured};
 
 // Whether the surveyed set may have the networks of the file with its own as far as its mark goes: it is not public-only, or no network of the file overlaps an inner one.
 fn is_admitted(pool: &[u32], set: u32, v: Survey, bytes: &[u8], family: u8) -> bool
@@ -40,17 +40,18 @@ fn is_admitted(pool: &[u32], set: u32, v: Survey, bytes: &[u8], family: u8) -> b
 fn write(pool: &mut [u32], set: u32, v: Survey, bytes: &[u8], family: u8, into: bool, n: u32)
     requires { ⌜ ((S : State) × (l : List Bits) × PourFits (now pool) set v (now bytes) family into n S l) ⌝ }
     ensures { λ _. ⌜ ((S : State) (l : List Bits) → PourFits (now (pool .entry)) set v (now (bytes .entry)) family into n S l
-        → now (pool .exit) ≡ withPoured (now (pool .entry)) v (pourT into (trieOf l) (trieOf (listAt S set)))) ⌝ }
+        → now (pool .exit) ≡ withPoured (now (pool .entry)) v (pouredOf into l (trieOf (listAt S set)))) ⌝ }
 {
     let at = seat_in(pool, v);
     let end = at.first + n as usize;
+    let s = stride_of(pool);
     if v.held < n {
-        shift_behind(pool, at.base, v, n);
-        pour(pool, at.base, at.first, at.end, end, bytes, family, into);
+        shift_behind(pool, at.base, s, v, n);
+        pour_seated(pool, at, end, bytes, family, into);
         return;
     }
-    pour(pool, at.base, at.first, at.end, end, bytes, family, into);
-    shift_behind(pool, at.base, v, n);
+    pour_seated(pool, at, end, bytes, family, into);
+    shift_behind(pool, at.base, s, v, n);
 }
 
 // Pours the networks of the file into the surveyed set, or out of it, where `clear` says whether the set may have the result as far as its mark goes.
@@ -68,7 +69,7 @@ pub fn pour_found(
         → Clear (now (pool .entry)) set g clear → Relisted (now (pool .entry)) set a g (answerAs r) (now (pool .exit))) ⌝ }
 {
     let at = seat_in(pool, v);
-    let n = poured_size(pool, at.base, at.first, at.end, bytes, family, into) as u32;
+    let n = poured_nodes(pool, at, bytes, family, into) as u32;
     let verdict = judge(pool, set, v, clear, n);
     match verdict {
         Verdict::No(no) => Answer::Refused(no),

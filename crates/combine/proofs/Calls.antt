@@ -28,10 +28,9 @@ use Rattle.pool_state.specs.Steps.{Refuses, Surveyed, Judges, Settle, Settled}
 use Rattle.pool_state.specs.declared.Survey.{Survey}
 use Rattle.pool_state.proofs.Decoded.{decode-header}
 use Rattle.pool_state.proofs.Seen.{Seen, seen, seen-as, seen-figures, seen-empty, seen-some}
-use Rattle.pool_state.proofs.OnTries.{trieAt, withTrie, behind-first, Result, result-fits, result-settles, result-granted}
+use Rattle.pool_state.proofs.OnTries.{form-first, shift-trie, trieAt, withTrie, behind-first, Result, result-fits, result-settles, result-granted}
 use Rattle.pool_state.specs.declared.Verdict.the-variants.{Fits}
 use Rattle.pool_state.proofs.Judged.{judge-none}
-use Rattle.pool_state.proofs.Changed.{shift-asks}
 use Rattle.pool_state.proofs.Returns.{isEmpty-some, change-seat, change-args, changed}
 use Rattle.combine.specs.Rules.{combineRules, Combined}
 use Rattle.combine.specs.Steps.{Operation, merging, intersecting, excluding, excludingApart, combineL, Ready, Asks, sourcesOf, Reads, Begun, mostNodes, Sure, Last, ResultFits, withResult}
@@ -85,16 +84,16 @@ module _ {w : List ℕ} {to : ℕ} {v : Survey} (first second : ℕ) (h : Survey
       ask-empty z = record { surveyed = h; known = (lf, ls); empty = z }
 
 -- What an operation makes of two lists is done on their tries, and how large it can be.
-listOf-op : {op : ℕ} (w : ℕ) (t u : Trie) → Operation op → levels t ≤ suc w → levels u ≤ suc w → listOf (opOn op (suc w) t u) ≡ combineL op (listOf t) (listOf u)
+pub listOf-op : {op : ℕ} (w : ℕ) (t u : Trie) → Operation op → levels t ≤ suc w → levels u ≤ suc w → listOf (opOn op (suc w) t u) ≡ combineL op (listOf t) (listOf u)
 listOf-op w t u merging h k = ap listOf (opOn-union (suc w) t u) ∙ listOf-union w t u h k
 listOf-op w t u intersecting h k = ap listOf (opOn-common (suc w) t u) ∙ listOf-common w t u h k
 listOf-op w t u excluding h k = ap listOf (opOn-difference (suc w) t u) ∙ listOf-difference w t u h k
 listOf-op w t u excludingApart h k = ap listOf (opOn-except (suc w) t u) ∙ listOf-except (suc w) t u h k
 
-size-opOn : (op k : ℕ) (t u : Trie) → size (opOn op k t u) ≤ 1 + 2 * (size t + size u)
+pub size-opOn : (op k : ℕ) (t u : Trie) → size (opOn op k t u) ≤ 1 + 2 * (size t + size u)
 size-opOn op k t u = omega (arith, size-op (joined op) (opOf op) k t u, length-body t, length-body u)
 
-few-levels : (f : ℕ) → suc (width f) ≤ 129
+pub few-levels : (f : ℕ) → suc (width f) ≤ 129
 unfolding width
 few-levels f = go (eqb f 4)
   where
@@ -107,34 +106,36 @@ module _ {w : List ℕ} {to first second : ℕ} {v : Survey} (h : Ready w to fir
   abbrev pub state : State
   state = seen (h .surveyed) .0
 
-  here : Seen w state to v
+  pub here : Seen w state to v
   here = seen (h .surveyed) .1
 
-  one : Source w state v first
-  one = source here first (h .known .0)
-
-  two : Source w state v second
-  two = source here second (h .known .1)
-
-  right : firstNo (combineRules to first second state) ≡ 0
+  pub right : firstNo (combineRules to first second state) ≡ 0
   right =
       let n = decode-header w state (here .decoded) .sets in
       all-right to first second state (omega arith) (omega arith) (seen-empty here (h .empty))
 
-  pub ready-reads : {s : Sources} → s ≡ sourcesOf w first second → Reads w s v (trieAt state first) (trieAt state second)
-  ready-reads q =
-      let f = seen-figures here in
-      let l = few-levels (getD w 1 0) in
-      rw q
-      (record {
-        inputs = record { first = one .means; second = two .means; deep-t = one .deep; deep-u = two .deep; turn = omega arith; few = omega arith };
-        whole-t = one .whole;
-        whole-u = two .whole;
-        nodes-t = one .nodes;
-        nodes-u = two .nodes;
-        room = record { low = omega arith; few = omega arith; long = omega arith };
-        levels = l;
-      })
+  -- in the first form
+  module _ (form : getD w 5 0 ≡ 0) where
+    one : Source w state v first
+    one = source here first (h .known .0) (form-first here form)
+
+    two : Source w state v second
+    two = source here second (h .known .1) (form-first here form)
+
+    pub ready-reads : {s : Sources} → s ≡ sourcesOf w first second → Reads w s v (trieAt state first) (trieAt state second)
+    ready-reads q =
+        let f = seen-figures here in
+        let l = few-levels (getD w 1 0) in
+        rw q
+        (record {
+          inputs = record { first = one .means; second = two .means; deep-t = one .deep; deep-u = two .deep; turn = omega arith; few = omega arith };
+          whole-t = one .whole;
+          whole-u = two .whole;
+          nodes-t = one .nodes;
+          nodes-u = two .nodes;
+          room = record { low = omega arith; few = omega arith; long = omega arith };
+          levels = l;
+        })
 
   pub ready-levels : {s : Sources} → s ≡ sourcesOf w first second → width (getD w 1 0) < s .levels
   ready-levels q = rw q (omega arith)
@@ -145,7 +146,7 @@ begun-clear e h = rw e at h
 
 module _ {op : ℕ} {w : List ℕ} {to first second : ℕ} {v : Survey} {s : Sources} {b : Bool} (c : Begun op w to first second v s b) where
   abbrev pub S : State
-  S = state (c .ready)
+  S = state (c .started .ready)
 
   abbrev after : State → List Bits
   after T = combineL op (listAt T first) (listAt T second)
@@ -155,51 +156,52 @@ module _ {op : ℕ} {w : List ℕ} {to first second : ℕ} {v : Survey} {s : Sou
 
   made-list : listOf made ≡ after S
   made-list =
-      let x = one (c .ready) in
-      let y = two (c .ready) in
-      listOf-op (width (getD w 1 0)) (trieAt S first) (trieAt S second) (c .operation) (x .deep) (y .deep) ∙ rw (x .list, y .list)
-
-  made-clear : b ≡ admits (S .family) (setAt S to) (listOf made)
-  made-clear = rw (c .sources) at (c .clear S (trieAt S first) (trieAt S second) (here (c .ready) .decoded) (ready-reads (c .ready) (c .sources)))
+      let x = one (c .started .ready) (c .form) in
+      let y = two (c .started .ready) (c .form) in
+      listOf-op (width (getD w 1 0)) (trieAt S first) (trieAt S second) (c .started .operation) (x .deep) (y .deep) ∙ rw (x .list, y .list)
 
   pub begun-reads : Reads w s v (trieAt S first) (trieAt S second)
-  begun-reads = ready-reads (c .ready) (c .sources)
+  begun-reads = ready-reads (c .started .ready) (c .form) (c .started .sources)
+
+  made-clear : b ≡ admits (S .family) (setAt S to) (listOf made)
+  made-clear = rw (c .started .sources) at (c .clear S (trieAt S first) (trieAt S second) (here (c .started .ready) .decoded) begun-reads)
 
   pub begun-few : (s .nodes ≤ 4194304) × (s .others ≤ 4194304)
-  begun-few = let r = begun-reads in (omega (arith, r .nodes-t, one (c .ready) .few), omega (arith, r .nodes-u, two (c .ready) .few))
+  begun-few = let r = begun-reads in (omega (arith, r .nodes-t, one (c .started .ready) (c .form) .few), omega (arith, r .nodes-u, two (c .started .ready) (c .form) .few))
 
   pub made-size : size made ≡ size (opOn op (s .levels) (trieAt S first) (trieAt S second))
-  made-size = rw (c .sources) refl
+  made-size = rw (c .started .sources) refl
 
   module _ {m : ℕ} (count : m ≡ size made) where
     pub result : Result w S to v (combineRules to first second) after made b m
     result = record {
-      seen = here (c .ready);
-      right = right (c .ready);
+      seen = here (c .started .ready);
+      form = form-first (here (c .started .ready)) (c .form);
+      right = right (c .started .ready);
       list = made-list;
       public = ap (admits (S .family) (setAt S to)) (sym made-list) ∙ sym made-clear;
       size = sym count;
     }
 
     pub result-few : m < 4294967296
-    result-few = omega (arith, count, size-opOn op (suc (width (getD w 1 0))) (trieAt S first) (trieAt S second), one (c .ready) .few, two (c .ready) .few)
+    result-few = omega (arith, count, size-opOn op (suc (width (getD w 1 0))) (trieAt S first) (trieAt S second), one (c .started .ready) (c .form) .few, two (c .started .ready) (c .form) .few)
 
     -- it is granted, and written
     module _ (fits : m ≤ roomOf S to) where
       pub result-writes : ResultFits w op s v m (trieAt S first) (trieAt S second)
       result-writes =
-          let h = here (c .ready) in
+          let h = here (c .started .ready) in
           let f = seen-figures h in
           record {
             reads = begun-reads;
             size = sym made-size ∙ sym count;
-            empty = c .ready .empty;
-            gap = rw (c .sources) (shift-asks h fits refl);
+            empty = c .started .ready .empty;
+            gap = rw (c .started .sources) (shift-trie h (form-first h (c .form)) fits refl);
             few = omega (arith, fits, decode-header w S (h .decoded) .nodes);
           }
 
       pub result-wrote : {y : List ℕ} → y ≡ withResult w op s v m (trieAt S first) (trieAt S second) → y ≡ withTrie w S to v made
-      result-wrote d = behind-first (here (c .ready)) made refl (rw (← count) (rw (c .sources) at d))
+      result-wrote d = behind-first (here (c .started .ready)) (form-first (here (c .started .ready)) (c .form)) made refl (rw (← count) (rw (c .started .sources) at d))
 
   -- it surely fits
   module _ (sure : Sure w op to s v) (clear : b ≡ true) where
@@ -209,7 +211,7 @@ module _ {op : ℕ} {w : List ℕ} {to first second : ℕ} {v : Survey} {s : Sou
     sure-judged : {m : ℕ} → m ≡ size made → Judges w to b m Fits
     sure-judged n = record {
       verdict = λ T l d p e.
-          judge-none (seen-as (c .ready .surveyed) T d) l p e clear (omega (arith, made-most, sure .limit)) refl (omega (arith, made-most, sure .room T d));
+          judge-none (seen-as (c .started .ready .surveyed) T d) l p e clear (omega (arith, made-most, sure .limit)) refl (omega (arith, made-most, sure .room T d));
     }
 
     sure-room : {m : ℕ} (n : m ≡ size made) → m ≤ roomOf S to

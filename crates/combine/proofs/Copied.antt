@@ -18,7 +18,7 @@ use Rattle.nodes.proofs.Has.{has-seg}
 use Rattle.nodes.proofs.Tries.{length-enc}
 use Rattle.trie_emit.specs.Combine.{opOn, Means, nothing, everything, standing}
 use Rattle.trie_emit.proofs.Combine.{opOn-except}
-use Rattle.pool_state.specs.Steps.{behindAt}
+use Rattle.pool_state.specs.Steps.{behindAt, spotBy}
 use Rattle.pool_state.specs.declared.Survey.{Survey}
 use Rattle.combine.specs.Steps.{isCopy, Reads, movedTo, ResultFits, withResult}
 use Rattle.combine.specs.declared.asking.Sources.{Sources}
@@ -55,7 +55,7 @@ module _ {w : List ℕ} {s : Sources} {v : Survey} {t u : Trie} (h : Reads w s v
       rw (e, z) (opOn-except (s .levels) t none ∙ except-none (s .levels) t (h .inputs .deep-t))
 
 -- The words, once the gap is opened.
-module _ {w : List ℕ} {op : ℕ} {s : Sources} {v : Survey} {n : ℕ} {t u : Trie} (h : ResultFits w op s v n t u) {z : List ℕ} (e : z ≡ put w (place (s .base) (v .at + n)) (behindAt w (s .base) v))
+module _ {w : List ℕ} {op : ℕ} {s : Sources} {v : Survey} {n : ℕ} {t u : Trie} (h : ResultFits w op s v n t u) {z : List ℕ} (e : z ≡ put w (spotBy 1 (s .base) (v .at + n)) (behindAt 1 w (s .base) v))
     (c : isCopy op s ≡ true) {i : ℕ} (q : i ≡ movedTo (v .at) n (s .first)) where
   there : Means z (s .base) (v .at) (v .at + n) i t
   there = rw q (means-moved h e (s .first) t (h .reads .inputs .first) (h .reads .whole-t))

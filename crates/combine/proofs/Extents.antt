@@ -6,7 +6,7 @@ use native.Mathlib.Numerals.{add-one}
 use native.Mathlib.Omega.{arith}
 use lib.ListN.{length, getD, take}
 use Rattle.nets.specs.Bits.{Bits}
-use Rattle.pool_state.specs.Kept.{heldL}
+use Rattle.pool_state.specs.Kept.{Form, heldL}
 use Rattle.pool_state.specs.States.{SetState, State, held, used}
 use Rattle.pool_state.specs.Decode.{recordAt, rootAt, sound, decode}
 use Rattle.pool_state.specs.Rules.{noSet, firstNode, surveyOf}
@@ -39,9 +39,9 @@ start-used zero i (x ∷ ss) lt = omega arith
 start-used (suc s) i (x ∷ ss) lt = omega (arith, start-used s (i + held x) ss (omega arith))
 
 -- A root by the list.
-root-none : (i : ℕ) (l : List Bits) → 1 ≤ i → rootAt i l ≡ 0 → heldL l ≡ 0
-root-none i [] le e = heldL-nil
-root-none i (p ∷ l) le e = absurd (omega arith)
+root-none : (F : Form) (i : ℕ) (l : List Bits) → 1 ≤ i → rootAt i l ≡ 0 → heldL F l ≡ 0
+root-none F i [] le e = heldL-nil F
+root-none F i (p ∷ l) le e = absurd (omega arith)
 
 root-some : (i : ℕ) (l : List Bits) → (rootAt i l ≡ 0 → ⊥) → rootAt i l ≡ i
 root-some i [] ne = absurd (ne refl)
@@ -67,7 +67,7 @@ module _ {w : List ℕ} {k : ℕ} {v : Survey} (h : Surveyed w k v) (S : State) 
 
     root-empty : getD w (recordAt s) 0 ≡ 0 → held (setAt S s) ≡ 0
     root-empty z =
-        root-none (its one s lt .at) (listAt S s) (seen-figures its-own .first) (sym (beside-root one s lt) ∙ z)
+        root-none (setAt S s .form) (its one s lt .at) (listAt S s) (seen-figures its-own .first) (sym (beside-root one s lt) ∙ z)
 
     root-begins : (getD w (recordAt s) 0 ≡ 0 → ⊥) → getD w (recordAt s) 0 ≡ 1 + used (take s (S .sets))
     root-begins ne =

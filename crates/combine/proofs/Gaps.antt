@@ -2,7 +2,7 @@
 -- from the gap. Assumes nothing.
 use mathlib.Core.List.{List}
 use mathlib.Core.Path.{_≡_, sym, _∙_}
-use Prim.Native.Nat.{ℕ, _+_, _-_, _≤_, _<_}
+use Prim.Native.Nat.{ℕ, _+_, _-_, _*_, _≤_, _<_}
 use native.Mathlib.Decide.{decLt}
 use native.Mathlib.Omega.{arith}
 use lib.ListN.{length, take, drop, length-drop}
@@ -18,13 +18,13 @@ use Rattle.trie_emit.specs.Combine.{opOn, Here, Means, nothing, everything, sta
 use Rattle.trie_emit.specs.declared.emitting.Emitted.{Emitted}
 use Rattle.trie_emit.specs.declared.emitting.Emitted.the-variants.{Full}
 use Rattle.trie_emit.proofs.Answers.{end-is, full-size, settled}
-use Rattle.pool_state.specs.Steps.{behindAt}
+use Rattle.pool_state.specs.Steps.{behindAt, spotBy}
 use Rattle.pool_state.specs.declared.Survey.{Survey}
 use Rattle.combine.specs.Steps.{movedTo, Whole, ResultFits, Last, withResult}
 use Rattle.combine.specs.declared.asking.Sources.{Sources}
 
 -- a part of m words that move from p to q
-has-moved : {w ys : List ℕ} (p q m d : ℕ) → p + m ≤ length w → q + m ≤ length w → d + length ys ≤ m → Has w (p + d) ys → Has (put w q (take m (drop p w))) (q + d) ys
+pub has-moved : {w ys : List ℕ} (p q m d : ℕ) → p + m ≤ length w → q + m ≤ length w → d + length ys ≤ m → Has w (p + d) ys → Has (put w q (take m (drop p w))) (q + d) ys
 has-moved {w} {ys} p q m d lp lq le h =
     let xs = take m (drop p w) in
     let n : length xs ≡ m = length-take-le m (drop p w) (omega (arith, length-drop p w)) in
@@ -36,14 +36,14 @@ has-moved {w} {ys} p q m d lp lq le h =
           rw a (getD-put-in w q xs (d + k) (omega arith) (omega arith) ∙ getD-take m (drop p w) (d + k) 0 (omega arith) ∙ getD-drop p w (d + k) 0 ∙ rw b (h .at k l));
     }
 
-module _ {w : List ℕ} {op : ℕ} {s : Sources} {v : Survey} {n : ℕ} {t u : Trie} (h : ResultFits w op s v n t u) {z : List ℕ} (e : z ≡ put w (place (s .base) (v .at + n)) (behindAt w (s .base) v)) where
+module _ {w : List ℕ} {op : ℕ} {s : Sources} {v : Survey} {n : ℕ} {t u : Trie} (h : ResultFits w op s v n t u) {z : List ℕ} (e : z ≡ put w (spotBy 1 (s .base) (v .at + n)) (behindAt 1 w (s .base) v)) where
   pub opened-length : length z ≡ length w
-  opened-length = rw e (length-put w (place (s .base) (v .at + n)) (behindAt w (s .base) v))
+  opened-length = rw e (length-put w (spotBy 1 (s .base) (v .at + n)) (behindAt 1 w (s .base) v))
 
   -- a trie before the gap stays, one behind it moves
   here-before : {i : ℕ} (x : Trie) → Here w (s .base) 0 0 i x → i + size x ≤ v .at → Here z (s .base) (v .at) (v .at + n) i x
   here-before x g le = record {
-    has = rw e (has-put (place (s .base) (v .at + n)) (behindAt w (s .base) v) (g .has) (λ k a b c d. omega (arith, length-enc x)));
+    has = rw e (has-put (spotBy 1 (s .base) (v .at + n)) (behindAt 1 w (s .base) v) (g .has) (λ k a b c d. omega (arith, length-enc x)));
     one = g .one;
     few = g .few;
     clear = λ k a b c d. omega arith;
@@ -52,9 +52,9 @@ module _ {w : List ℕ} {op : ℕ} {s : Sources} {v : Survey} {n : ℕ} {t u : T
   here-behind : {i : ℕ} (x : Trie) → Here w (s .base) 0 0 i x → v .at ≤ i → i + size x ≤ v .used + 1 → Here z (s .base) (v .at) (v .at + n) (i + n) x
   unfolding behindAt
   here-behind {i} x g le fit =
-      let p = place (s .base) (v .at + v .held) in
-      let q = place (s .base) (v .at + n) in
-      let m = v .used + 1 - (v .at + v .held) in
+      let p = spotBy 1 (s .base) (v .at + v .held) in
+      let q = spotBy 1 (s .base) (v .at + n) in
+      let m = 1 * (v .used + 1 - (v .at + v .held)) in
       let a : Has w (p + (i - v .at)) (enc x) = has-at (omega arith) (g .has) in
       record {
         has = rw e (has-at (omega arith) (has-moved p q m (i - v .at) (omega arith) (omega arith) (omega (arith, length-enc x)) a));
@@ -63,9 +63,9 @@ module _ {w : List ℕ} {op : ℕ} {s : Sources} {v : Survey} {n : ℕ} {t u : T
         clear = λ k a b c d. omega arith;
       }
 
-  pub means-moved : (i : ℕ) (x : Trie) → Means w (s .base) 0 0 i x → Whole (v .at) (v .used + 1) i x → Means z (s .base) (v .at) (v .at + n) (movedTo (v .at) n i) x
+  pub means-moved : (i : ℕ) (x : Trie) → Means w (s .base) 0 0 i x → Whole (v .at) (v .used + 1) i (size x) → Means z (s .base) (v .at) (v .at + n) (movedTo (v .at) n i) x
   means-moved i x nothing k = rw (lt-ltb 0 (v .at) (omega arith)) nothing
-  means-moved i x everything k = absurd (omega arith)
+  means-moved i x everything k = absurd (omega (arith, k .within, h .reads .room .few))
   means-moved i x (standing {i = j} {l = l} {r = r} g) k = go (decLt j (v .at))
     where
       go : Dec (j < v .at) → Means z (s .base) (v .at) (v .at + n) (movedTo (v .at) n j) (node l r)
@@ -104,13 +104,13 @@ module _ {w : List ℕ} {op : ℕ} {s : Sources} {v : Survey} {t u : Trie} (h : 
   abbrev made : ℕ
   made = size (opOn op (s .levels) t u)
 
-  last-opened : w ≡ put w (place (s .base) (v .at + made)) (behindAt w (s .base) v)
+  last-opened : w ≡ put w (spotBy 1 (s .base) (v .at + made)) (behindAt 1 w (s .base) v)
   unfolding behindAt
   last-opened =
-      let e : v .used + 1 - (v .at + v .held) ≡ 0 = omega (arith, h .last) in
-      rw e (sym (put-nil w (place (s .base) (v .at + made))))
+      let e : 1 * (v .used + 1 - (v .at + v .held)) ≡ 0 = omega (arith, h .last) in
+      rw e (sym (put-nil w (spotBy 1 (s .base) (v .at + made))))
 
-  last-moved : (i : ℕ) (x : Trie) → Means w (s .base) 0 0 i x → Whole (v .at) (v .used + 1) i x → i ≡ movedTo (v .at) made i
+  last-moved : (i : ℕ) (x : Trie) → Means w (s .base) 0 0 i x → Whole (v .at) (v .used + 1) i (size x) → i ≡ movedTo (v .at) made i
   unfolding size
   last-moved i x nothing k = rw (lt-ltb 0 (v .at) (omega (arith, h .writable .gap .first)))
   last-moved i x everything k = absurd (omega (arith, k .within, h .writable .reads .room .few))

@@ -8,13 +8,14 @@
 --   isCopy op s                  the operation leaves its first source as it is
 --   movedTo o n i                the number of node i after n nodes were put in before node o
 --   ResultFits, withResult            what writing the result asks, and the words that it leaves
---   Begun, Sure, Last            a combination that goes on; its result surely fits, and goes behind all nodes
+--   Started, Begun, Sure, Last   a combination that goes on; its result surely fits, and goes behind all nodes
+--   KeptReads, KeptAdmits, KeptFits, withKept     the same in the second form
 use mathlib.Core.Bool.{Bool, cond, _&&_}
-use mathlib.Core.List.{List}
+use mathlib.Core.List.{List, []}
 use mathlib.Core.Path.{_≡_}
 use Prim.Native.Nat.{ℕ, zero, suc, _+_, _*_, _≤_, _<_}
 use lib.Dec.{eqb, ltb}
-use lib.ListN.{getD}
+use lib.ListN.{length, getD}
 use Rattle.nets.specs.Bits.{Bits}
 use Rattle.nets.specs.Lists.{mergeL, intersectL, differenceL, excludeL}
 use Rattle.nets.specs.Tries.{Trie, size, listOf}
@@ -23,11 +24,14 @@ use Rattle.nets.specs.Refusals.{number}
 use Rattle.nodes.specs.Words.{put, place, enc}
 use Rattle.nodes.specs.Parse.{Room}
 use Rattle.trie_emit.specs.Combine.{opOn, Inputs}
+use Rattle.branch_points.specs.KeptTries.{keptSize}
+use Rattle.kept_nodes.specs.Words.{stride, spot, keptEnc}
+use Rattle.kept_emit.specs.Combine.{Inputs as KeptInputs}
 use Rattle.pool_state.specs.States.{State, roomOf, admits}
 use Rattle.pool_state.specs.Decode.{recordAt, base, sound, decode}
 use Rattle.pool_state.specs.Rules.{limitIn, surveyOf}
 use Rattle.pool_state.specs.Changes.{setAt, Relisted}
-use Rattle.pool_state.specs.Steps.{Surveyed, behindAt, Shiftable}
+use Rattle.pool_state.specs.Steps.{Surveyed, behindAt, Shiftable, spotBy, strideIn}
 use Rattle.pool_state.specs.declared.Survey.{Survey}
 use Rattle.combine.specs.Rules.{combineRules}
 use Rattle.combine.specs.declared.asking.Destination.{Destination}
@@ -70,23 +74,27 @@ sourcesOf w first second =
 abbrev pub movedTo : ℕ → ℕ → ℕ → ℕ
 movedTo o n i = cond (ltb i o) i (i + n)
 
--- the nodes of the trie t at node i lie all before node o or all behind it, and before node e
-pub record Whole (o e i : ℕ) (t : Trie) : Type 0 where
-  pub before : i < o → i + size t ≤ o
-  pub within : i + size t ≤ e
+-- the n nodes from node i on lie all before node o or all behind it, and before node e
+pub record Whole (o e i n : ℕ) : Type 0 where
+  pub before : i < o → i + n ≤ o
+  pub within : i + n ≤ e
 
 -- the sources are the tries t and u, which stand in the nodes in use
 pub record Reads (w : List ℕ) (s : Sources) (v : Survey) (t u : Trie) : Type 0 where
   pub inputs : Inputs w (s .base) (s .first) (s .second) 0 0 (s .levels) t u
-  pub whole-t : Whole (v .at) (v .used + 1) (s .first) t
-  pub whole-u : Whole (v .at) (v .used + 1) (s .second) u
+  pub whole-t : Whole (v .at) (v .used + 1) (s .first) (size t)
+  pub whole-u : Whole (v .at) (v .used + 1) (s .second) (size u)
   pub nodes-t : s .nodes ≡ size t
   pub nodes-u : s .others ≡ size u
   pub room : Room w (s .base) (v .used)
   pub levels : s .levels ≤ 129
 
+-- R says how the sources are read
+abbrev pub AdmitsBy : (List ℕ → Sources → Survey → Trie → Trie → Type 0) → List ℕ → ℕ → ℕ → Sources → Survey → Bool → Type 0
+AdmitsBy R w op to s v c = (S : State) (t u : Trie) → decode w ≡ sound S → R w s v t u → c ≡ admits (S .family) (setAt S to) (listOf (opOn op (s .levels) t u))
+
 abbrev pub Admits : List ℕ → ℕ → ℕ → Sources → Survey → Bool → Type 0
-Admits w op to s v c = (S : State) (t u : Trie) → decode w ≡ sound S → Reads w s v t u → c ≡ admits (S .family) (setAt S to) (listOf (opOn op (s .levels) t u))
+Admits = AdmitsBy Reads
 
 -- the most nodes that an operation makes of sources of x and y nodes
 abbrev pub mostNodes : ℕ → ℕ → ℕ → ℕ
@@ -101,14 +109,19 @@ pub record ResultFits (w : List ℕ) (op : ℕ) (s : Sources) (v : Survey) (n : 
   pub reads : Reads w s v t u
   pub size : size (opOn op (s .levels) t u) ≡ n
   pub empty : v .held ≡ 0
-  pub gap : Shiftable w (s .base) v n
+  pub gap : Shiftable 1 w (s .base) v n
   pub few : v .used + 1 + n ≤ 1073741824
 
--- a combination that goes on: its sources, and c says whether the destination may have the result as far as its mark goes
-pub record Begun (op : ℕ) (w : List ℕ) (to first second : ℕ) (v : Survey) (s : Sources) (c : Bool) : Type 0 where
+-- a combination that goes on, and its sources
+pub record Started (op : ℕ) (w : List ℕ) (to first second : ℕ) (v : Survey) (s : Sources) : Type 0 where
   pub operation : Operation op
   pub ready : Ready w to first second v
   pub sources : s ≡ sourcesOf w first second
+
+-- in the first form; c says whether the destination may have the result as far as its mark goes
+pub record Begun (op : ℕ) (w : List ℕ) (to first second : ℕ) (v : Survey) (s : Sources) (c : Bool) : Type 0 where
+  pub started : Started op w to first second v s
+  pub form : getD w 5 0 ≡ 0
   pub clear : Admits w op to s v c
 
 -- its result goes behind all nodes and fits, however many of them it has
@@ -123,4 +136,29 @@ pub record Last (w : List ℕ) (op : ℕ) (s : Sources) (v : Survey) (t u : Trie
 
 -- the sets behind the gap moved, and the result in it
 abbrev pub withResult : List ℕ → ℕ → Sources → Survey → ℕ → Trie → Trie → List ℕ
-withResult w op s v n t u = put (put w (place (s .base) (v .at + n)) (behindAt w (s .base) v)) (place (s .base) (v .at)) (enc (opOn op (s .levels) t u))
+withResult w op s v n t u = put (put w (spotBy 1 (s .base) (v .at + n)) (behindAt 1 w (s .base) v)) (place (s .base) (v .at)) (enc (opOn op (s .levels) t u))
+
+-- the second form: the sources are the tries t and u, which stand in the nodes in use
+pub record KeptReads (w : List ℕ) (s : Sources) (v : Survey) (t u : Trie) : Type 0 where
+  pub inputs : KeptInputs (getD w 1 0) w (s .base) (getD w 3 0) (s .first) (s .second) 0 0 [] (s .levels) t u
+  pub whole-t : Whole (v .at) (v .used + 1) (s .first) (keptSize t)
+  pub whole-u : Whole (v .at) (v .used + 1) (s .second) (keptSize u)
+  pub levels : width (getD w 1 0) < s .levels
+  pub family : getD w 1 0 ≤ 6
+  pub long : 64 ≤ length w
+
+abbrev pub KeptAdmits : List ℕ → ℕ → ℕ → Sources → Survey → Bool → Type 0
+KeptAdmits = AdmitsBy KeptReads
+
+pub record KeptFits (w : List ℕ) (op : ℕ) (s : Sources) (v : Survey) (n : ℕ) (t u : Trie) : Type 0 where
+  pub reads : KeptReads w s v t u
+  pub size : keptSize (opOn op (s .levels) t u) ≡ n
+  pub empty : v .held ≡ 0
+  pub gap : Shiftable (strideIn w) w (s .base) v n
+  pub few : v .used + n ≤ getD w 3 0
+  pub stride : strideIn w ≡ stride (getD w 1 0)
+
+abbrev pub withKept : List ℕ → ℕ → Sources → Survey → ℕ → Trie → Trie → List ℕ
+withKept w op s v n t u =
+    put (put w (spotBy (strideIn w) (s .base) (v .at + n)) (behindAt (strideIn w) w (s .base) v)) (spot (getD w 1 0) (s .base) (v .at))
+    (keptEnc (getD w 1 0) [] (opOn op (s .levels) t u))

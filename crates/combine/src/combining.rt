@@ -1,4 +1,5 @@
-// One combination for every operation. Nothing is written before the result is known to fit: it is counted and judged, and then written into a gap of just its nodes; or, where it would go
+// One combination for every operation, in the form of its pool. Nothing is written before the result is known to fit: it is counted and judged, and then written into a gap of just its nodes;
+// or, in the first form, where it would go
 // behind all nodes and fits however many it has, written at once.
 use crate::EXCLUDE;
 use crate::asking::Destination;
@@ -7,6 +8,7 @@ use crate::asking::ask;
 use crate::asking::sources_of;
 use crate::copying::copy;
 use crate::copying::is_copy;
+use crate::kept;
 use pool_change::judging::is_public;
 use pool_change::judging::judge;
 use pool_change::judging::room;
@@ -31,11 +33,11 @@ ghost use Rattle.nets.specs.Tries.{Trie, size};
 ghost use Rattle.trie_emit.specs.Combine.{opOn};
 ghost use Rattle.pool_state.specs.Rules.{answerAs};
 ghost use Rattle.combine.specs.Rules.{Combined};
-ghost use Rattle.combine.specs.Steps.{Operation, combineL, Reads, Admits, Begun, movedTo, mostNodes, Sure, Last, ResultFits, withResult};
+ghost use Rattle.combine.specs.Steps.{Operation, combineL, Reads, Admits, Started, Begun, movedTo, mostNodes, Sure, Last, ResultFits, withResult};
 ghost use Rattle.pool_state.specs.Steps.{Surveyed};
 
 // The number of a node after n nodes were put in before node `at`.
-fn moved(at: usize, n: u32, i: usize) -> usize
+pub fn moved(at: usize, n: u32, i: usize) -> usize
     requires { ⌜ i < 4294967296 ⌝ }
     ensures { λ r. ⌜ r ≡ movedTo at n i ⌝ }
 {
@@ -74,7 +76,7 @@ fn write(pool: &mut [u32], op: usize, s: Sources, v: Survey, n: u32)
     ensures { λ _. ⌜ ((t u : Trie) → ResultFits (now (pool .entry)) op s v n t u → now (pool .exit) ≡ withResult (now (pool .entry)) op s v n t u) ⌝ }
 {
     let at = v.at as usize;
-    shift_behind(pool, s.base, v, n);
+    shift_behind(pool, s.base, 1, v, n);
     let a = moved(at, n, s.first);
     if is_copy(op, s) {
         copy(pool, s.base, a, at, n);
@@ -154,6 +156,18 @@ fn counted(pool: &mut [u32], op: usize, to: u32, s: Sources, v: Survey, clear: b
     }
 }
 
+// A combination in a pool of the first form.
+fn by_nodes(pool: &mut [u32], op: usize, to: u32, s: Sources, v: Survey) -> Answer
+    requires { ⌜ ((first : ℕ) × (second : ℕ) × Started op (now pool) to first second v s) × (getD (now pool) 5 0 ≡ 0) ⌝ }
+    ensures { λ r. ⌜ ((first second : ℕ) → Started op (now (pool .entry)) to first second v s → Combined (combineL op) (now (pool .entry)) to first second (answerAs r) (now (pool .exit))) ⌝ }
+{
+    let clear = is_admitted(pool, op, to, s, v);
+    if surely_fits(pool, op, to, s, v, clear) {
+        return uncounted(pool, op, to, s, v);
+    }
+    counted(pool, op, to, s, v, clear)
+}
+
 // Writes what an operation makes of two sets into an empty one. Answers its nodes.
 pub fn combine(pool: &mut [u32], op: usize, to: u32, first: u32, second: u32) -> Answer
     requires { ⌜ Operation op ⌝ }
@@ -164,11 +178,10 @@ pub fn combine(pool: &mut [u32], op: usize, to: u32, first: u32, second: u32) ->
         Destination::Refused(no) => Answer::Refused(no),
         Destination::Empty(v) => {
             let s = sources_of(pool, first, second, v);
-            let clear = is_admitted(pool, op, to, s, v);
-            if surely_fits(pool, op, to, s, v, clear) {
-                return uncounted(pool, op, to, s, v);
+            if pool[5] == 0 {
+                return by_nodes(pool, op, to, s, v);
             }
-            counted(pool, op, to, s, v, clear)
+            kept::combine(pool, op, to, s, v)
         }
     }
 }

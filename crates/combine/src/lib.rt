@@ -7,6 +7,7 @@ ghost use Rattle.combine.specs.Rules.{Merged, Intersected, Excluded, Exc
 mod asking;
 mod combining;
 mod copying;
+mod kept;
 
 // The operations, by the numbers that emission knows them by.
 const MERGE: usize = 0;

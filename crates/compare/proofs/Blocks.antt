@@ -2,14 +2,16 @@
 use mathlib.Core.Bool.{Bool, true, false, cond}
 use mathlib.Core.List.{List}
 use mathlib.Core.Path.{_≡_, refl, ap, sym, _∙_}
-use Prim.Native.Nat.{ℕ, _+_, _-_, _≤_, _<_}
+use Prim.Native.Nat.{ℕ, _+_, _-_, _*_, _≤_}
+use native.Mathlib.Nat.{mul-add, mul-le-mul-right}
 use native.Mathlib.Decide.{ℕ-discrete}
 use native.Mathlib.Omega.{arith}
 use lib.Dec.{eqb, ltb}
-use lib.ListN.{getD}
+use lib.ListN.{length, getD}
 use borrow.Author.Count.{below-more}
 use borrow.Author.Tests.{eq-eqb, ne-eqb, ltb-true, ltb-false}
-use Rattle.compare.specs.Rules.{Agree}
+use Rattle.pool_state.specs.Steps.{spotBy}
+use Rattle.compare.specs.Rules.{Agree, Nodes}
 
 pub few : (t : Bool) {c : ℕ} → c ≡ cond t 0 1 → c ≤ 1
 few true e = omega arith
@@ -51,3 +53,17 @@ module _ (w : List ℕ) (p q : ℕ) where
   pub whole : (k n : ℕ) → k ≤ n → Agree w p q k true → (t : Bool) → Agree w (p + k) (q + k) (n - k) t → Agree w p q n t
   whole k n le f true g = let e : k + (n - k) ≡ n = omega arith in rw e at (joined k (n - k) f g)
   whole k n le f false g = apart k (n - k) n (omega arith) g
+
+-- The words of n nodes from node i on, of s words each, are there where eight for each are, and they are few.
+pub nodes-fit : (b i n : ℕ) {s m : ℕ} → s ≤ 8 → b + 8 * (i - 1 + n) ≤ m → spotBy s b i + s * n ≤ m
+nodes-fit b i n {s} c le = omega (arith, mul-add s (i - 1) n, mul-le-mul-right (i - 1 + n) c)
+
+pub nodes-few : (i n : ℕ) {s : ℕ} → s ≤ 8 → i - 1 + n ≤ 4194304 → s * (i - 1) + s * n ≤ 33554432
+nodes-few i n {s} c le = omega (arith, mul-add s (i - 1) n, mul-le-mul-right (i - 1 + n) c)
+
+module _ {w : List ℕ} {b s i j n : ℕ} (h : Nodes w b s i j n) where
+  pub nodes-first : (spotBy s b i + s * n ≤ length w) × (s * (i - 1) + s * n ≤ 33554432)
+  nodes-first = (nodes-fit b i n (h .few) (h .fits), nodes-few i n (h .few) (h .small))
+
+  pub nodes-other : (spotBy s b j + s * n ≤ length w) × (s * (j - 1) + s * n ≤ 33554432)
+  nodes-other = (nodes-fit b j n (h .few) (h .within), nodes-few j n (h .few) (h .little))

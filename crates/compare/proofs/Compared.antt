@@ -3,29 +3,29 @@
 use mathlib.Core.Bool.{Bool, true, false, false≢true}
 use mathlib.Core.List.{List, [], _∷_}
 use mathlib.Core.Path.{_≡_, refl, sym, ap, _∙_}
-use Prim.Native.Nat.{ℕ, _+_, _≤_, _<_}
+use Prim.Native.Nat.{ℕ, _+_, _-_, _*_, _≤_, _<_}
 use native.Mathlib.Omega.{arith}
 use lib.Dec.{eqb}
 use lib.ListN.{length, getD}
 use borrow.Author.Tests.{le-leb, lt-leb, eq-eqb, ne-eqb}
 use Rattle.nets.specs.Bits.{Bits, equal}
 use Rattle.nets.proofs.Strings.{and-left, and-right, equal-refl, equal-is}
-use Rattle.nets.specs.Networks.{width}
-use Rattle.nodes.specs.Words.{Has, place}
+use Rattle.nodes.specs.Words.{Has}
 use Rattle.nodes.specs.declared.seats.Seat.{Seat}
-use Rattle.pool_state.specs.Kept.{encL}
+use Rattle.pool_state.specs.Kept.{heldL, spotL}
 use Rattle.pool_state.specs.States.{State}
-use Rattle.pool_state.specs.Decode.{recordAt, base, rootAt, decode}
+use Rattle.pool_state.specs.Decode.{recordAt, base, rootAt, formIn, decode}
 use Rattle.pool_state.specs.Rules.{answerOn, unknown, firstNode, seatOf}
 use Rattle.pool_state.specs.Changes.{listAt}
-use Rattle.pool_state.specs.Steps.{Refuses, Surveyed}
+use Rattle.pool_state.specs.Steps.{Refuses, Surveyed, spotBy, strideIn}
 use Rattle.pool_state.specs.declared.Survey.{Survey}
 use Rattle.pool_state.proofs.Answered.{owes-seat}
-use Rattle.pool_state.proofs.Kept.{encL-one}
+use Rattle.pool_state.proofs.Kept.{encL-one, strideL-few}
 use Rattle.pool_state.proofs.Claims.{isList-listAt}
 use Rattle.pool_state.proofs.Decoded.{decode-header, decode-root}
-use Rattle.pool_state.proofs.Seen.{Seen, seen, seen-state, seen-figures, own-has, own-length, seen-empty, seen-some}
-use Rattle.compare.specs.Rules.{sameList, equalRule, Agree}
+use Rattle.pool_state.proofs.Seen.{Seen, wordsL, strideIn-is, seen, seen-state, seen-figures, own-has, own-held, own-length, seen-empty, seen-some}
+use Rattle.compare.specs.Rules.{sameList, equalRule, Agree, Nodes}
+use Rattle.compare.proofs.Blocks.{nodes-other}
 use Rattle.pool_state.proofs.Beside.{its, beside-seen, beside-root}
 use Rattle.pool_state.proofs.Holds.{cons-some}
 
@@ -92,22 +92,16 @@ module _ {w : List ℕ} {first second : ℕ} {v : Survey} (h : Surveyed w first 
   abbrev b : ℕ
   b = base (getD w 2 0)
 
+  abbrev s : ℕ
+  s = strideIn w
+
   -- c tells whether so many words from the second's root on are the first's
   abbrev Agreed : Bool → Type 0
-  Agreed c = Agree w (place b (v .at)) (place b (getD w (recordAt second) 0)) (v .held) c
+  Agreed c = Agree w (spotBy s b (v .at)) (spotBy s b (getD w (recordAt second) 0)) (s * v .held) c
 
   told : (c : Bool) → sameList (listAt state first) (listAt state second) ≡ c → (0, c) ≡ equalRule (decode w) first second
   unfolding equalRule answerOn
   told c e = rw (one .decoded, lt-leb (length (state .sets)) first (one .known), lt-leb (length (state .sets)) second (other .known), e)
-
-  places : (place b (v .at) + v .held ≤ length w) × (place b (getD w (recordAt second) 0) + v .held ≤ length w)
-  places =
-      let f = seen-figures one in
-      let g = seen-figures other in
-      (omega arith, omega (arith, beside-root one second lt, root-le (found .at) (listAt state second)))
-
-  pub equal-places : {s : Seat} → s ≡ seatOf w v → (place (s .base) (s .first) + v .held ≤ length w) × (place (s .base) (getD w (recordAt second) 0) + v .held ≤ length w)
-  equal-places e = rw e places
 
   root-tells : eqb (getD w (recordAt second) 0) 0 ≡ sameList [] (listAt state second)
   root-tells =
@@ -132,28 +126,64 @@ module _ {w : List ℕ} {first second : ℕ} {v : Survey} (h : Surveyed w first 
           let x = root-some (found .at) (listAt state second) (λ e. root (r ∙ e)) in
           (x .0, r ∙ x .1)
 
-      -- the words agree
-      first-there : Agreed true → Has w (place b (found .at)) (encL (listAt state first))
-      first-there f =
-          let x = seen-figures one in
-          let y = seen-figures other in
-          let g = rw (there .1) at f in
-          record {
-            fits = omega (arith, own-length one);
-            at = λ k l. sym (g k (omega (arith, own-length one))) ∙ own-has one .at k l;
-          }
+      -- sets of one list have as many nodes
+      pub equal-short : v .used < getD w (recordAt second) 0 - 1 + v .held → (0, false) ≡ equalRule (decode w) first second
+      equal-short l =
+          told false (sameList-not (listAt state first) (listAt state second) (λ e.
+          let n : found .held ≡ v .held = own-held other ∙ ap (heldL (state .form)) (sym e) ∙ sym (own-held one) in
+          absurd (omega (arith, there .1, seen-figures other .last, seen-figures other .first, one .used, other .used))))
 
-      one-list : Agreed true → listAt state first ≡ listAt state second
-      one-list f =
-          let d = width (state .family) in
-          encL-one d d (isList-listAt state first (seen-state one)) (isList-listAt state second (seen-state one)) (seen-some one some) (there .0) (first-there f) (own-has other)
+      -- where the words of each stand, and how many the first's are
+      first-has : Has w (spotBy s b (v .at)) (wordsL state (listAt state first))
+      unfolding spotL strideIn
+      first-has = own-has one
 
-      tells : (c : Bool) → Agreed c → (0, c) ≡ equalRule (decode w) first second
-      tells true f = told true (rw (one-list f) (sameList-refl (listAt state second)))
-      tells false (k, l, ne) =
-          told false (sameList-not (listAt state first) (listAt state second) (λ e. ne (own-has one .at k (omega (arith, own-length one)) ∙ ap (λ m. getD (encL m) k 0) e
-          ∙ rw (there .1) (sym (own-has other .at k (omega (arith, own-length one, ap (λ m. length (encL m)) e)))))))
+      second-has : Has w (spotBy s b (found .at)) (wordsL state (listAt state second))
+      unfolding spotL strideIn
+      second-has = own-has other
 
-      pub equal-words : {s : Seat} → s ≡ seatOf w v → (c : Bool) → Agree w (place (s .base) (s .first)) (place (s .base) (getD w (recordAt second) 0)) (v .held) c
-          → (0, c) ≡ equalRule (decode w) first second
-      equal-words e c f = tells c (rw e at f)
+      first-length : length (wordsL state (listAt state first)) ≡ s * v .held
+      first-length = own-length one ∙ ap (λ r. r * v .held) (sym (strideIn-is one))
+
+      module _ (within : getD w (recordAt second) 0 - 1 + v .held ≤ v .used) where
+        asks : Nodes w b s (v .at) (getD w (recordAt second) 0) (v .held)
+        unfolding strideIn
+        asks =
+            let f = seen-figures one in
+            record {
+              few = strideL-few (formIn w) (getD w 1 0);
+              low = omega arith;
+              one = omega arith;
+              other = omega arith;
+              small = omega arith;
+              little = omega arith;
+              fits = omega arith;
+              within = omega arith;
+            }
+
+        pub equal-asks : {a : Seat} {r : ℕ} → a ≡ seatOf w v → r ≡ s → Nodes w (a .base) r (a .first) (getD w (recordAt second) 0) (v .held)
+        equal-asks e q = rw (e, q) asks
+
+        -- the words agree
+        first-there : Agreed true → Has w (spotBy s b (found .at)) (wordsL state (listAt state first))
+        first-there f =
+            let g = rw (there .1) at f in
+            record {
+              fits = rw (first-length, ← there .1) (nodes-other asks .0);
+              at = λ k l. sym (g k (omega (arith, first-length))) ∙ first-has .at k l;
+            }
+
+        one-list : Agreed true → listAt state first ≡ listAt state second
+        one-list f =
+            encL-one (state .form) (state .family) (isList-listAt state first (seen-state one)) (isList-listAt state second (seen-state one)) (seen-some one some) (there .0) (first-there f)
+            second-has
+
+        tells : (c : Bool) → Agreed c → (0, c) ≡ equalRule (decode w) first second
+        tells true f = told true (rw (one-list f) (sameList-refl (listAt state second)))
+        tells false (k, l, ne) =
+            told false (sameList-not (listAt state first) (listAt state second) (λ e. ne (first-has .at k (omega (arith, first-length)) ∙ ap (λ m. getD (wordsL state m) k 0) e
+            ∙ rw (there .1) (sym (second-has .at k (omega (arith, first-length, ap (λ m. length (wordsL state m)) e)))))))
+
+        pub equal-words : {a : Seat} {r : ℕ} → a ≡ seatOf w v → r ≡ s → (c : Bool)
+            → Agree w (spotBy r (a .base) (a .first)) (spotBy r (a .base) (getD w (recordAt second) 0)) (r * v .held) c → (0, c) ≡ equalRule (decode w) first second
+        equal-words e q c f = tells c (rw (e, q) at f)

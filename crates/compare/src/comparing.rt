@@ -2,9 +2,10 @@
 ghost use lib.Dec.{eqb};
 ghost use mathlib.Core.Bool.{cond};
 ghost use mathlib.Core.Path.{_≡_};
-ghost use Prim.Native.Nat.{_+_, _≤_};
+ghost use Prim.Native.Nat.{_+_, _*_, _≤_};
 ghost use lib.ListN.{length};
-ghost use Rattle.compare.specs.Rules.{Agree};
+ghost use Rattle.compare.specs.Rules.{Agree, Nodes};
+ghost use Rattle.pool_state.specs.Steps.{spotBy};
 
 // How many words are compared before it is asked whether one differed.
 const BLOCK: usize = 64;
@@ -33,7 +34,7 @@ fn others(w: &[u32], p: usize, q: usize, n: usize) -> u32
 }
 
 // Whether the n words from place p on are those from place q on.
-pub fn same_words(w: &[u32], p: usize, q: usize, n: usize) -> bool
+fn same_words(w: &[u32], p: usize, q: usize, n: usize) -> bool
     requires { ⌜ (p + n ≤ length (now w)) × (q + n ≤ length (now w)) ⌝ }
     ensures { λ r. ⌜ Agree (now (w .entry)) p q n r ⌝ }
 {
@@ -45,4 +46,12 @@ pub fn same_words(w: &[u32], p: usize, q: usize, n: usize) -> bool
         k += BLOCK;
     }
     others(w, p + k, q + k, n - k) == 0
+}
+
+// Whether the n nodes from node i on, of s words each, are those from node j on. The nodes begin at b.
+pub fn same_nodes(w: &[u32], b: usize, s: usize, i: usize, j: usize, n: usize) -> bool
+    requires { ⌜ Nodes (now w) b s i j n ⌝ }
+    ensures { λ r. ⌜ Agree (now (w .entry)) (spotBy s b i) (spotBy s b j) (s * n) r ⌝ }
+{
+    same_words(w, b + s * (i - 1), b + s * (j - 1), s * n)
 }

@@ -1,9 +1,10 @@
 // Comparing two sets of a pool.
-use comparing::same_words;
+use comparing::same_nodes;
 use nets::Refusal;
 use pool_check::HEAD;
 use pool_check::RECORD;
 use pool_check::seats::seat_of;
+use pool_check::stride_of;
 use pool_state::Seated;
 use pool_state::Told;
 ghost use mathlib.Core.Path.{_≡_};
@@ -13,7 +14,8 @@ ghost use Rattle.pool_state.specs.Rules.{toldAs};
 
 mod comparing;
 
-// Whether two sets have the same list. No trie's words begin another's, so the second set has the first's exactly if so many words are the same.
+// Whether two sets have the same list. No list's words begin another's, so the second set has the first's exactly if so many words are the same; it has another where fewer nodes are in use
+// from its root on.
 pub fn equal(pool: &[u32], first: u32, second: u32) -> Told
     ensures { λ r. ⌜ toldAs r ≡ equalRule (decode (now (pool .entry))) first second ⌝ }
 {
@@ -32,8 +34,11 @@ pub fn equal(pool: &[u32], first: u32, second: u32) -> Told
             if root == 0 {
                 return Told::Is(false);
             }
-            let p = seat.base + (seat.first - 1);
-            Told::Is(same_words(pool, p, seat.base + (root - 1), n))
+            if (found.used as usize) < root - 1 + n {
+                return Told::Is(false);
+            }
+            let s = stride_of(pool);
+            Told::Is(same_nodes(pool, seat.base, s, seat.first, root, n))
         }
     }
 }

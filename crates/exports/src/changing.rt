@@ -25,9 +25,9 @@ pub extern "C" fn marlbrace_layout(
     shares: &[u32],
     limits: &[u32],
 ) -> u64
-    ensures { λ r. ⌜ Tells (Laid (now (pool .entry)) (setup family sets nodes (now (shares .entry)) (now (limits .entry)) 0)) oneReply r (now (pool .exit)) ⌝ }
+    ensures { λ r. ⌜ Tells (Laid (now (pool .entry)) (setup family 0 sets nodes (now (shares .entry)) (now (limits .entry)) 0)) oneReply r (now (pool .exit)) ⌝ }
 {
-    packed(of_answer(pool::layout(pool, family, sets, nodes, shares, limits, 0)))
+    packed(of_answer(pool::layout(pool, family, 0, sets, nodes, shares, limits, 0)))
 }
 
 // The same, with an index by the first eight bits for each set s whose bit s is set in `indexed`.
@@ -41,9 +41,9 @@ pub extern "C" fn marlbrace_layout_indexed(
     limits: &[u32],
     indexed: u64,
 ) -> u64
-    ensures { λ r. ⌜ Tells (Laid (now (pool .entry)) (setup family sets nodes (now (shares .entry)) (now (limits .entry)) indexed)) oneReply r (now (pool .exit)) ⌝ }
+    ensures { λ r. ⌜ Tells (Laid (now (pool .entry)) (setup family 0 sets nodes (now (shares .entry)) (now (limits .entry)) indexed)) oneReply r (now (pool .exit)) ⌝ }
 {
-    packed(of_answer(pool::layout(pool, family, sets, nodes, shares, limits, indexed)))
+    packed(of_answer(pool::layout(pool, family, 0, sets, nodes, shares, limits, indexed)))
 }
 
 // Adds a network to a set.

@@ -24,7 +24,7 @@ use Rattle.pool_state.proofs.WithSet.{SamePlan}
 use Rattle.replan.proofs.Outcomes.{mayPlan, replan-exactly}
 use Rattle.histories.specs.Calls.{Relist, Call, add, relist, replan, makePublic, writes, target, argsNo, resultOf, callNo, answerOf, stateAfter, Outcome}
 use Rattle.histories.specs.Histories.{stateFrom, answersFrom, History, begin, step}
-use Rattle.histories.proofs.Step.{callNo-share, callNo-room, stateAfter-plan, stateAfter-lists, stateAfter-marked, outcome-answer, stateAfter-numbers, stateAfter-least, stateAfter-other, outcome-decode, outcome-past}
+use Rattle.histories.proofs.Step.{callNo-share, callNo-room, stateAfter-plan, stateAfter-lists, stateAfter-marked, outcome-answer, stateAfter-numbers, stateAfter-least, stateAfter-other, outcome-decode, outcome-past, stateAfter-form}
 
 -- One call from any words.
 
@@ -46,6 +46,11 @@ history-determined (step {c = c} h o) (step g q) =
     (rw (e, x), y)
 
 -- The state of a history.
+pub stateFrom-form : (S : State) (cs : List Call) → stateFrom S cs .form ≡ S .form
+unfolding stateFrom
+stateFrom-form S [] = refl
+stateFrom-form S (c ∷ cs) = stateAfter-form (stateFrom S cs) c ∙ stateFrom-form S cs
+
 pub stateFrom-numbers : (S : State) (cs : List Call)
     → (stateFrom S cs .family ≡ S .family) × (stateFrom S cs .nodes ≡ S .nodes) × (length (stateFrom S cs .sets) ≡ length (S .sets))
 unfolding stateFrom
@@ -110,15 +115,15 @@ module _ {w : List ℕ} {S : State} (d : decode w ≡ sound S) where
     -- One that relists, by the share and the limit in force.
     module _ {u : List ℕ} {r : ℕ × ℕ} (c : Relist) (o : Outcome v (relist c) r u) where
       -- "the sum over all sets of the larger of share and nodes is at most the pool's": so a result within the share is never refused for room.
-      pub share-granted : heldL (resultOf c (stateFrom S cs)) ≤ setAt (stateFrom S cs) (writes c) .share → r .0 ≡ 10 → ⊥
+      pub share-granted : heldL (setAt (stateFrom S cs) (writes c) .form) (resultOf c (stateFrom S cs)) ≤ setAt (stateFrom S cs) (writes c) .share → r .0 ≡ 10 → ⊥
       share-granted le e = callNo-share (stateFrom S cs) c history-state le (sym (number-is (relist c) o) ∙ e)
 
       -- "Room for a set is the pool's nodes less, for every other set, the larger of its share and the nodes of its list. A changing call is judged by the nodes of its result alone".
       pub room-exact : writes c < length (stateFrom S cs .sets) → argsNo c (stateFrom S cs) ≡ 0
           → admits (stateFrom S cs .family) (setAt (stateFrom S cs) (writes c)) (resultOf c (stateFrom S cs)) ≡ true
-          → heldL (resultOf c (stateFrom S cs)) ≤ setAt (stateFrom S cs) (writes c) .limit
-          → (heldL (resultOf c (stateFrom S cs)) ≤ roomOf (stateFrom S cs) (writes c) → r .0 ≡ 0)
-          × (roomOf (stateFrom S cs) (writes c) < heldL (resultOf c (stateFrom S cs)) → r .0 ≡ 10)
+          → heldL (setAt (stateFrom S cs) (writes c) .form) (resultOf c (stateFrom S cs)) ≤ setAt (stateFrom S cs) (writes c) .limit
+          → (heldL (setAt (stateFrom S cs) (writes c) .form) (resultOf c (stateFrom S cs)) ≤ roomOf (stateFrom S cs) (writes c) → r .0 ≡ 0)
+          × (roomOf (stateFrom S cs) (writes c) < heldL (setAt (stateFrom S cs) (writes c) .form) (resultOf c (stateFrom S cs)) → r .0 ≡ 10)
       room-exact lt a m le =
           let e = number-is (relist c) o ∙ callNo-room (stateFrom S cs) c lt a m le in
           (λ k. rw (le-ltb _ _ k) at e, λ k. rw (lt-ltb _ _ k) at e)
@@ -155,7 +160,7 @@ module _ (S : State) (cs : List Call) where
 -- "IPv6 pool, 100 nodes, shares 40 and 30, limits 60 and 80, both sets empty. On set 1, adding a /59 (60 nodes) is granted; a /60 or /79 instead gets 10, a /80 gets 9. With the
 -- /59 there, set 0 may add a /39; a /40 gets 10."
 abbrev pool100 : State
-pool100 = emptyState (setup 6 2 100 (40 ∷ 30 ∷ []) (60 ∷ 80 ∷ []) 0)
+pool100 = emptyState (setup 6 0 2 100 (40 ∷ 30 ∷ []) (60 ∷ 80 ∷ []) 0)
 
 abbrev net : ℕ → Net
 net n = record { family = 6; hi = 0; lo = 0; len = n }

@@ -37,15 +37,15 @@ index-right {S = S} d {cs} {v = v} h k lt e =
     let g = ap (λ c. cond c (indexL (listAt T k)) []) (index-stays S cs k ∙ e) in
     rw (zero-add (indexedOf (take k (T .sets))), g) at i
 
--- "Answers equal those without the index on every sound pool": they are the same wherever two sound pools agree on the family, on whether there is the set, and on its list.
-module _ (w v : List ℕ) {S T : State} (d : decode w ≡ sound S) (e : decode v ≡ sound T) (k : ℕ) (family : S .family ≡ T .family)
+-- "Answers equal those without the index on every sound pool": they are the same wherever two sound pools agree on the family, on the form, on whether there is the set, and on its list.
+module _ (w v : List ℕ) {S T : State} (d : decode w ≡ sound S) (e : decode v ≡ sound T) (k : ℕ) (family : S .family ≡ T .family) (form : S .form ≡ T .form)
     (known : leb (length (S .sets)) k ≡ leb (length (T .sets)) k) (list : listAt S k ≡ listAt T k) where
   net-rules : (n : Net) → netRules n S ≡ netRules n T
   unfolding netRules
   net-rules n = rw family
 
   pub index-unseen : (n : Net) → supernetRule w k n ≡ supernetRule v k n
-  index-unseen n = rw (supernetRule-sound w S d k n, supernetRule-sound v T e k n, known, net-rules n, family, list)
+  index-unseen n = rw (supernetRule-sound w S d k n, supernetRule-sound v T e k n, known, net-rules n, family, form, list)
 
   pub index-unheard : (n : Net) → containsRule w k n ≡ containsRule v k n
-  index-unheard n = rw (containsRule-sound w S d k n, containsRule-sound v T e k n, known, net-rules n, list)
+  index-unheard n = rw (containsRule-sound w S d k n, containsRule-sound v T e k n, known, net-rules n, form, list)

@@ -87,7 +87,7 @@ history-merge-order {S = S} {T = T} {cs} {ds} {a = a} {b = b} {c = c} {d = d} ks
 -- 10.0.0.0/8, 11.0.0.0/8 and 8.0.0.0/7 in sets 0, 1 and 2, merged through set 3 into set 4, and in another order through set 4 into set 3: 8.0.0.0/6 both
 -- times. The other order through set 3, whose limit is 8, has a step refused.
 abbrev pool5 : State
-pool5 = emptyState (setup 4 5 100 (8 ∷ 8 ∷ 8 ∷ 8 ∷ 8 ∷ []) (40 ∷ 40 ∷ 40 ∷ 8 ∷ 40 ∷ []) 0)
+pool5 = emptyState (setup 4 0 5 100 (8 ∷ 8 ∷ 8 ∷ 8 ∷ 8 ∷ []) (40 ∷ 40 ∷ 40 ∷ 8 ∷ 40 ∷ []) 0)
 
 abbrev net : ℕ → ℕ → Net
 net a n = record { family = 4; hi = 0; lo = a * 2 ^ 24; len = n }

@@ -63,7 +63,7 @@ module _ {w : List ℕ} {S : State} (d : decode w ≡ sound S) where
         let l = resultOf c T in
         let n : r .0 ≡ callNo T (relist c) = ap (λ x. x .0) (history-answer d h (relist c) o) in
         let e = n ∙ callNo-granting T c lt a in
-        let (x, y) = granting-14 (admits (T .family) (setAt T (writes c)) l) (ltb (setAt T (writes c) .limit) (heldL l)) (ltb (roomOf T (writes c)) (heldL l)) in
+        let (x, y) = granting-14 (admits (T .family) (setAt T (writes c)) l) (ltb (setAt T (writes c) .limit) (heldL (setAt T (writes c) .form) l)) (ltb (roomOf T (writes c)) (heldL (setAt T (writes c) .form) l)) in
         (λ q. e ∙ x q, λ q. y (sym e ∙ q))
 
     -- removing and simplifying never get it: what is left is clear as the set was
@@ -93,7 +93,7 @@ public-for-good {S = S} {cs} {ds} k d h o f =
 -- One pool of 30 nodes, three sets, the limits 40, 40 and 8. Set 0 has 10.0.0.0/16, 17 nodes, which leaves 13. Into set 2, once it is public-only and has 12.0.0.0/6, a merge
 -- of set 0 gets 8; while it is empty 14, though the result is above its limit and its room too; were it not public-only 9, and with another limit 10.
 abbrev pool3 : State
-pool3 = emptyState (setup 4 3 30 (0 ∷ 0 ∷ 0 ∷ []) (40 ∷ 40 ∷ 8 ∷ []) 0)
+pool3 = emptyState (setup 4 0 3 30 (0 ∷ 0 ∷ 0 ∷ []) (40 ∷ 40 ∷ 8 ∷ []) 0)
 
 abbrev net : ℕ → ℕ → Net
 net a n = record { family = 4; hi = 0; lo = a * 2 ^ 24; len = n }
@@ -113,7 +113,7 @@ worked-order = (refl, refl, refl, refl, refl)
 -- 8.0.0.0/5 with and without the inner 10.0.0.0/8, into a public-only set: the result counts, not the arguments. Both merged, and what they have in common, get 14; the difference, which
 -- takes just the inner part away, is granted, joined and apart.
 abbrev pool4 : State
-pool4 = emptyState (setup 4 3 90 (0 ∷ 0 ∷ 0 ∷ []) (40 ∷ 40 ∷ 40 ∷ []) 0)
+pool4 = emptyState (setup 4 0 3 90 (0 ∷ 0 ∷ 0 ∷ []) (40 ∷ 40 ∷ 40 ∷ []) 0)
 
 abbrev both : List Call
 both = makePublic 2 ∷ adds 1 10 8 ∷ adds 0 8 5 ∷ []

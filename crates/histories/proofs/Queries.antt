@@ -7,7 +7,7 @@ use Prim.Native.Nat.{ℕ, zero, suc, _+_, _/_}
 use lib.Dec.{eqb, leb, ltb}
 use lib.ListN.{length}
 use borrow.Author.Tests.{leb-true, leb-false, le-ltb, lt-ltb}
-use Rattle.nets.specs.Lists.{containsL, stepsL}
+use Rattle.nets.specs.Lists.{containsL}
 use Rattle.nets.specs.Networks.{netBits, hasBitPast}
 use Rattle.nets.specs.Refusals.{answered, Rule, firstNo}
 use Rattle.nets.specs.declared.Net.{Net}
@@ -19,7 +19,7 @@ use Rattle.pool_state.specs.Decode.{sound, decode}
 use Rattle.pool_state.specs.Rules.{unknown, short}
 use Rattle.pool_state.specs.Changes.{listAt}
 use Rattle.pool_state.proofs.Decoded.{decode-header}
-use Rattle.lookup.specs.Rules.{onRoot, Held, containsRule, lookupNo, unheld}
+use Rattle.lookup.specs.Rules.{onRoot, Held, containsRule, lookupNo, unheld, stepsOf}
 use Rattle.lookup_many.specs.Rules.{queryAt, inOne, answersOf, allNo, answersAfter}
 use Rattle.histories.specs.Calls.{Call}
 use Rattle.histories.specs.Histories.{stateFrom, History, callsOn, AllAlone, SameAt}
@@ -55,7 +55,7 @@ allNo-sound w S d k f qs n =
 
 -- what contains answers, query by query
 abbrev heldIn : State → ℕ → Net → ℕ × Held
-heldIn S k n = let l = listAt S k in answered (lookupNo S k n) unheld (containsL l (netBits n), (stepsL l (netBits n), hasBitPast n))
+heldIn S k n = let l = listAt S k in answered (lookupNo S k n) unheld (containsL l (netBits n), (stepsOf (S .form) l (netBits n), hasBitPast n))
 
 fill-same : (g h : ℕ → ℕ) → ((i : ℕ) → g i ≡ h i) → (m i : ℕ) → fill g i m ≡ fill h i m
 unfolding fill

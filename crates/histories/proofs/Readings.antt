@@ -7,7 +7,7 @@ use Prim.Native.Nat.{ℕ}
 use lib.Dec.{eqb}
 use lib.ListN.{length}
 use Rattle.nets.specs.Bits.{Bits}
-use Rattle.nets.specs.Lists.{Found, supernetL, containsL, stepsL, nextL}
+use Rattle.nets.specs.Lists.{Found, supernetL, containsL, nextL}
 use Rattle.nets.specs.Networks.{netBits, hasBitPast}
 use Rattle.nets.specs.Refusals.{answered, Rule, firstNo}
 use Rattle.nets.specs.declared.Net.{Net}
@@ -16,7 +16,7 @@ use Rattle.pool_state.specs.States.{State, held}
 use Rattle.pool_state.specs.Decode.{sound, decode}
 use Rattle.pool_state.specs.Rules.{answerOn, leftOn, unknown, heldRule, planRule}
 use Rattle.pool_state.specs.Changes.{setAt, listAt}
-use Rattle.lookup.specs.Rules.{supernetRule, containsRule, emptyRule, setNo, lookupNo, unsought, unheld, foundAs}
+use Rattle.lookup.specs.Rules.{supernetRule, containsRule, emptyRule, setNo, lookupNo, unsought, unheld, foundAs, stepsOf}
 use Rattle.lookup.proofs.OnLists.{supernetRule-sound, containsRule-sound, emptyRule-sound}
 use Rattle.compare.specs.Rules.{sameList, equalRule}
 use Rattle.trie_paths.specs.Rows.{rowsOf}
@@ -54,10 +54,10 @@ module _ {w : List ℕ} {S : State} (d : decode w ≡ sound S) {cs : List Call} 
     list = listAt now k
 
     -- the lookups
-    pub history-supernet : (n : Net) → supernetRule v k n ≡ answered (lookupNo now k n) unsought (foundAs (now .family) (supernetL list (netBits n)) (stepsL list (netBits n)) (hasBitPast n))
+    pub history-supernet : (n : Net) → supernetRule v k n ≡ answered (lookupNo now k n) unsought (foundAs (now .family) (supernetL list (netBits n)) (stepsOf (now .form) list (netBits n)) (hasBitPast n))
     history-supernet n = supernetRule-sound v now holds k n
 
-    pub history-contains : (n : Net) → containsRule v k n ≡ answered (lookupNo now k n) unheld (containsL list (netBits n), (stepsL list (netBits n), hasBitPast n))
+    pub history-contains : (n : Net) → containsRule v k n ≡ answered (lookupNo now k n) unheld (containsL list (netBits n), (stepsOf (now .form) list (netBits n), hasBitPast n))
     history-contains n = containsRule-sound v now holds k n
 
     pub history-empty : emptyRule v k ≡ answered (setNo now k) false (eqb (length list) 0)

@@ -205,7 +205,7 @@ history-round-trip {w} {S} d k {v} {u} {n} r {z} {T} e fam x empty h ps g m =
 -- Both ends of the address space and two halves in set 0: three ranges, since the last address does not go on at zero. They are imported into set 1 in another
 -- order, and set 0 is emptied between.
 abbrev pool2 : State
-pool2 = emptyState (setup 4 2 200 (8 ∷ 8 ∷ []) (100 ∷ 100 ∷ []) 0)
+pool2 = emptyState (setup 4 0 2 200 (8 ∷ 8 ∷ []) (100 ∷ 100 ∷ []) 0)
 
 abbrev net : ℕ → ℕ → Net
 net a n = record { family = 4; hi = 0; lo = a * 2 ^ 8; len = n }

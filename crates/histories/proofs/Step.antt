@@ -152,15 +152,15 @@ call-same (addRange k s) S T e h = (span-same s k S T h, ap₂ (λ f l. addRange
 
 -- A result within the share is judged by the mark and the limit of its set alone.
 abbrev pub ownRules : State → ℕ → List Bits → List Rule
-ownRules S k l = (not (admits (S .family) (setAt S k) l), NotPublic) ∷ (ltb (setAt S k .limit) (heldL l), OverLimit) ∷ []
+ownRules S k l = (not (admits (S .family) (setAt S k) l), NotPublic) ∷ (ltb (setAt S k .limit) (heldL (setAt S k .form) l), OverLimit) ∷ []
 
-pub relistNo-share : (S : State) (k : ℕ) (a : List Rule) (l : List Bits) → isState S ≡ true → (firstNo a ≡ 0 → heldL l ≤ setAt S k .share)
+pub relistNo-share : (S : State) (k : ℕ) (a : List Rule) (l : List Bits) → isState S ≡ true → (firstNo a ≡ 0 → heldL (setAt S k .form) l ≤ setAt S k .share)
     → relistNo S k a l ≡ firstNo (unknown S k ∷ (a ++ ownRules S k l))
 unfolding changeRules
 relistNo-share S k a l e f = go (leb (length (S .sets)) k) refl
   where
     args : k < length (S .sets) → (y : Bool) → eqb (firstNo a) 0 ≡ y → cond y (firstNo (grantRules S k l)) (firstNo a) ≡ cond y (firstNo (ownRules S k l)) (firstNo a)
-    args lt true q = rw (le-ltb (roomOf S k) (heldL l) (share-roomOf S k e lt (heldL l) (f (eqb-true (firstNo a) 0 q))))
+    args lt true q = rw (le-ltb (roomOf S k) (heldL (setAt S k .form) l) (share-roomOf S k e lt (heldL (setAt S k .form) l) (f (eqb-true (firstNo a) 0 q))))
     args lt false q = refl
 
     go : (x : Bool) → leb (length (S .sets)) k ≡ x → cond x 3 (firstNo (a ++ grantRules S k l)) ≡ cond x 3 (firstNo (a ++ ownRules S k l))
@@ -194,21 +194,21 @@ module _ (S : State) (c : Relist) where
   unfolding relistSet
   nextOf-is = refl
 
-  pub callNo-share : isState S ≡ true → heldL (resultOf c S) ≤ setAt S (writes c) .share → callNo S (relist c) ≡ 10 → ⊥
+  pub callNo-share : isState S ≡ true → heldL (setAt S (writes c) .form) (resultOf c S) ≤ setAt S (writes c) .share → callNo S (relist c) ≡ 10 → ⊥
   callNo-share e le q =
       let k = writes c in
       let l = resultOf c S in
       args-never (unknown S k ∷ argsOf c S) (ownRules S k l) (set-never (leb (length (S .sets)) k) (argsOf c S) (rules-other c S))
-      (own-never (not (admits (S .family) (setAt S k) l)) (ltb (setAt S k .limit) (heldL l)))
+      (own-never (not (admits (S .family) (setAt S k) l)) (ltb (setAt S k .limit) (heldL (setAt S k .form) l)))
       (rw (callNo-is, relistNo-share S k (argsOf c S) l e (λ z. le)) at q)
 
   -- where its arguments are right: 14 where the set is public-only and the result overlaps an inner network, and else by the nodes of its result
   pub callNo-granting : writes c < length (S .sets) → argsNo c S ≡ 0 → callNo S (relist c) ≡ firstNo (grantRules S (writes c) (resultOf c S))
   callNo-granting lt a = callNo-is ∙ relistNo-known S (writes c) (argsOf c S) (resultOf c S) lt ∙ rw a
 
-  pub callNo-room : writes c < length (S .sets) → argsNo c S ≡ 0 → admits (S .family) (setAt S (writes c)) (resultOf c S) ≡ true → heldL (resultOf c S) ≤ setAt S (writes c) .limit
-      → callNo S (relist c) ≡ cond (ltb (roomOf S (writes c)) (heldL (resultOf c S))) 10 0
-  callNo-room lt a m le = callNo-granting lt a ∙ rw (m, le-ltb (setAt S (writes c) .limit) (heldL (resultOf c S)) le)
+  pub callNo-room : writes c < length (S .sets) → argsNo c S ≡ 0 → admits (S .family) (setAt S (writes c)) (resultOf c S) ≡ true → heldL (setAt S (writes c) .form) (resultOf c S) ≤ setAt S (writes c) .limit
+      → callNo S (relist c) ≡ cond (ltb (roomOf S (writes c)) (heldL (setAt S (writes c) .form) (resultOf c S))) 10 0
+  callNo-room lt a m le = callNo-granting lt a ∙ rw (m, le-ltb (setAt S (writes c) .limit) (heldL (setAt S (writes c) .form) (resultOf c S)) le)
 
   -- it leaves every share, limit and mark
   pub stateAfter-plan : (j : ℕ) → SamePlan (setAt (stateAfter S (relist c)) j) (setAt S j)
@@ -255,6 +255,10 @@ module _ (S : State) (c : Call) where
       stateAfter-cases (λ T. (T .family ≡ S .family) × (T .nodes ≡ S .nodes) × (length (T .sets) ≡ length (S .sets)))
       (λ q. (refl, refl, withSet-length S (target c) (nextOf c S)))
       (λ q. (refl, refl, refl))
+
+  pub stateAfter-form : stateAfter S c .form ≡ S .form
+  unfolding withSet
+  stateAfter-form = stateAfter-cases (λ T. T .form ≡ S .form) (λ q. refl) (λ q. refl)
 
   -- and so does the smallest buffer
   pub stateAfter-least : leastOf (stateAfter S c) ≡ leastOf S
@@ -307,7 +311,7 @@ module _ (S : State) (c : Call) where
   pub isState-after : isState S ≡ true → isState (stateAfter S c) ≡ true
   isState-after e =
       stateAfter-cases (λ T. isState T ≡ true)
-      (λ z. let (lt, y) = changeNo-zero S (target c) (rulesOf c S) z in let (l, g, m) = call-keeps S c e lt y in isState-withSet S (target c) e lt (nextOf c S) l g)
+      (λ z. let (lt, y) = changeNo-zero S (target c) (rulesOf c S) z in let (l, g, m, q) = call-keeps S c e lt y in isState-withSet S (target c) e lt (nextOf c S) q m l g)
       (λ q. e)
 
   module _ {w v : List ℕ} {r : ℕ × ℕ} (d : decode w ≡ sound S) (o : Outcome w c r v) where

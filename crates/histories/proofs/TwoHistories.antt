@@ -17,29 +17,29 @@ use Rattle.pool_state.specs.Changes.{setAt, listAt, changeRules, marked, markRu
 use Rattle.pool_state.proofs.Decoded.{decode-state}
 use Rattle.histories.specs.Calls.{Relist, Call, relist, replan, makePublic, writes, target, argsOf, resultOf, nextOf, callNo, answerOf, stateAfter}
 use Rattle.histories.specs.Histories.{stateFrom, answersFrom, History, begin, step, callsOn, answersOn, Alone, CallAlone, AllAlone, SameAt}
-use Rattle.histories.proofs.Step.{sameAt-list, call-same, relistNo-share, callNo-is, nextOf-is, stateAfter-numbers, stateAfter-other, stateAfter-own, isState-after}
-use Rattle.histories.proofs.Histories.{stateFrom-numbers, layout-begins, history-sound, history-answer}
+use Rattle.histories.proofs.Step.{sameAt-list, call-same, relistNo-share, callNo-is, nextOf-is, stateAfter-numbers, stateAfter-other, stateAfter-own, isState-after, stateAfter-form}
+use Rattle.histories.proofs.Histories.{stateFrom-numbers, layout-begins, history-sound, history-answer, stateFrom-form}
 
 -- Agreeing.
 sameAt-refl : (k : ℕ) (S : State) → SameAt k S S
-sameAt-refl k S = record { family = refl; known = refl; set = refl }
+sameAt-refl k S = record { family = refl; form = refl; known = refl; set = refl }
 
 sameAt-sym : {k : ℕ} {S T : State} → SameAt k S T → SameAt k T S
-sameAt-sym h = record { family = sym (h .family); known = sym (h .known); set = sym (h .set) }
+sameAt-sym h = record { family = sym (h .family); form = sym (h .form); known = sym (h .known); set = sym (h .set) }
 
 sameAt-trans : {k : ℕ} {S T U : State} → SameAt k S T → SameAt k T U → SameAt k S U
-sameAt-trans h g = record { family = h .family ∙ g .family; known = h .known ∙ g .known; set = h .set ∙ g .set }
+sameAt-trans h g = record { family = h .family ∙ g .family; form = h .form ∙ g .form; known = h .known ∙ g .known; set = h .set ∙ g .set }
 
 -- One call: on another set, and on the set alone.
 sameAt-other : (c : Call) {k : ℕ} {S T : State} → (target c ≡ k → ⊥) → SameAt k S T → SameAt k (stateAfter S c) T
 sameAt-other c {k} {S} ne h =
     let n = stateAfter-numbers S c in
-    record { family = n .0 ∙ h .family; known = ap (λ m. leb m k) (n .2) ∙ h .known; set = stateAfter-other S c k (λ e. ne (sym e)) ∙ h .set }
+    record { family = n .0 ∙ h .family; form = stateAfter-form S c ∙ h .form; known = ap (λ m. leb m k) (n .2) ∙ h .known; set = stateAfter-other S c k (λ e. ne (sym e)) ∙ h .set }
 
 alone-same : (c : Relist) {S T : State} → SameAt (writes c) S T → Alone S c → Alone T c
 alone-same c {S} {T} h a =
     let (x, y) = call-same c S T (a .names) h in
-    record { names = a .names; fits = λ q. omega (arith, a .fits (ap firstNo x ∙ q), ap heldL y, ap (λ (s : SetState). s .share) (h .set)) }
+    record { names = a .names; fits = λ q. omega (arith, a .fits (ap firstNo x ∙ q), ap (heldL (setAt S (writes c) .form)) y, ap (λ (s : SetState). heldL (s .form) (resultOf c T)) (h .set), ap (λ (s : SetState). s .share) (h .set)) }
 
 -- a call that gets one number, and of which one set becomes
 module _ (c : Call) {S T : State} (h : SameAt (target c) S T) (no : callNo S c ≡ callNo T c) (next : nextOf c S ≡ nextOf c T) where
@@ -53,6 +53,7 @@ module _ (c : Call) {S T : State} (h : SameAt (target c) S T) (no : callNo S c �
       let k = target c in
       record {
         family = m .0 ∙ h .family ∙ sym (n .0);
+        form = stateAfter-form S c ∙ h .form ∙ sym (stateAfter-form T c);
         known = ap (λ x. leb x k) (m .2) ∙ h .known ∙ sym (ap (λ x. leb x k) (n .2));
         set = rw (stateAfter-own S c, stateAfter-own T c, no, next) (ap (λ s. cond (eqb (callNo T c) 0) (nextOf c T) s) (h .set));
       }
@@ -77,6 +78,7 @@ module _ (c : Relist) {S T : State} (i : isState S ≡ true) (j : isState T ≡ 
         h .family,
         ap (λ (s : SetState). s .limit) (h .set),
         ap (λ (s : SetState). s .public) (h .set),
+        ap (λ (s : SetState). s .form) (h .set),
       )
 
 -- a call that makes the set public-only depends on that set alone
@@ -185,9 +187,9 @@ layout-histories {p = p} k l t h g a e =
     (x .0, ap (λ (s : SetState). s .list) (x .1))
 
 -- "document 01's two-histories fact holds between two such calls on that set, granted or refused, for two histories that agree on its list, share, limit and M-112's mark right after the first":
--- two histories in pools of one family and as many sets, as from one layout, that have just replanned set k, each in its own way. Until it is replanned again, the same calls on
+-- two histories in pools of one family and form and as many sets, as from one layout, that have just replanned set k, each in its own way. Until it is replanned again, the same calls on
 -- it, with results that fit its share, get the same answers and leave the same list.
-module _ {w z : List ℕ} {S T : State} (d : decode w ≡ sound S) (q : decode z ≡ sound T) (family : S .family ≡ T .family) (sets : length (S .sets) ≡ length (T .sets))
+module _ {w z : List ℕ} {S T : State} (d : decode w ≡ sound S) (q : decode z ≡ sound T) (family : S .family ≡ T .family) (form : S .form ≡ T .form) (sets : length (S .sets) ≡ length (T .sets))
     {k x y a b : ℕ} {cs ds : List Call} {rs ss : List (ℕ × ℕ)} {u v : List ℕ} (h : History w (replan k x y ∷ cs) rs u) (g : History z (replan k a b ∷ ds) ss v) where
   abbrev one : State
   one = stateFrom S (replan k x y ∷ cs)
@@ -199,7 +201,8 @@ module _ {w z : List ℕ} {S T : State} (d : decode w ≡ sound S) (q : decode z
   replan-same e =
       let m = stateFrom-numbers S (replan k x y ∷ cs) in
       let n = stateFrom-numbers T (replan k a b ∷ ds) in
-      record { family = m .0 ∙ family ∙ sym (n .0); known = ap (λ i. leb i k) (m .2 ∙ sets ∙ sym (n .2)); set = e }
+      let o = stateFrom-form S (replan k x y ∷ cs) ∙ form ∙ sym (stateFrom-form T (replan k a b ∷ ds)) in
+      record { family = m .0 ∙ family ∙ sym (n .0); form = o; known = ap (λ i. leb i k) (m .2 ∙ sets ∙ sym (n .2)); set = e }
 
   pub replan-histories : {es fs : List Call} {ps qs : List (ℕ × ℕ)} {m n : List ℕ} → setAt one k ≡ setAt two k
       → History u es ps m → History v fs qs n → AllAlone one k es → callsOn k es ≡ callsOn k fs

@@ -82,13 +82,13 @@ module _ {w z : List ℕ} {S T : State} {cs ds : List Call} {rs ss : List (ℕ �
   two-supernet n =
       let x = stateFrom S cs in
       let y = stateFrom T ds in
-      rw (supernetRule-sound u x here k n, supernetRule-sound v y there k n, agree .known, net-same n k x y agree, agree .family, sameAt-list agree)
+      rw (supernetRule-sound u x here k n, supernetRule-sound v y there k n, agree .known, net-same n k x y agree, agree .family, agree .form, sameAt-list agree)
 
   pub two-contains : (n : Net) → containsRule u k n ≡ containsRule v k n
   two-contains n =
       let x = stateFrom S cs in
       let y = stateFrom T ds in
-      rw (containsRule-sound u x here k n, containsRule-sound v y there k n, agree .known, net-same n k x y agree, sameAt-list agree)
+      rw (containsRule-sound u x here k n, containsRule-sound v y there k n, agree .known, net-same n k x y agree, agree .form, sameAt-list agree)
 
   pub two-empty : emptyRule u k ≡ emptyRule v k
   two-empty = rw (emptyRule-sound u (stateFrom S cs) here k, emptyRule-sound v (stateFrom T ds) there k, agree .known, sameAt-list agree)

@@ -6,7 +6,7 @@
 --   callsOn k cs, answersOn   the calls on set k, those that write it, and the answers to them
 --   Alone S c                 in the state S the call c, which relists, names no other set than the one that it writes, and its result fits that set's share
 --   AllAlone S k cs           each call on set k relists it so or makes it public-only: from the state S on none of the calls cs replans it
---   SameAt k S T              the states S and T agree on set k: the family, whether there is such a set, and all that is of it
+--   SameAt k S T              the states S and T agree on set k: the family, the form, whether there is such a set, and all that is of it
 use mathlib.Core.Bool.{true, cond}
 use mathlib.Core.List.{List, [], _∷_}
 use mathlib.Core.Path.{_≡_}
@@ -41,7 +41,7 @@ answersOn k (c ∷ cs) (r ∷ rs) = cond (eqb (target c) k) (r ∷ answersOn k c
 
 pub record Alone (S : State) (c : Relist) : Type 0 where
   pub names : namesOne c ≡ true
-  pub fits : argsNo c S ≡ 0 → heldL (resultOf c S) ≤ setAt S (writes c) .share
+  pub fits : argsNo c S ≡ 0 → heldL (setAt S (writes c) .form) (resultOf c S) ≤ setAt S (writes c) .share
 
 abbrev pub CallAlone : State → Call → Type 0
 CallAlone S (relist c) = Alone S c
@@ -54,5 +54,6 @@ AllAlone S k (c ∷ cs) = AllAlone S k cs × (target c ≡ k → CallAlone (stat
 
 pub record SameAt (k : ℕ) (S T : State) : Type 0 where
   pub family : S .family ≡ T .family
+  pub form : S .form ≡ T .form
   pub known : leb (length (S .sets)) k ≡ leb (length (T .sets)) k
   pub set : setAt S k ≡ setAt T k

@@ -1,31 +1,26 @@
 -- The words that each plan leaves: what is moved, and what is written before, between and behind it. Assumes nothing.
-use mathlib.Core.Bool.{Bool, true, false, cond, _&&_, not}
-use mathlib.Core.List.{List, [], _∷_, _++_, append-assoc, append-nil}
-use mathlib.Core.Path.{_≡_, refl, sym, ap, _∙_}
+use mathlib.Core.Bool.{Bool, true, false}
+use mathlib.Core.List.{List, [], _++_, append-assoc}
+use mathlib.Core.Path.{_≡_, refl, sym, _∙_}
 use Prim.Native.Nat.{ℕ, suc, _+_, _-_, _*_, _≤_, _<_}
 use native.Mathlib.Nat.{mul-add}
 use native.Mathlib.Omega.{arith}
 use borrow.Author.Tests.{eq-eqb, ne-eqb}
-use lib.Dec.{eqb}
 use lib.ListN.{length, take, drop, length-append}
 use Rattle.nets.specs.Bits.{Bits}
-use Rattle.nets.specs.Networks.{width, netFrom}
-use Rattle.nets.specs.declared.Net.{Net}
-use Rattle.nets.specs.Tries.{Trie, none, node, side}
+use Rattle.nets.specs.Tries.{Trie, node, side}
 use Rattle.nodes.specs.Words.{put, Has}
-use Rattle.nodes.proofs.Put.{put-nil, put-before-at, put-behind-at, length-put}
+use Rattle.nodes.proofs.Put.{put-before-at, put-behind-at}
 use Rattle.nodes.proofs.Has.{has-front, has-back, has-at, has-seg, has-put}
 use Rattle.trie_paths.specs.Spans.{snoc}
 use Rattle.branch_points.specs.KeptTries.{keptSize}
-use Rattle.branch_points.proofs.Sizes.{keptSize-some}
-use Rattle.kept_nodes.specs.Words.{stride, nodeWords, distance, keptEnc, spot}
+use Rattle.kept_nodes.specs.Words.{stride, nodeWords, keptEnc, spot}
 use Rattle.kept_nodes.specs.Parse.{KeptRoom}
 use Rattle.kept_nodes.proofs.Places.{spot-on, spot-next, spot-le, spot-end, spot-within, length-nodeWords, length-keptEnc, room-put}
-use Rattle.kept_writing.specs.Writes.{Writable, Writes, Movable}
-use Rattle.kept_steps.specs.Segments.{KeptSegment, KeptBranch}
-use Rattle.kept_plan.specs.Change.{flatWords}
+use Rattle.kept_writing.specs.Writes.{Writable, Movable}
+use Rattle.kept_steps.specs.Segments.{KeptSegment}
 use Rattle.kept_plan.proofs.Changed.{both-words}
-use Rattle.kept_acts.specs.Acts.{Acts, Halves, Became, forkWords, dropWords, dropSize, flatSize, linkable, relinkEnd, relinked, Relinks}
+use Rattle.kept_acts.specs.Acts.{Acts, Halves, Became, forkWords, dropWords, dropSize, flatSize, relinkEnd, relinked}
 
 -- Room for nodes that are moved or written.
 module _ {f : ℕ} {w : List ℕ} {b n : ℕ} (room : KeptRoom f w b n) where
@@ -92,110 +87,102 @@ module _ {f : ℕ} {w : List ℕ} {b n i e u : ℕ} {p s : Bits} {t : Trie} {res
     pub none-became : Acts f w b n i e u p s t rest 0 → v₁ ≡ put w (spot f b i) (take (stride f * (u - e)) (drop (spot f b e) w)) → Became f w v₁ b i i [] 0 rest
     none-became g h = record { wrote = h ∙ rw (tail-words (g .here)); end = omega arith }
 
+-- Words of d nodes.
+record Nodes (f : ℕ) (xs : List ℕ) (d : ℕ) : Type 0 where
+  are : length xs ≡ stride f * d
+
+one-node : (f : ℕ) (q : Bits) (d : ℕ) → Nodes f (nodeWords f q d) 1
+one-node f q d = record { are = length-nodeWords f q d ∙ omega arith }
+
+trie-nodes : (f : ℕ) (p : Bits) (t : Trie) → Nodes f (keptEnc f p t) (keptSize t)
+trie-nodes f p t = record { are = length-keptEnc f p t }
+
+more-nodes : {f : ℕ} {xs ys : List ℕ} {j k : ℕ} → Nodes f xs j → Nodes f ys k → Nodes f (xs ++ ys) (j + k)
+more-nodes {f} {xs} {ys} {j} {k} x y = record { are = length-append xs ys ∙ rw (x .are, y .are) (sym (mul-add (stride f) j k)) }
+
 -- Beside the trie.
 module _ {f : ℕ} {w : List ℕ} {b n i e u : ℕ} {p s : Bits} {t : Trie} {rest : List ℕ} (g : Acts f w b n i e u p s t rest (keptSize t + 2)) where
   pub fork-fits : (i ≤ e) × (e ≤ u) × (u + 1 ≤ n) × (1 ≤ i) × (n ≤ 4194304)
   fork-fits = (omega (arith, g .here .end), g .here .tail, omega (arith, g .fits), g .here .one, g .here .room .few)
 
-  spot-two : (d : ℕ) → spot f b (i + 2) ≡ spot f b i + length (nodeWords f p d ++ nodeWords f s 0)
-  spot-two d =
-      let z : stride f * 2 ≡ stride f + stride f = omega arith in
-      rw (length-append (nodeWords f p d) (nodeWords f s 0), length-nodeWords f p d, length-nodeWords f s 0, ← z) (sym (spot-on f b i 2 (g .here .one)))
+  behind : {xs : List ℕ} {d : ℕ} (k : ℕ) → Nodes f xs d → k ≡ i + d → spot f b k ≡ spot f b i + length xs
+  behind {xs} {d} k x q = rw (q, x .are) (sym (spot-on f b i d (g .here .one)))
 
-  -- as the second half
-  pub second-moves : Movable f w b i (i + 2) (u - i)
-  second-moves = let k = fork-fits in movable (g .here .room) i (i + 2) (u - i) (g .here .one) (omega arith) (omega (arith, g .here .last)) (omega arith)
+  fork-laid : (c : Bool) → let v = put (put w (spot f b (e + 2)) rest) (spot f b (side c (i + 1) (i + 2))) (keptEnc f p t) in
+      put (put v (spot f b i) (nodeWords f p (side c (e - i + 1) 2))) (spot f b (side c (e + 1) (i + 1))) (nodeWords f s 0)
+      ≡ put w (spot f b i) (forkWords c f p s t ++ rest)
+  fork-laid false =
+      let d : e - i + 1 ≡ keptSize t + 1 = omega (arith, g .here .end) in
+      let a = nodeWords f p (keptSize t + 1) in
+      let x = keptEnc f p t in
+      let z = nodeWords f s 0 in
+      let v = put w (spot f b (e + 2)) rest in
+      let one = one-node f p (keptSize t + 1) in
+      let two = more-nodes one (trie-nodes f p t) in
+      rw (
+        d,
+        put-before-at v (spot f b i) (spot f b (i + 1)) a x (behind (i + 1) one refl),
+        put-behind-at v (spot f b i) (spot f b (e + 1)) (a ++ x) z (behind (e + 1) two (omega (arith, g .here .end))),
+        put-before-at w (spot f b i) (spot f b (e + 2)) ((a ++ x) ++ z) rest (behind (e + 2) (more-nodes two (one-node f s 0)) (omega (arith, g .here .end))),
+        append-assoc a x z,
+      ) refl
+  fork-laid true =
+      let a = nodeWords f p 2 in
+      let x = keptEnc f p t in
+      let z = nodeWords f s 0 in
+      let v = put w (spot f b (e + 2)) rest in
+      let two = more-nodes (one-node f p 2) (one-node f s 0) in
+      rw (
+        put-behind-at (put v (spot f b (i + 2)) x) (spot f b i) (spot f b (i + 1)) a z (behind (i + 1) (one-node f p 2) refl),
+        put-before-at v (spot f b i) (spot f b (i + 2)) (a ++ z) x (behind (i + 2) two refl),
+        put-before-at w (spot f b i) (spot f b (e + 2)) ((a ++ z) ++ x) rest (behind (e + 2) (more-nodes two (trie-nodes f p t)) (omega (arith, g .here .end))),
+        append-assoc a z x,
+      ) refl
 
-  module _ {v₁ : List ℕ} (h : v₁ ≡ put w (spot f b (i + 2)) (take (stride f * (u - i)) (drop (spot f b i) w))) where
-    pub second-writes : Writable f v₁ b i 2
-    second-writes = let k = fork-fits in rw h (writable (room-put (spot f b (i + 2)) _ (g .here .room)) i 2 (g .here .one) (omega arith) (omega arith))
+  pub fork-moves : Movable f w b e (e + 2) (u - e)
+  fork-moves = let k = fork-fits in movable (g .here .room) e (e + 2) (u - e) (omega arith) (omega arith) (omega (arith, g .here .last)) (omega arith)
 
-    module _ {v₂ : List ℕ} (h₂ : v₂ ≡ put v₁ (spot f b i) (nodeWords f p 2)) where
-      pub second-writes-two : Writable f v₂ b (i + 1) 0
-      second-writes-two =
+  -- the trie comes to stand at node x, the member at node y, and the first half of the two at z nodes behind the branch point
+  module _ (c : Bool) {x y z : ℕ} (sides : (x ≡ side c (i + 1) (i + 2)) × (y ≡ side c (e + 1) (i + 1)) × (z ≡ side c (e - i + 1) 2)) where
+    sides-fit : (1 ≤ x) × (x ≤ i + 2) × (1 ≤ y) × (y ≤ n) × (z < 16777216)
+    sides-fit = rw (sides .0, sides .1, sides .2) (go c)
+      where
+        go : (c : Bool)
+            → (1 ≤ side c (i + 1) (i + 2)) × (side c (i + 1) (i + 2) ≤ i + 2) × (1 ≤ side c (e + 1) (i + 1)) × (side c (e + 1) (i + 1) ≤ n)
+            × (side c (e - i + 1) 2 < 16777216)
+        go false = let k = fork-fits in (omega arith, omega arith, omega arith, omega arith, omega arith)
+        go true = let k = fork-fits in (omega arith, omega arith, omega arith, omega arith, omega arith)
+
+    module _ {v₁ : List ℕ} (h : v₁ ≡ put w (spot f b (e + 2)) (take (stride f * (u - e)) (drop (spot f b e) w))) where
+      room₁ : KeptRoom f v₁ b n
+      room₁ = rw h (room-put (spot f b (e + 2)) _ (g .here .room))
+
+      pub fork-moves-two : Movable f v₁ b i x (e - i)
+      fork-moves-two = let k = fork-fits in let z = sides-fit in movable room₁ i x (e - i) (g .here .one) (z .0) (omega arith) (omega (arith, z .1))
+
+      own-words : take (stride f * (e - i)) (drop (spot f b i) v₁) ≡ keptEnc f p t
+      own-words =
           let k = fork-fits in
-          rw (h₂, h) (writable (room-put (spot f b i) (nodeWords f p 2) (room-put (spot f b (i + 2)) _ (g .here .room))) (i + 1) 0 (omega arith) (omega arith) (omega arith))
+          let o : Has w (spot f b i) (keptEnc f p t) = has-front (keptEnc f p t) rest (g .here .has) in
+          let a : Has v₁ (spot f b i) (keptEnc f p t) = rw h (has-put (spot f b (e + 2)) _ o (λ j lo hi lo₂ hi₂. omega (arith, spot-is (g .here), spot-le f b e (e + 2) (omega arith)))) in
+          rw (← own-length (g .here)) (has-seg a)
 
-      pub second-became : {v₃ : List ℕ} → v₃ ≡ put v₂ (spot f b (i + 1)) (nodeWords f s 0) → Became f w v₃ b i (e + 2) (forkWords true f p s t) (keptSize t + 2) rest
-      second-became h₃ = record {
-        wrote = h₃ ∙ rw (
-          h₂,
-          put-behind-at v₁ (spot f b i) (spot f b (i + 1)) (nodeWords f p 2) (nodeWords f s 0) (rw (length-nodeWords f p 2) (sym (spot-next f b i (g .here .one)))),
-          h,
-          all-words (g .here),
-          put-before-at w (spot f b i) (spot f b (i + 2)) (nodeWords f p 2 ++ nodeWords f s 0) (keptEnc f p t ++ rest) (spot-two 2),
-        ) (ap (put w (spot f b i)) (regroup (nodeWords f p 2) (nodeWords f s 0) (keptEnc f p t) rest));
-        end = omega (arith, g .here .end);
-      }
-        where
-          regroup : (a c d z : List ℕ) → (a ++ c) ++ (d ++ z) ≡ (a ++ (c ++ d)) ++ z
-          regroup a c d z = simp append-assoc
+      module _ {v₂ : List ℕ} (h₂ : v₂ ≡ put v₁ (spot f b x) (take (stride f * (e - i)) (drop (spot f b i) v₁))) where
+        room₂ : KeptRoom f v₂ b n
+        room₂ = rw h₂ (room-put (spot f b x) _ room₁)
 
-  -- as the first half
-  pub first-moves : Movable f w b e (e + 2) (u - e)
-  first-moves = let k = fork-fits in movable (g .here .room) e (e + 2) (u - e) (omega arith) (omega arith) (omega (arith, g .here .last)) (omega arith)
+        pub fork-writes : Writable f v₂ b i z
+        fork-writes = let k = fork-fits in writable room₂ i z (g .here .one) (omega arith) (sides-fit .4)
 
-  module _ {v₁ : List ℕ} (h : v₁ ≡ put w (spot f b (e + 2)) (take (stride f * (u - e)) (drop (spot f b e) w))) where
-    room₁ : KeptRoom f v₁ b n
-    room₁ = rw h (room-put (spot f b (e + 2)) _ (g .here .room))
+        module _ {v₃ : List ℕ} (h₃ : v₃ ≡ put v₂ (spot f b i) (nodeWords f p z)) where
+          pub fork-writes-two : Writable f v₃ b y 0
+          fork-writes-two = let k = sides-fit in rw h₃ (writable (room-put (spot f b i) (nodeWords f p z) room₂) y 0 (k .2) (k .3) (omega arith))
 
-    pub first-moves-two : Movable f v₁ b i (i + 1) (e - i)
-    first-moves-two = let k = fork-fits in movable room₁ i (i + 1) (e - i) (g .here .one) (omega arith) (omega arith) (omega arith)
-
-    own-words : take (stride f * (e - i)) (drop (spot f b i) v₁) ≡ keptEnc f p t
-    own-words =
-        let k = fork-fits in
-        let y : Has w (spot f b i) (keptEnc f p t) = has-front (keptEnc f p t) rest (g .here .has) in
-        let x : Has v₁ (spot f b i) (keptEnc f p t) = rw h (has-put (spot f b (e + 2)) _ y (λ j lo hi lo₂ hi₂. omega (arith, spot-is (g .here), spot-le f b e (e + 2) (omega arith)))) in
-        rw (← own-length (g .here)) (has-seg x)
-
-    module _ {v₂ : List ℕ} (h₂ : v₂ ≡ put v₁ (spot f b (i + 1)) (take (stride f * (e - i)) (drop (spot f b i) v₁))) where
-      room₂ : KeptRoom f v₂ b n
-      room₂ = rw h₂ (room-put (spot f b (i + 1)) _ room₁)
-
-      pub first-writes : Writable f v₂ b i (e - i + 1)
-      first-writes = let k = fork-fits in writable room₂ i (e - i + 1) (g .here .one) (omega arith) (omega arith)
-
-      module _ {v₃ : List ℕ} (h₃ : v₃ ≡ put v₂ (spot f b i) (nodeWords f p (e - i + 1))) where
-        pub first-writes-two : Writable f v₃ b (e + 1) 0
-        first-writes-two = let k = fork-fits in rw h₃ (writable (room-put (spot f b i) (nodeWords f p (e - i + 1)) room₂) (e + 1) 0 (omega arith) (omega arith) (omega arith))
-
-        pub first-became : {v₄ : List ℕ} → v₄ ≡ put v₃ (spot f b (e + 1)) (nodeWords f s 0) → Became f w v₄ b i (e + 2) (forkWords false f p s t) (keptSize t + 2) rest
-        first-became h₄ =
-            let d : e - i + 1 ≡ keptSize t + 1 = omega (arith, g .here .end) in
-            let one = g .here .one in
-            let k = fork-fits in
-            let a = nodeWords f p (keptSize t + 1) in
-            let c = keptEnc f p t in
-            let z = nodeWords f s 0 in
-            let x : spot f b (i + 1) ≡ spot f b i + length a = rw (length-nodeWords f p (keptSize t + 1)) (sym (spot-next f b i one)) in
-            let y : spot f b (e + 1) ≡ spot f b i + length (a ++ c) =
-            rw (length-append a c, length-nodeWords f p (keptSize t + 1), length-keptEnc f p t) (spot-one-more i e (keptSize t) one (g .here .end)) in
-            let o : spot f b (e + 2) ≡ spot f b i + length ((a ++ c) ++ z) =
-            rw (length-append (a ++ c) z, length-nodeWords f s 0) (omega (arith, y, spot-two-more e (omega arith))) in
-            record {
-              wrote = h₄ ∙ rw (
-                h₃,
-                h₂,
-                own-words,
-                d,
-                put-before-at v₁ (spot f b i) (spot f b (i + 1)) a c x,
-                put-behind-at v₁ (spot f b i) (spot f b (e + 1)) (a ++ c) z y,
-                h,
-                tail-words (g .here),
-                put-before-at w (spot f b i) (spot f b (e + 2)) ((a ++ c) ++ z) rest o,
-              ) (ap (λ l. put w (spot f b i) (l ++ rest)) (append-assoc a c z));
-              end = omega (arith, g .here .end);
-            }
-          where
-            spot-one-more : (i e m : ℕ) → 1 ≤ i → e ≡ i + m → spot f b (e + 1) ≡ spot f b i + (stride f + stride f * m)
-            spot-one-more i e m one q =
-                let z : i + (1 + m) ≡ e + 1 = omega arith in
-                let r : stride f * (1 + m) ≡ stride f * 1 + stride f * m = mul-add (stride f) 1 m in
-                rw (← z, ← spot-on f b i (1 + m) one) (omega arith)
-
-            spot-two-more : (e : ℕ) → 1 ≤ e → spot f b (e + 2) ≡ spot f b (e + 1) + stride f
-            spot-two-more e one = let z : e + 1 + 1 ≡ e + 2 = omega arith in rw (← z) (sym (spot-next f b (e + 1) (omega arith)))
+          pub fork-became : {v₄ : List ℕ} → v₄ ≡ put v₃ (spot f b y) (nodeWords f s 0) → Became f w v₄ b i (e + 2) (forkWords c f p s t) (keptSize t + 2) rest
+          fork-became h₄ = record {
+            wrote = h₄ ∙ rw (h₃, h₂, own-words, h, tail-words (g .here), sides .0, sides .1, sides .2) (fork-laid c);
+            end = omega (arith, g .here .end);
+          }
 
 -- Without a half.
 module _ {f : ℕ} {w : List ℕ} {b n i m e u : ℕ} {p : Bits} {l r : Trie} {rest : List ℕ} (g : Halves f w b n i m e u p l r rest) where
@@ -266,9 +253,6 @@ module _ {f : ℕ} {w : List ℕ} {b n i m e u : ℕ} {p : Bits} {l r : Trie} {r
 module _ (f : ℕ) (w : List ℕ) (b i a m e z : ℕ) (p : Bits) where
   abbrev Relinked : Bool → ℕ → List ℕ → Type 0
   Relinked c x v = (x ≡ relinkEnd c a i m e z) × (v ≡ relinked f w b i a z c p)
-
-  pub relink-first : Relinked false z w
-  relink-first = (refl, refl)
 
   pub relink-edge : a ≡ i → Relinked true z w
   relink-edge q = (rw (eq-eqb a i q), rw (eq-eqb a i q))

@@ -1,13 +1,12 @@
 // What a change writes in the place of the trie from node i up to node e, where the words up to node u are in use: what stands behind the trie is moved with
 // it. Each function answers where the trie now ends.
-ghost use mathlib.Core.Bool.{true, false};
-ghost use mathlib.Core.List.{List, []};
+ghost use mathlib.Core.List.{List};
 ghost use mathlib.Core.Path.{_≡_};
-ghost use Prim.Native.Nat.{ℕ, _+_, _≤_};
+ghost use Prim.Native.Nat.{ℕ, _+_, _-_, _≤_};
 ghost use lib.ListN.{length};
 ghost use Rattle.nets.specs.Bits.{Bits};
 ghost use Rattle.nets.specs.Networks.{width, netFrom};
-ghost use Rattle.nets.specs.Tries.{Trie};
+ghost use Rattle.nets.specs.Tries.{Trie, side};
 ghost use Rattle.branch_points.specs.KeptTries.{keptSize};
 ghost use Rattle.kept_acts.specs.Acts.{Acts, Halves, Became, forkWords, dropWords, dropSize, flatSize, relinkEnd, relinked, Relinks};
 ghost use Rattle.kept_plan.specs.Change.{flatWords};
@@ -40,54 +39,33 @@ pub fn flat(
     i
 }
 
-// Puts the network q beside the trie as the second half of a branch point with the string of the network path.
-fn fork_second(
-    w: &mut [u32],
-    family: u8,
-    b: usize,
-    i: usize,
-    e: usize,
-    u: usize,
-    path: Net,
-    q: Net,
-) -> usize
-    requires { ⌜ ((n : ℕ) × (p : Bits) × (s : Bits) × (t : Trie) × (rest : List ℕ) × (path ≡ netFrom family p) × (q ≡ netFrom family s)
-        × Acts family (now w) b n i e u p s t rest (keptSize t + 2)) ⌝ }
-    ensures { λ r. ⌜ ((n : ℕ) (p s : Bits) (t : Trie) (rest : List ℕ) → path ≡ netFrom family p → q ≡ netFrom family s
-        → Acts family (now (w .entry)) b n i e u p s t rest (keptSize t + 2)
-        → Became family (now (w .entry)) (now (w .exit)) b i r (forkWords true family p s t) (keptSize t + 2) rest) ⌝ }
-{
-    move_nodes(w, family, b, i, i + 2, u - i);
-    write_node(w, family, b, i, path, 2);
-    write_node(w, family, b, i + 1, q, 0);
-    e + 2
+// Below a new branch point, in the place of the trie from node i up to node e: where that trie begins, where a network beside it stands, on the side of the bit,
+// and the distance to the first half of the two.
+struct Sides {
+    trie: usize,
+    alone: usize,
+    first: usize,
 }
 
-// The same as the first half.
-fn fork_first(
-    w: &mut [u32],
-    family: u8,
-    b: usize,
-    i: usize,
-    e: usize,
-    u: usize,
-    path: Net,
-    q: Net,
-) -> usize
-    requires { ⌜ ((n : ℕ) × (p : Bits) × (s : Bits) × (t : Trie) × (rest : List ℕ) × (path ≡ netFrom family p) × (q ≡ netFrom family s)
-        × Acts family (now w) b n i e u p s t rest (keptSize t + 2)) ⌝ }
-    ensures { λ r. ⌜ ((n : ℕ) (p s : Bits) (t : Trie) (rest : List ℕ) → path ≡ netFrom family p → q ≡ netFrom family s
-        → Acts family (now (w .entry)) b n i e u p s t rest (keptSize t + 2)
-        → Became family (now (w .entry)) (now (w .exit)) b i r (forkWords false family p s t) (keptSize t + 2) rest) ⌝ }
+fn beside(bit: bool, i: usize, e: usize) -> Sides
+    requires { ⌜ (i ≤ e) × (e ≤ 4194304) ⌝ }
+    ensures { λ r. ⌜ (r .trie ≡ side bit (i + 1) (i + 2)) × (r .alone ≡ side bit (e + 1) (i + 1)) × (r .first ≡ side bit (e - i + 1) 2) ⌝ }
 {
-    move_nodes(w, family, b, e, e + 2, u - e);
-    move_nodes(w, family, b, i, i + 1, e - i);
-    write_node(w, family, b, i, path, e - i + 1);
-    write_node(w, family, b, e + 1, q, 0);
-    e + 2
+    if bit {
+        return Sides {
+            trie: i + 2,
+            alone: i + 1,
+            first: 2,
+        };
+    }
+    Sides {
+        trie: i + 1,
+        alone: e + 1,
+        first: e - i + 1,
+    }
 }
 
-// Puts the network q beside the trie, on the side of the bit.
+// Puts the network q beside the trie, on the side of the bit, below a branch point with the string of the network path.
 pub fn fork(
     w: &mut [u32],
     family: u8,
@@ -105,10 +83,12 @@ pub fn fork(
         → Acts family (now (w .entry)) b n i e u p s t rest (keptSize t + 2)
         → Became family (now (w .entry)) (now (w .exit)) b i r (forkWords bit family p s t) (keptSize t + 2) rest) ⌝ }
 {
-    if bit {
-        return fork_second(w, family, b, i, e, u, path, q);
-    }
-    fork_first(w, family, b, i, e, u, path, q)
+    let h = beside(bit, i, e);
+    move_nodes(w, family, b, e, e + 2, u - e);
+    move_nodes(w, family, b, i, h.trie, e - i);
+    write_node(w, family, b, i, path, h.first);
+    write_node(w, family, b, h.alone, q, 0);
+    e + 2
 }
 
 // Takes out the half on the side of the bit and the branch point over it, node i, whose first half begins at node m.

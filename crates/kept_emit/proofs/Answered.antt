@@ -24,8 +24,9 @@ use Rattle.trie_paths.specs.Spans.{snoc}
 use Rattle.trie_paths.proofs.Paths.{path-is, length-snoc}
 use Rattle.branch_points.specs.KeptTries.{kept, keptSize}
 use Rattle.branch_points.proofs.Sizes.{keptSize-some, keptSize-none, keptSize-halves, keptSize-second, keptSize-first, keptSize-both}
+use Rattle.kept_nodes.specs.Parse.{KeptRoom}
 use Rattle.kept_nodes.specs.Words.{stride, nodeWords, distance, ownWords, keptEnc, spot}
-use Rattle.kept_nodes.proofs.Places.{spot-on, spot-next, spot-before, length-nodeWords, length-keptEnc, keptEnc-leaf, keptEnc-none}
+use Rattle.kept_nodes.proofs.Places.{spot-on, spot-next, spot-within, spot-before, room-put, length-nodeWords, length-keptEnc, keptEnc-leaf, keptEnc-none}
 use Rattle.kept_emit.specs.Answers.{said, answer, body, Emits, sizeOf, restOf, isFull, Both, Pending, topWords}
 use Rattle.kept_emit.specs.declared.emitting.Emitted.{Emitted}
 use Rattle.kept_emit.specs.declared.emitting.Emitted.the-variants.{Empty, Full, Node}
@@ -244,3 +245,15 @@ module _ {f : ℕ} {v w : List ℕ} {b : ℕ} {j : Bool} {p : Bits} {e : ℕ} {x
 -- the length of a string's network
 pub len-of : {n : Net} (f : ℕ) (q : Bits) → n ≡ netFrom f q → length q ≡ n .len
 len-of {n} f q is = sym (path-is n f q is .0)
+
+-- A whole result, which begins at node o: the leaf that its answer may leave has its place, and once it is written all is.
+module _ {f : ℕ} {w v : List ℕ} {b : ℕ} {p : Bits} {e : ℕ} {x : Emitted} {t : Trie} (h : Emits f w v b p e x t) (o : ℕ) (q : o + keptSize t ≡ e) where
+  pub leaf-place : {n : ℕ} → KeptRoom f w b n → 1 ≤ o → e ≤ suc n → x ≡ Full → (1 ≤ o) × (spot f b o + stride f ≤ length v)
+  leaf-place r one le z =
+      let k : sizeOf x ≡ 1 = rw z refl in
+      (one, rw (h .wrote) (spot-within o (room-put (spot f b (e - keptSize t)) (body f p t) r) one (omega (arith, size-is x t (h .answers)))))
+
+  pub all-written : {z : List ℕ} → z ≡ put v (spot f b o) (restOf f p x) → z ≡ put w (spot f b o) (keptEnc f p t)
+  all-written d =
+      let k : e - keptSize t ≡ o = omega arith in
+      d ∙ rw (h .wrote, h .answers, k) (rest-put f p t w (spot f b o))

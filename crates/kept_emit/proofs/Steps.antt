@@ -30,7 +30,7 @@ use Rattle.kept_nodes.specs.Parse.{KeptRoom, KeptStands}
 use Rattle.kept_nodes.proofs.Places.{spot-on, spot-le, spot-end, length-keptEnc, room-put}
 use Rattle.kept_sources.specs.Sources.{KeptHere, KeptMeans, nothing, everything, standing}
 use Rattle.kept_emit.specs.Answers.{said, answer, body, Emits, sizeOf, Both, Pending}
-use Rattle.kept_emit.specs.Combine.{Inputs, Gap}
+use Rattle.kept_emit.specs.Combine.{Inputs, KeptGap}
 use Rattle.kept_emit.specs.declared.emitting.Emitted.{Emitted}
 use Rattle.kept_emit.specs.declared.emitting.Emitted.the-variants.{Empty, Full}
 use Rattle.kept_emit.proofs.Answered.{size-is}
@@ -204,7 +204,7 @@ module _ {f : ℕ} {w : List ℕ} {b n op a c o e : ℕ} {p : Bits} {fuel : ℕ}
     foreseen z k = rw step (k (part false) (part true) foreseen-both)
 
   -- written: the first half, then the second
-  module _ (g : Gap n o e (opOn op fuel t u)) where
+  module _ (g : KeptGap n o e (opOn op fuel t u)) where
     fits : (kindOf (part false) ≡ mixed → o + keptSize (part false) ≤ e) × (kindOf (part true) ≡ mixed
         → o + keptSize (part true) ≤ e - keptSize (part false)) × (kindOf (glue (joined op) (part false) (part true)) ≡ mixed
         → keptSize (glue (joined op) (part false) (part true)) < e)
@@ -213,7 +213,7 @@ module _ {f : ℕ} {w : List ℕ} {b n op a c o e : ℕ} {p : Bits} {fuel : ℕ}
     ended : kindOf (glue (joined op) (part false) (part true)) ≡ mixed → spot f b e ≤ length w
     ended h = omega (arith, d .src .hold .long, spot-end f b n e (g .room))
 
-    pub left-gap : Gap n o e (part false)
+    pub left-gap : KeptGap n o e (part false)
     left-gap = record { one = g .one; fits = fits .0; room = g .room }
 
     module _ (w₁ : List ℕ) (x : Emitted) (m : ℕ) (done : Emits f w w₁ b (snoc p false) e x (part false)) (start : m ≡ e - sizeOf x) where
@@ -230,7 +230,7 @@ module _ {f : ℕ} {w : List ℕ} {b n op a c o e : ℕ} {p : Bits} {fuel : ℕ}
       same : length w₁ ≡ length w
       same = rw (done .wrote) (length-put w (spot f b (e - keptSize (part false))) (body f (snoc p false) (part false)))
 
-      pub rest-gap : Gap n o m (part true)
+      pub rest-gap : KeptGap n o m (part true)
       rest-gap = record { one = g .one; fits = rw middle (fits .1); room = omega (arith, g .room, middle) }
 
       module _ (w₂ : List ℕ) (y : Emitted) (done₂ : Emits f w₁ w₂ b (snoc p true) m y (part true)) where

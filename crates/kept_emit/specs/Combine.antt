@@ -22,7 +22,7 @@ pub record Inputs (f : ℕ) (w : List ℕ) (b n a c o e : ℕ) (p : Bits) (fuel 
   pub short : length p + fuel ≤ suc (width f)
 
 -- the nodes from o up to e are there for the trie x, if it is no single leaf
-pub record Gap (n o e : ℕ) (x : Trie) : Type 0 where
+pub record KeptGap (n o e : ℕ) (x : Trie) : Type 0 where
   pub one : 1 ≤ o
   pub fits : kindOf x ≡ mixed → o + keptSize x ≤ e
   pub room : e ≤ suc n

@@ -2,59 +2,48 @@
 // is below.
 ghost use mathlib.Core.Path.{_≡_};
 ghost use mathlib.Core.List.{[]};
-ghost use Prim.Native.Nat.{ℕ, _≤_, max, min};
+ghost use Prim.Native.Nat.{ℕ, _+_};
 ghost use lib.ListN.{length};
 ghost use Rattle.nets.specs.Bits.{Bits};
 ghost use Rattle.nets.specs.Tries.{Trie};
-ghost use Rattle.nets.specs.TrieOps.{Kind, kindOf, verdict, half};
+ghost use Rattle.nets.specs.TrieOps.{kindOf, verdict, half};
 ghost use Rattle.nets.specs.Networks.{netFrom};
 ghost use Rattle.trie_emit.specs.Combine.{opOf, opOn, rank};
 ghost use Rattle.trie_paths.specs.Spans.{snoc};
 ghost use Rattle.branch_points.specs.KeptTries.{keptSize};
+ghost use Rattle.nodes.specs.Words.{put};
 ghost use Rattle.kept_nodes.specs.Parse.{KeptRoom};
+ghost use Rattle.kept_nodes.specs.Words.{keptEnc, spot};
 ghost use Rattle.kept_sources.specs.Sources.{KeptMeans};
 ghost use Rattle.kept_emit.specs.Answers.{answer, Emits};
-ghost use Rattle.kept_emit.specs.Combine.{Inputs, Gap};
+ghost use Rattle.kept_emit.specs.Combine.{Inputs, KeptGap};
 use crate::emitting::Emitted;
+use crate::emitting::answer_over;
+use crate::emitting::beginning_before;
 use crate::emitting::finish;
-use crate::emitting::over;
+use crate::emitting::settle;
 use crate::emitting::size_of;
-use crate::emitting::start_of;
 use kept_reading::strings::child;
-use kept_sources::EMPTY;
-use kept_sources::FULL;
 use kept_sources::kind;
 use kept_sources::piece;
 use nets::Net;
+use trie_emit::combining::EMPTY;
+use trie_emit::combining::FULL;
+use trie_emit::combining::Pair;
+use trie_emit::combining::settled;
+use trie_paths::halves::whole;
 
-fn most(x: usize, y: usize) -> usize
-    ensures { λ r. ⌜ r ≡ max x y ⌝ }
-{
-    if x < y { y } else { x }
-}
-
-fn least(x: usize, y: usize) -> usize
-    ensures { λ r. ⌜ r ≡ min x y ⌝ }
-{
-    if x < y { x } else { y }
-}
-
-// What the operation makes of two kinds, where that settles it, else 1: or, and, and not, of three truth values.
-fn settled(op: usize, x: usize, y: usize) -> usize
-    requires { ⌜ y ≤ 2 ⌝ }
-    ensures { λ r. ⌜ ((k l : Kind) → x ≡ rank k → y ≡ rank l → r ≡ rank (verdict (opOf op) k l)) ⌝ }
-{
-    if op == 0 {
-        return most(x, y);
-    }
-    if op == 1 {
-        return least(x, y);
-    }
-    least(x, FULL - y)
-}
-
-// The same of what two numbers mean below a string of d bits.
-fn judge(w: &[u32], family: u8, b: usize, n: u32, op: usize, a: usize, c: usize, d: u8) -> usize
+// What the operation makes of the kinds of what two numbers mean below a string of d bits, where that settles it.
+pub fn outcome(
+    w: &[u32],
+    family: u8,
+    b: usize,
+    n: u32,
+    op: usize,
+    a: usize,
+    c: usize,
+    d: u8,
+) -> usize
     requires { ⌜ KeptRoom family (now w) b n × ((o : ℕ) × (g : ℕ) × (p : Bits) × (t : Trie) × (u : Trie) × (length p ≡ d) × KeptMeans family (now w) b n o g p a t × KeptMeans family (now w) b n o g p c u) ⌝ }
     ensures { λ r. ⌜ ((o g : ℕ) (p : Bits) (t u : Trie) → length p ≡ d → KeptMeans family (now (w .entry)) b n o g p a t → KeptMeans family (now (w .entry)) b n o g p c u
         → r ≡ rank (verdict (opOf op) (kindOf t) (kindOf u))) ⌝ }
@@ -65,12 +54,16 @@ fn judge(w: &[u32], family: u8, b: usize, n: u32, op: usize, a: usize, c: usize,
 }
 
 // The numbers of the halves of two.
-struct Pair {
+pub fn halves(
+    w: &[u32],
+    family: u8,
+    b: usize,
+    n: u32,
     a: usize,
     c: usize,
-}
-
-fn halves(w: &[u32], family: u8, b: usize, n: u32, a: usize, c: usize, d: u8, second: bool) -> Pair
+    d: u8,
+    second: bool,
+) -> Pair
     requires { ⌜ KeptRoom family (now w) b n × ((o : ℕ) × (g : ℕ) × (p : Bits) × (t : Trie) × (u : Trie) × (length p ≡ d) × KeptMeans family (now w) b n o g p a t × KeptMeans family (now w) b n o g p c u) ⌝ }
     ensures { λ r. ⌜ ((o g : ℕ) (p : Bits) (t u : Trie) → length p ≡ d → KeptMeans family (now (w .entry)) b n o g p a t → KeptMeans family (now (w .entry)) b n o g p c u
         → KeptMeans family (now (w .entry)) b n o g (snoc p second) (r .a) (half second t) × KeptMeans family (now (w .entry)) b n o g (snoc p second) (r .c) (half second u)) ⌝ }
@@ -96,7 +89,7 @@ pub fn foresee(
     requires { ⌜ ((o : ℕ) × (e : ℕ) × (p : Bits) × (t : Trie) × (u : Trie) × (length p ≡ d) × Inputs family (now w) b n a c o e p fuel t u) ⌝ }
     ensures { λ x. ⌜ ((o e : ℕ) (p : Bits) (t u : Trie) → length p ≡ d → Inputs family (now (w .entry)) b n a c o e p fuel t u → x ≡ answer (opOn op fuel t u)) ⌝ }
 {
-    let v = judge(w, family, b, n, op, a, c, d);
+    let v = outcome(w, family, b, n, op, a, c, d);
     if v == EMPTY {
         return Emitted::Empty;
     }
@@ -107,7 +100,7 @@ pub fn foresee(
     let q = halves(w, family, b, n, a, c, d, true);
     let l = foresee(w, family, b, n, op, p.a, p.c, d + 1, fuel - 1);
     let r = foresee(w, family, b, n, op, q.a, q.c, d + 1, fuel - 1);
-    over(op != 3, l, r)
+    answer_over(op != 3, l, r)
 }
 
 // The nodes of the result of two whole tries.
@@ -141,12 +134,12 @@ pub fn emit(
     path: Net,
     fuel: usize,
 ) -> Emitted
-    requires { ⌜ ((o : ℕ) × (p : Bits) × (t : Trie) × (u : Trie) × (path ≡ netFrom family p) × Inputs family (now w) b n a c o e p fuel t u × Gap n o e (opOn op fuel t u)) ⌝ }
-    ensures { λ x. ⌜ ((o : ℕ) (p : Bits) (t u : Trie) → path ≡ netFrom family p → Inputs family (now (w .entry)) b n a c o e p fuel t u → Gap n o e (opOn op fuel t u)
+    requires { ⌜ ((o : ℕ) × (p : Bits) × (t : Trie) × (u : Trie) × (path ≡ netFrom family p) × Inputs family (now w) b n a c o e p fuel t u × KeptGap n o e (opOn op fuel t u)) ⌝ }
+    ensures { λ x. ⌜ ((o : ℕ) (p : Bits) (t u : Trie) → path ≡ netFrom family p → Inputs family (now (w .entry)) b n a c o e p fuel t u → KeptGap n o e (opOn op fuel t u)
         → Emits family (now (w .entry)) (now (w .exit)) b p e x (opOn op fuel t u)) ⌝ }
 {
     let d = path.len;
-    let v = judge(w, family, b, n, op, a, c, d);
+    let v = outcome(w, family, b, n, op, a, c, d);
     if v == EMPTY {
         return Emitted::Empty;
     }
@@ -157,8 +150,30 @@ pub fn emit(
     let q = halves(w, family, b, n, a, c, d, true);
     let first = child(path, false);
     let l = emit(w, family, b, n, op, p.a, p.c, e, first, fuel - 1);
-    let m = start_of(l, e);
+    let m = beginning_before(l, e);
     let second = child(path, true);
     let r = emit(w, family, b, n, op, q.a, q.c, m, second, fuel - 1);
     finish(w, family, b, op != 3, e, l, r, path)
+}
+
+// Writes the result of two whole tries into the nodes from o up to e, which are as many as it has.
+pub fn fill(
+    w: &mut [u32],
+    family: u8,
+    b: usize,
+    n: u32,
+    op: usize,
+    a: usize,
+    c: usize,
+    o: usize,
+    e: usize,
+    fuel: usize,
+)
+    requires { ⌜ ((t : Trie) × (u : Trie) × Inputs family (now w) b n a c o e [] fuel t u × KeptGap n o e (opOn op fuel t u) × (o + keptSize (opOn op fuel t u) ≡ e)) ⌝ }
+    ensures { λ _. ⌜ ((t u : Trie) → Inputs family (now (w .entry)) b n a c o e [] fuel t u → KeptGap n o e (opOn op fuel t u) → o + keptSize (opOn op fuel t u) ≡ e
+        → now (w .exit) ≡ put (now (w .entry)) (spot family b o) (keptEnc family [] (opOn op fuel t u))) ⌝ }
+{
+    let path = whole(family);
+    let x = emit(w, family, b, n, op, a, c, e, path, fuel);
+    settle(w, family, b, o, path, x);
 }

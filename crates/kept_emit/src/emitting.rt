@@ -34,7 +34,7 @@ pub fn size_of(x: Emitted) -> usize
 }
 
 // Where the trie begins that ends before node e; 0 where it has no place, being a leaf that will be joined.
-pub fn start_of(x: Emitted, e: usize) -> usize
+pub fn beginning_before(x: Emitted, e: usize) -> usize
     ensures { λ r. ⌜ r ≡ e - sizeOf x ⌝ }
 {
     let k = size_of(x);
@@ -68,7 +68,7 @@ fn joins(joined: bool, l: Emitted, r: Emitted) -> bool
 }
 
 // The answer of a node by the answers of its children.
-pub fn over(joined: bool, l: Emitted, r: Emitted) -> Emitted
+pub fn answer_over(joined: bool, l: Emitted, r: Emitted) -> Emitted
     requires { ⌜ ((t : Trie) × (u : Trie) × Both l r t u) ⌝ }
     ensures { λ x. ⌜ ((t u : Trie) → Both l r t u → x ≡ answer (glue joined t u)) ⌝ }
 {
@@ -90,7 +90,7 @@ pub fn over(joined: bool, l: Emitted, r: Emitted) -> Emitted
 }
 
 // Writes at node i the leaf that an answer left.
-fn settle(w: &mut [u32], family: u8, b: usize, i: usize, s: Net, x: Emitted)
+pub fn settle(w: &mut [u32], family: u8, b: usize, i: usize, s: Net, x: Emitted)
     requires { ⌜ (x ≡ Emitted.Full → (1 ≤ i) × (spot family b i + stride family ≤ length (now w))) × ((i < 1073741824) × (b < 1073741824)) ⌝ }
     ensures { λ _. ⌜ ((p : Bits) → s ≡ netFrom family p → length p ≤ width family → now (w .exit) ≡ put (now (w .entry)) (spot family b i) (restOf family p x)) ⌝ }
 {
@@ -129,13 +129,13 @@ pub fn finish(
     requires { ⌜ ((v : List ℕ) × (p : Bits) × (t : Trie) × (u : Trie) × (path ≡ netFrom family p) × Pending family v (now w) b joined p e l r t u) ⌝ }
     ensures { λ x. ⌜ ((v : List ℕ) (p : Bits) (t u : Trie) → path ≡ netFrom family p → Pending family v (now (w .entry)) b joined p e l r t u → Emits family v (now (w .exit)) b p e x (glue joined t u)) ⌝ }
 {
-    let x = over(joined, l, r);
+    let x = answer_over(joined, l, r);
     match x {
         Emitted::Empty => x,
         Emitted::Full => x,
         Emitted::Node(_) => {
-            let m = start_of(l, e);
-            let o = start_of(r, m);
+            let m = beginning_before(l, e);
+            let o = beginning_before(r, m);
             let first = child(path, false);
             settle(w, family, b, m, first, l);
             let second = child(path, true);

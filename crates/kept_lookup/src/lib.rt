@@ -18,7 +18,7 @@ pub enum Shown {
 }
 
 // The distance to the child on the side of the bit, where d is the first's.
-fn step(second: bool, d: u32) -> u32
+pub fn step(second: bool, d: u32) -> u32
     ensures { λ r. ⌜ r ≡ side second d 1 ⌝ }
 {
     if second {
@@ -28,7 +28,7 @@ fn step(second: bool, d: u32) -> u32
 }
 
 // What the path down from the root's number shows, where the nodes 1..=n stand from b on. A string is read where its length is no more than the query's.
-pub fn walk_from(w: &[u32], family: u8, b: usize, n: u32, root: u32, q: Net) -> Shown
+pub fn kept_walk_from(w: &[u32], family: u8, b: usize, n: u32, root: u32, q: Net) -> Shown
     requires { ⌜ KeptRoom family (now w) b n × Query family q ⌝ }
     ensures { λ r. ⌜ r ≡ keptWalkFrom family (now (w .entry)) b n (netBits q) root ⌝ }
 {

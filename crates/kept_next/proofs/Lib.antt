@@ -1,2 +1,3 @@
--- The nearest of strings in any order, and of the nodes of a trie.
+-- The network that follows a place, among nodes in any order; and the next of the same length, from a node on.
 pub mod Nearer
+pub mod Behind

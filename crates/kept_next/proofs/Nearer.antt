@@ -1,38 +1,42 @@
 -- One string more, and the nearest of all members: what follows in the list. Assumes nothing.
-use mathlib.Core.Bool.{Bool, true, false, not, cond, _||_, false≢true}
+use mathlib.Core.Bool.{Bool, true, false, not, _||_, false≢true}
 use mathlib.Core.List.{List, [], _∷_, _++_}
 use mathlib.Core.Path.{_≡_, refl, sym, ap, _∙_}
 use Prim.Native.Nat.{ℕ, suc, _+_, _-_, _≤_, _<_}
 use native.Mathlib.Omega.{arith}
-use borrow.Author.Tests.{eq-eqb, ne-eqb}
-use lib.Dec.{eqb}
 use lib.ListN.{length}
 use Rattle.nets.specs.Bits.{Bits, before, equal}
-use Rattle.nets.specs.Lists.{member, Place, start, past, isPast, Found, found, missing, nextL}
-use Rattle.nets.specs.Networks.{isFamily, width, netFrom, netBits}
+use Rattle.nets.specs.Lists.{member, Place, past, isPast, Found, found, missing, nextL}
+use Rattle.nets.specs.Networks.{isFamily, width, refusalOf, cleared, netFrom, netBits}
 use Rattle.nets.specs.declared.Net.{Net}
 use Rattle.nets.specs.Tries.{Trie, listOf}
 use Rattle.nets.proofs.Strings.{equal-refl, equal-is}
-use Rattle.nets.proofs.Order.{key, key-one, before-lt, before-le, lt-before, before-key}
+use Rattle.nets.proofs.Order.{key-one, before-lt, before-le}
 use Rattle.nets.proofs.Listing.{from-listOf, member-listOf}
 use Rattle.nets.proofs.Lookups.{nextL-found, nextL-missing}
-use Rattle.nets.proofs.Numbers.{netBits-netFrom, refusalOf-netFrom, refusalOf-is}
-use Rattle.address_order.specs.Streams.{flat}
+use Rattle.nets.proofs.Numbers.{length-netBits, netBits-netFrom, refusalOf-netFrom, refusalOf-is}
 use Rattle.address_order.proofs.Flat.{member-flat}
 use Rattle.setfile_format.proofs.Written.{isClean-netFrom}
 use Rattle.setfile_entries.specs.Entries.{Entry}
 use Rattle.trie_next.specs.Following.{nextAs}
 use Rattle.trie_next.specs.declared.following.Next.the-variants.{Network, End}
-use Rattle.kept_nodes.specs.Parse.{KeptRoom, distAt, netAt, stringAt}
-use Rattle.kept_nodes.proofs.NodeWords.{net-is}
+use Rattle.kept_nodes.specs.Parse.{netAt, stringAt}
 use Rattle.kept_list.specs.Listed.{KeptHolds}
-use Rattle.kept_list.proofs.Scanned.{own, scanned, each-says, all-scanned}
-use Rattle.kept_next.specs.Nearest.{placeAt, ownOf, First, Nearest, Looks}
+use Rattle.kept_list.proofs.Scanned.{own, scanned, each-node, all-scanned}
+use Rattle.kept_next.specs.Nearest.{ownOf, First, Nearest, Looks}
 use Rattle.kept_next.specs.declared.Best.{Best}
 
 pub entry-of : (f : ℕ) (s : Bits) → isFamily f ≡ true → length s ≤ width f → Entry f (netFrom f s)
 unfolding netFrom
 entry-of f s fam le = record { family = refl; clean = isClean-netFrom f s le; range = refusalOf-is (netFrom f s) (refusalOf-netFrom f s fam le) .address }
+
+-- a network that is taken in, the bits past its length cut
+pub cleared-entry : (n : Net) → refusalOf n ≡ 0 → Entry (n .family) (cleared n) × (netBits (cleared n) ≡ netBits n)
+unfolding cleared
+cleared-entry n e =
+    let i = refusalOf-is n e in
+    let le : length (netBits n) ≤ width (n .family) = rw (length-netBits n e) (i .len) in
+    (entry-of (n .family) (netBits n) (i .family) le, netBits-netFrom (n .family) (netBits n) le)
 
 never-both : {X : Type 0} (x : Bool) → x ≡ true → x ≡ false → X
 never-both x a c = absurd (false≢true (sym c ∙ a))
@@ -142,15 +146,27 @@ module _ {f : ℕ} {p : Place} {ms : List Bits} {c : Best} (g : Nearest f p ms c
 -- Node k, as it is read.
 module _ {f : ℕ} {w : List ℕ} {b n k : ℕ} {x : Bool} {last : Net} (h : Looks f w b n k x last) {y : Net} (is : y ≡ netAt f w b k) where
   pub read-net : y ≡ netFrom f (stringAt f w b k)
-  read-net = is ∙ h .net
+  read-net = is ∙ h .node .net
 
   pub read-bits : netBits y ≡ stringAt f w b k
-  read-bits = rw read-net (netBits-netFrom f (stringAt f w b k) (h .short))
+  read-bits = rw read-net (netBits-netFrom f (stringAt f w b k) (h .node .short))
 
   pub read-entry : Entry f y
-  read-entry = rw read-net (entry-of f (stringAt f w b k) (h .room .family) (h .short))
+  read-entry = rw read-net (entry-of f (stringAt f w b k) (h .node .room .family) (h .node .short))
 
--- The nearest of all is what follows.
+-- The first of all is what follows.
+pub follows-first : {f : ℕ} {p : Place} {ms : List Bits} {n : Net} (t : Trie) → First f p ms n → ((q : Bits) → member q ms ≡ member q (listOf t))
+    → Network n ≡ nextAs f (nextL (listOf t) p)
+follows-first {f} {p} {n = n} t h same = go (nextL (listOf t) p) refl
+  where
+    go : (x : Found) → nextL (listOf t) p ≡ x → Network n ≡ nextAs f x
+    go missing k = never-both (isPast p (h .bits)) (h .past) (nextL-missing (listOf t) p k (h .bits) (sym (same (h .bits)) ∙ h .among))
+    go (found m) k =
+        let o = nextL-found (listOf t) p m (from-listOf t) k in
+        let a = o .2 (h .bits) (sym (same (h .bits)) ∙ h .among) (h .past) in
+        let d = before-le m (h .bits) (h .least m (same m ∙ o .0) (o .1)) in
+        rw (h .net, key-one (h .bits) m (omega arith))
+
 module _ {f : ℕ} {p : Place} {ms : List Bits} {c : Best} (t : Trie) (g : Nearest f p ms c) (same : (q : Bits) → member q ms ≡ member q (listOf t)) where
   pub follows-none : c .some ≡ false → End ≡ nextAs f (nextL (listOf t) p)
   follows-none e = go (nextL (listOf t) p) refl
@@ -160,16 +176,7 @@ module _ {f : ℕ} {p : Place} {ms : List Bits} {c : Best} (t : Trie) (g : Neare
       go (found m) k = let h = nextL-found (listOf t) p m (from-listOf t) k in never-both (isPast p m) (h .1) (g .none e m (same m ∙ h .0))
 
   pub follows-some : c .some ≡ true → Network (c .net) ≡ nextAs f (nextL (listOf t) p)
-  follows-some e = go (nextL (listOf t) p) refl
-    where
-      go : (x : Found) → nextL (listOf t) p ≡ x → Network (c .net) ≡ nextAs f x
-      go missing k = let h = g .first e in never-both (isPast p (h .bits)) (h .past) (nextL-missing (listOf t) p k (h .bits) (sym (same (h .bits)) ∙ h .among))
-      go (found m) k =
-          let h = g .first e in
-          let o = nextL-found (listOf t) p m (from-listOf t) k in
-          let a = o .2 (h .bits) (sym (same (h .bits)) ∙ h .among) (h .past) in
-          let d = before-le m (h .bits) (h .least m (same m ∙ o .0) (o .1)) in
-          rw (h .net, key-one (h .bits) m (omega arith))
+  follows-some e = follows-first t (g .first e) same
 
 -- The loop over the nodes.
 pub record Searches (f : ℕ) (w : List ℕ) (b i e : ℕ) (p : Place) (c : Best) (k : ℕ) : Type 0 where
@@ -190,9 +197,7 @@ module _ {f : ℕ} {w : List ℕ} {b n i e : ℕ} {t : Trie} (h : KeptHolds f w 
 
   module _ {c : Best} {k : ℕ} (g : Searches f w b i e p c k) where
     pub search-looks : k < e → (x : Bool) (last : Net) → (x ≡ true → Entry f last) → Looks f w b n k x last
-    search-looks lt x last en =
-        let s = each-says h k (g .from) lt in
-        record { room = h .room; one = omega (arith, h .one, g .from); within = omega (arith, h .end, h .stands .within); net = net-is s; short = s .short; entry = en }
+    search-looks lt x last en = record { node = each-node h k (g .from) lt; entry = en }
 
     pub search-turn : k < e → {d : Best} → Nearest f p (ownOf f w b k ++ scanned f w b i (k - i)) d → Searches f w b i e p d (k + 1)
     unfolding scanned own

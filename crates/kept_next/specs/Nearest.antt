@@ -12,10 +12,11 @@ use lib.Dec.{eqb}
 use lib.ListN.{length}
 use Rattle.nets.specs.Bits.{Bits, before}
 use Rattle.nets.specs.Lists.{member, Place, start, past, isPast}
-use Rattle.nets.specs.Networks.{isFamily, width, netFrom, netBits}
+use Rattle.nets.specs.Networks.{width, netFrom, netBits}
 use Rattle.nets.specs.declared.Net.{Net}
 use Rattle.setfile_entries.specs.Entries.{Entry}
-use Rattle.kept_nodes.specs.Parse.{KeptRoom, distAt, netAt, stringAt}
+use Rattle.kept_nodes.specs.Parse.{distAt, stringAt}
+use Rattle.kept_list.specs.Listed.{KeptNode}
 use Rattle.kept_next.specs.declared.Best.{Best}
 
 abbrev pub placeAt : Bool → Net → Place
@@ -38,9 +39,5 @@ pub record Nearest (f : ℕ) (p : Place) (ms : List Bits) (c : Best) : Type 0 wh
   pub first : c .some ≡ true → First f p ms (c .net)
 
 pub record Looks (f : ℕ) (w : List ℕ) (b n k : ℕ) (x : Bool) (last : Net) : Type 0 where
-  pub room : KeptRoom f w b n
-  pub one : 1 ≤ k
-  pub within : k ≤ n
-  pub net : netAt f w b k ≡ netFrom f (stringAt f w b k)
-  pub short : length (stringAt f w b k) ≤ width f
+  pub node : KeptNode f w b n k
   pub entry : x ≡ true → Entry f last

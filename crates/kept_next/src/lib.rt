@@ -1,5 +1,5 @@
-// The network that follows a place in the list of a trie in the second form: one loop over its nodes, which keeps the first in list order of the members
-// behind the place.
+// The network that follows a place in the list of a trie in the second form: behind a member the next of its length, if there is one (lanes); else by one
+// loop over the nodes, which keeps the first in list order of the members behind the place.
 ghost use mathlib.Core.Bool.{true, not, _||_};
 ghost use mathlib.Core.List.{List, _++_};
 ghost use mathlib.Core.Path.{_≡_};
@@ -13,27 +13,17 @@ ghost use Rattle.kept_list.specs.Listed.{KeptHolds};
 ghost use Rattle.kept_next.specs.Nearest.{placeAt, ownOf, Nearest, Looks};
 use kept_reading::reading::distance;
 use kept_reading::reading::net_at;
+use lanes::behind;
 use nets::Net;
+use setfile_entries::cleared::is_before;
 use trie_next::following::Next;
+
+mod lanes;
 
 // The nearest network so far, if there is any.
 pub struct Best {
     pub some: bool,
     pub net: Net,
-}
-
-// The network x comes before y in a list: the shorter first, then the smaller address.
-fn is_before(x: Net, y: Net) -> bool
-    requires { ⌜ Entry (x .family) x × Entry (x .family) y ⌝ }
-    ensures { λ r. ⌜ r ≡ before (netBits x) (netBits y) ⌝ }
-{
-    if x.len != y.len {
-        return x.len < y.len;
-    }
-    if x.hi != y.hi {
-        return x.hi < y.hi;
-    }
-    x.lo < y.lo
 }
 
 // The network x is past the place: before the first network, or, where `begun` says so, behind the network last.
@@ -87,8 +77,8 @@ fn nearest(
     Best { some: true, net: x }
 }
 
-// The network that follows the place in the list of the trie that stands from node i up to node e.
-pub fn next_after(
+// The network that follows the place in the list of the trie that stands from node i up to node e, by a loop over all nodes.
+fn nearest_of_all(
     w: &[u32],
     family: u8,
     b: usize,
@@ -115,4 +105,28 @@ pub fn next_after(
         return Next::Network(net);
     }
     Next::End
+}
+
+// The same, where it can be from the node of the last network on.
+pub fn next_after(
+    w: &[u32],
+    family: u8,
+    b: usize,
+    n: u32,
+    i: usize,
+    e: usize,
+    begun: bool,
+    last: Net,
+) -> Next
+    requires { ⌜ (begun ≡ true → Entry family last) × ((t : Trie) × KeptHolds family (now w) b n i e t) ⌝ }
+    ensures { λ r. ⌜ ((t : Trie) → KeptHolds family (now (w .entry)) b n i e t → r ≡ nextAs family (nextL (listOf t) (placeAt begun last))) ⌝ }
+{
+    if begun {
+        let k = behind(w, family, b, n, i, e, last);
+        if k != 0 {
+            let x = net_at(w, family, b, n, k as u32);
+            return Next::Network(x);
+        }
+    }
+    nearest_of_all(w, family, b, n, i, e, begun, last)
 }

@@ -13,15 +13,10 @@ ghost use Rattle.kept_sources.specs.Sources.{KeptMeans};
 use kept_reading::reading::head;
 use kept_reading::reading::net_at;
 use kept_reading::strings::bit_at;
-
-const ALL: usize = 4294967295;
-
-// The kinds of a trie, as truth values: false, unknown, true.
-pub const EMPTY: usize = 0;
-
-const MIXED: usize = 1;
-
-pub const FULL: usize = 2;
+use trie_emit::combining::ALL;
+use trie_emit::combining::EMPTY;
+use trie_emit::combining::FULL;
+use trie_emit::combining::MIXED;
 
 // The kind of what the number i means.
 pub fn kind(w: &[u32], family: u8, b: usize, n: u32, i: usize, d: u8) -> usize

@@ -29,7 +29,7 @@ module _ (w : List ℕ) (S : State) (n : Net) (d : decode w ≡ sound S) (e : ad
   unfolding changeRule answerOn relistRules
   granted = sym (ap (λ D. changeRule D 0 (relistRules 0 (netRules n) (listWith 0 n)) (relistSet 0 (listWith 0 n)) .0) d) ∙ e
 
-  pub added : Added w 0 n (0, heldL (listWith 0 n S)) (addWords w n)
+  pub added : Added w 0 n (0, heldL (setAt S 0 .form) (listWith 0 n S)) (addWords w n)
   unfolding changeRule answerOn relistRules relistSet
   added = record { answer = rw (d, granted); words = refl }
 

@@ -23,7 +23,7 @@ use Rattle.pool_state.specs.declared.Answer.the-variants as answer
 use Rattle.pool_state.proofs.Answered.{owes-damaged, owes-refused, owes-granted}
 use Rattle.pool_state.proofs.Filled.{filled-one, filled-damaged, filled-noset, filled-short, filled-whole}
 use Rattle.trie_paths.specs.Rows.{rowsOf}
-use Rattle.listing.specs.Calls.{Listed, fromRules, placeFrom, nothing, foundAs, followerAs, nextRules, nextRule}
+use Rattle.listing.specs.Calls.{Listed, fromRules, placeFrom, nothing, foundAs, followerAs, nextRule}
 use Rattle.trie_paths.proofs.RowForm.{length-rowsOf}
 use Rattle.listing.proofs.Seats.{sits-at}
 use Rattle.listing.proofs.Calls.{list-fills, numbered, next-refused}

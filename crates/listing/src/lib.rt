@@ -1,5 +1,5 @@
-// Lists out: the rows of a set, and the network that follows a place. Each public call checks the pool in one pass; who goes through a whole set uses
-// following::next_after, which asks in its contract that a trie stands where it is to read one.
+// Lists out, in either form of a pool: the rows of a set, and the network that follows a place. Each call on a set checks the pool in one pass; who goes
+// through a whole set uses seated::go_on, which asks in its contract that a trie stands where it is to read one.
 use nets::Net;
 use nets::Refusal;
 use places::Placed;
@@ -7,16 +7,16 @@ use places::place_of;
 use pool_check::seats::seat_of;
 use pool_state::Answer;
 use pool_state::Seated;
+use seated::go_on;
+use seated::tally;
+use seated::write_rows;
 use trie_list::lengths::starts;
-use trie_list::lengths::tally;
-use trie_list::rows::write_rows;
-use trie_next::following::Next;
-use trie_next::following::next_after;
 ghost use mathlib.Core.Path.{_≡_};
 ghost use Rattle.pool_state.specs.Decode.{decode};
 ghost use Rattle.listing.specs.Calls.{Listed, followerAs, nextRule};
 
 mod places;
+pub mod seated;
 
 // From the first network on, or behind a network, which need not be listed.
 pub enum From {
@@ -40,12 +40,12 @@ pub fn list(pool: &[u32], set: u32, rows: &mut [u64]) -> Answer
     match seated {
         Seated::Refused(no) => Answer::Refused(no),
         Seated::At(_, s) => {
-            let mut next = tally(pool, s.base, s.first, s.end);
+            let mut next = tally(pool, s);
             let n = starts(&mut next);
             if rows.len() < 3 * n {
                 return Answer::Refused(Refusal::ShortBuffer);
             }
-            write_rows(pool, s.base, s.first, s.end, s.family, &mut next, rows);
+            write_rows(pool, s, &mut next, rows);
             Answer::Granted(n as u32)
         }
     }
@@ -59,15 +59,16 @@ pub fn next(pool: &[u32], set: u32, from: From) -> Follower
     match seated {
         Seated::Refused(no) => Follower::Refused(no),
         Seated::At(_, s) => {
-            let placed = place_of(s.family, from);
+            let placed = place_of(s, from);
             match placed {
                 Placed::Refused(no) => Follower::Refused(no),
                 Placed::At(place) => {
-                    let x = next_after(pool, s.base, s.first, s.end, s.family, place);
-                    match x {
-                        Next::Network(n) => Follower::Network(n),
-                        Next::End => Follower::End,
+                    let x = go_on(pool, place);
+                    if x.more {
+                        let net = x.net;
+                        return Follower::Network(net);
                     }
+                    Follower::End
                 }
             }
         }

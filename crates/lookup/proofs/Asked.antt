@@ -8,7 +8,7 @@ use lib.Dec.{eqb, ltb}
 use lib.ListN.{getD}
 use borrow.Author.Tests.{lt-ltb, le-ltb, ltb-true, le-leb, lt-leb, eq-eqb, ne-eqb}
 use Rattle.nets.specs.Refusals.{number, answered}
-use Rattle.nets.specs.Networks.{width, refusalOf, noNet, takenAs, bitsLeft, startOf, noBits, prefixAs}
+use Rattle.nets.specs.Networks.{width, netBits, refusalOf, noNet, takenAs, bitsLeft, startOf, noBits, prefixAs}
 use Rattle.nets.specs.declared.Net.{Net}
 use Rattle.nets.specs.declared.Taken.{Taken}
 use Rattle.nets.specs.declared.Taken.the-variants as taken
@@ -20,9 +20,11 @@ use Rattle.nets.specs.declared.Refusal.the-variants.{Damaged, NoSet, WrongFamil
 use Rattle.nets.proofs.Strings.{cond-both}
 use Rattle.nets.proofs.Answers.{number-some}
 use Rattle.nets.proofs.Numbers.{bitsLeft-start, refusalOf-is}
-use Rattle.pool_state.specs.Decode.{recordAt, isHeader}
+use Rattle.pool_state.specs.Kept.{Form, first, second, formOf}
+use Rattle.pool_state.specs.Decode.{recordAt, formIn, isHeader}
 use Rattle.pool_state.specs.declared.Answer.{Answer}
 use Rattle.pool_state.specs.declared.Answer.the-variants as answer
+use Rattle.pool_state.proofs.Kept.{form-some}
 use Rattle.lookup.specs.Rules.{onRoot, pathOf, query, lookup, memberOf, isMember, supernetRule, containsRule, emptyAt, emptyRule}
 use Rattle.lookup.specs.declared.walking.Shown.{Shown}
 use Rattle.lookup.specs.declared.walking.Shown.the-variants.{Refused}
@@ -125,11 +127,20 @@ module _ (w : List ℕ) (k : ℕ) (n : Net) (same : n .family ≡ getD w 1 0) (p
   unfolding query
   query-refused x h = rw (eq-eqb (n .family) (getD w 1 0) same, ne-eqb (refusalOf n) 0 (prefix-refused p n x e h))
 
-  pub query-path : (s : PrefixBits) (x : Shown) → p ≡ prefix.Bits s → x ≡ pathOf w k (bitsLeft s) → x ≡ query w k n
-  unfolding query
-  query-path s x h d =
-      let g = prefix-bits p n s e h in
-      rw (d, eq-eqb (n .family) (getD w 1 0) same, eq-eqb (refusalOf n) 0 (g .0), g .1, bitsLeft-start n (g .0))
+  module _ (s : PrefixBits) (x : Shown) (h : p ≡ prefix.Bits s) where
+    asked : refusalOf n ≡ 0
+    asked = prefix-bits p n s e h .0
+
+    query-shown : {F : Form} → formIn w ≡ F → x ≡ pathOf F w k (netBits n) → x ≡ query w k n
+    unfolding query
+    query-shown f d = rw (d, eq-eqb (n .family) (getD w 1 0) same, eq-eqb (refusalOf n) 0 asked, f)
+
+    -- by the form
+    pub query-path : getD w 5 0 ≡ 0 → x ≡ pathOf first w k (bitsLeft s) → x ≡ query w k n
+    query-path z d = query-shown (ap formOf z) (d ∙ ap (pathOf first w k) (ap bitsLeft (prefix-bits p n s e h .1) ∙ bitsLeft-start n asked))
+
+    pub query-kept : (getD w 5 0 ≡ 0 → ⊥) → x ≡ pathOf second w k (netBits n) → x ≡ query w k n
+    query-kept nz d = query-shown (form-some (getD w 5 0) nz) d
 
 -- The answers, by what is shown.
 module _ (w : List ℕ) (k : ℕ) (n : Net) (s t : Shown) (e : s ≡ lookup w k n) (h : s ≡ t) where

@@ -1,36 +1,30 @@
 -- Where a path begins, by the tests of the code: the first eight bits of a query, the word of an index, and the root. Assumes nothing.
-use mathlib.Core.Bool.{Bool, true, false, cond, _&&_, _||_, and-false}
+use mathlib.Core.Bool.{Bool, true, false, _&&_, and-false}
 use mathlib.Core.List.{List, [], _∷_, _++_}
 use mathlib.Core.Path.{_≡_, refl, ap, sym, _∙_}
-use Prim.Native.Nat.{ℕ, zero, suc, _+_, _-_, _*_, _/_, _%_, _^_, _≤_, _<_}
+use Prim.Native.Nat.{ℕ, zero, suc, _+_, _-_, _/_, _%_, _^_, _≤_, _<_}
 use native.Mathlib.Nat.{pow-suc}
 use native.Mathlib.Numerals.{add-one}
 use native.Mathlib.Omega.{arith}
-use lib.Dec.{eqb, leb, ltb}
-use lib.ListN.{length, getD, take, drop, length-append}
+use lib.Dec.{leb}
+use lib.ListN.{length, getD, take, drop}
 use lib.Seq.{take-suc, drop-cons}
 use borrow.Author.Tests.{le-leb, lt-leb, leb-true, eq-eqb, ne-eqb, lt-ltb, le-ltb}
 use Rattle.nets.specs.Bits.{Bits, digit, val}
 use Rattle.nets.specs.Networks.{bitsLeft}
 use Rattle.nets.specs.declared.PrefixBits.{PrefixBits}
 use Rattle.nets.specs.declared.Refusal.the-variants.{Damaged}
-use Rattle.nets.proofs.Handing.{Hands, length-bitsLeft}
+use Rattle.nets.proofs.Handing.{Hands}
 use Rattle.nodes.specs.Words.{wordAt}
-use Rattle.pool_state.specs.Decode.{recordAt, base, leastWords}
+use Rattle.nodes.specs.Parse.{Room}
+use Rattle.pool_state.specs.Kept.{first}
+use Rattle.pool_state.specs.Decode.{recordAt, base, leastWords, isHeader}
 use Rattle.pool_state.specs.Rules.{tagIn}
-use Rattle.lookup.specs.Walks.{walk, walkFrom, isNode, nodeShows, standsOn}
-use Rattle.lookup.specs.Rules.{pathOf}
-use Rattle.lookup.specs.declared.walking.Shown.{Shown}
+use Rattle.pool_state.proofs.Header.{isHeader-header, header-room}
+use Rattle.trie_index.proofs.Ways.{val-last}
+use Rattle.lookup.specs.Walks.{walk, walkFrom, nodeShows, standsOn}
+use Rattle.lookup.specs.Rules.{fromRoot, fromIndex, pathOf}
 use Rattle.lookup.specs.declared.walking.Shown.the-variants.{Member, Nothing, Refused}
-
--- One more bit behind a number.
-val-last : (p : Bits) (b : Bool) → val (p ++ (b ∷ [])) ≡ val p + val p + digit b
-val-last [] false = refl
-val-last [] true = refl
-val-last (false ∷ p) b = omega (arith, val-last p b)
-val-last (true ∷ p) b =
-    let e : length (p ++ (b ∷ [])) ≡ suc (length p) = omega (arith, length-append p (b ∷ [])) in
-    omega (arith, val-last p b, pow-suc 2 (length p), ap (λ k. 2 ^ k) e)
 
 -- The loop: k bits of the query q are taken, as the number byte, and those in left are still to come.
 pub record Taken (q : Bits) (all k byte : ℕ) (left : PrefixBits) : Type 0 where
@@ -100,7 +94,7 @@ module _ (w : List ℕ) (b n d i : ℕ) (q : Bits) where
   unfolding nodeShows
   node-walk e f = rw (f, eq-eqb d 8 e)
 
-  pub node-member : (d ≡ 8 → ⊥) → wordAt w b i ≡ 0 → Member d ≡ nodeShows w b n d i q
+  pub node-member : (d ≡ 8 → ⊥) → wordAt w b i ≡ 0 → Member d (d + 1) ≡ nodeShows w b n d i q
   unfolding nodeShows
   node-member ne z = rw (ne-eqb d 8 ne, eq-eqb (wordAt w b i) 0 z)
 
@@ -152,31 +146,35 @@ module _ (w : List ℕ) (b n r x : ℕ) (q : Bits) where
     unfolding standsOn
     word-absent a c = rw (le-leb 16 x a, le-leb x 24 c)
 
--- A word of an index, by where it is found.
-pub index-word : (w : List ℕ) (b n root t : ℕ) (q : Bits) {m v : ℕ} {p : Bits} → m ≡ leastWords (getD w 2 0) (getD w 3 0) t → v ≡ val (take 8 q) → p ≡ drop 8 q
-    → standsOn w b n root (getD w (m + v) 0) p ≡ standsOn w b n root (getD w (leastWords (getD w 2 0) (getD w 3 0) t + val (take 8 q)) 0) (drop 8 q)
-index-word w b n root t q em ev ep = rw (em, ev, ep)
+-- The nodes and the root of a set, by where they are found.
+module _ (w : List ℕ) (k : ℕ) {b n r : ℕ} (g : (b ≡ base (getD w 2 0)) × (n ≡ getD w 3 0) × (r ≡ getD w (recordAt k) 0)) where
+  pub ground-room : isHeader w ≡ true → Room w b n
+  ground-room h = rw (g .0, g .1) (header-room (isHeader-header w h))
+
+  pub root-walk : (q : Bits) → walkFrom w b n q r ≡ fromRoot w k q
+  root-walk q = rw (g .0, g .1, g .2)
+
+  pub index-word : (t : ℕ) (q : Bits) {m v : ℕ} {p : Bits} → m ≡ leastWords (getD w 2 0) n t → v ≡ val (take 8 q) → p ≡ drop 8 q
+      → standsOn w b n r (getD w (m + v) 0) p ≡ fromIndex w k (leastWords (getD w 2 0) (getD w 3 0) t) q
+  index-word t q em ev ep = rw (em, ev, ep, g .0, g .1, g .2)
 
 -- The tests of a path.
 module _ (w : List ℕ) (k : ℕ) (q : Bits) where
-  abbrev fromRoot : Shown
-  fromRoot = walkFrom w (base (getD w 2 0)) (getD w 3 0) q (getD w (recordAt k) 0)
-
-  pub path-plain : tagIn w k ≡ 0 → fromRoot ≡ pathOf w k q
+  pub path-plain : tagIn w k ≡ 0 → fromRoot w k q ≡ pathOf first w k q
   unfolding pathOf
   path-plain e = rw (eq-eqb (tagIn w k) 0 e)
 
   module _ (some : tagIn w k ≡ 0 → ⊥) where
-    pub path-short : length q < 8 → fromRoot ≡ pathOf w k q
+    pub path-short : length q < 8 → fromRoot w k q ≡ pathOf first w k q
     unfolding pathOf
     path-short lt = rw (ne-eqb (tagIn w k) 0 some, lt-ltb (length q) 8 lt)
 
     module _ (long : 8 ≤ length q) where
-      pub path-damaged : getD w 4 0 < tagIn w k → Refused Damaged ≡ pathOf w k q
+      pub path-damaged : getD w 4 0 < tagIn w k → Refused Damaged ≡ pathOf first w k q
       unfolding pathOf
       path-damaged lt = rw (ne-eqb (tagIn w k) 0 some, le-ltb (length q) 8 long, lt-leb (tagIn w k) (getD w 4 0) lt)
 
       pub path-index : tagIn w k ≤ getD w 4 0 → {m v x : ℕ} {p : Bits} → m ≡ leastWords (getD w 2 0) (getD w 3 0) (tagIn w k - 1) → v ≡ val (take 8 q) → x ≡ getD w (m + v) 0 → p ≡ drop 8 q
-          → standsOn w (base (getD w 2 0)) (getD w 3 0) (getD w (recordAt k) 0) x p ≡ pathOf w k q
+          → standsOn w (base (getD w 2 0)) (getD w 3 0) (getD w (recordAt k) 0) x p ≡ pathOf first w k q
       unfolding pathOf
       path-index le em ev ex ep = rw (ne-eqb (tagIn w k) 0 some, le-ltb (length q) 8 long, le-leb (tagIn w k) (getD w 4 0) le, ex, em, ev, ep)

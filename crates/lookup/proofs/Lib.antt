@@ -5,5 +5,6 @@ pub mod Cuts
 pub mod Asked
 pub mod Replies
 pub mod Searched
+pub mod Seconds
 pub mod OnLists
 pub mod Examples

@@ -1,15 +1,14 @@
 -- On sound words each lookup is the list's: the number by the state alone, and the member, the truth, the steps or the emptiness by the set's list; the report is that of the query. Assumes nothing.
-use mathlib.Core.Bool.{Bool, true, false, not, cond, _&&_, _||_, false≢true}
+use mathlib.Core.Bool.{Bool, true, false, not, cond, _||_, false≢true}
 use mathlib.Core.List.{List, [], _∷_}
 use mathlib.Core.Path.{_≡_, refl, ap, sym, _∙_}
 use Prim.Native.Nat.{ℕ, suc, _+_, _≤_, _<_}
 use native.Mathlib.Nat.{zero-add, add-zero}
-use native.Mathlib.Numerals.{add-one}
 use native.Mathlib.Omega.{arith}
 use lib.Dec.{eqb, leb, ltb}
 use lib.ListN.{length, getD, take, drop, take-append-drop}
 use lib.Seq.{take-take, length-take-le}
-use borrow.Author.Tests.{eqb-false, ltb-true, ltb-false, leb-false, le-leb, lt-leb, eqb-true}
+use borrow.Author.Tests.{eqb-false, ltb-true, ltb-false, leb-false, le-leb, lt-leb, eqb-true, ne-eqb}
 use Rattle.nets.specs.Bits.{Bits, digit, val, leads, bits}
 use Rattle.nets.specs.Tries.{none, listOf, trieOf}
 use Rattle.nets.specs.TrieOps.{searchT, stepsT}
@@ -19,33 +18,38 @@ use Rattle.nets.specs.Networks.{width, address, netBits, netFrom, refusalOf, wi
 use Rattle.nets.specs.declared.Net.{Net}
 use Rattle.nets.specs.declared.Refusal.{Refusal}
 use Rattle.nets.specs.declared.Refusal.the-variants.{Damaged, NoSet, WrongFamily, BadNetwork}
-use Rattle.nets.proofs.Strings.{and-left, leads-head, leads-tail, leads-length}
+use Rattle.nets.proofs.Strings.{leads-head, leads-tail, leads-length}
 use Rattle.nets.proofs.Numbers.{length-netBits, bits-val}
 use Rattle.nets.proofs.Order.{val-high}
 use Rattle.nets.proofs.TrieOf.{listOf-trieOf}
 use Rattle.nets.proofs.Lookups.{supernetL-found, searchT-listOf}
-use Rattle.nets.proofs.Steps.{stepsT-listOf, stepsL-found}
-use Rattle.pool_state.specs.States.{State, held, indexedOf}
-use Rattle.pool_state.specs.Kept.{indexL}
-use Rattle.pool_state.specs.Decode.{recordAt, base, tagOf, indexesAt, decode, sound}
+use Rattle.nets.proofs.Steps.{stepsT-listOf}
+use Rattle.pool_state.specs.States.{State, indexedOf}
+use Rattle.pool_state.specs.Kept.{Form, first, second, heldL, indexL}
+use Rattle.pool_state.specs.Decode.{recordAt, base, tagOf, indexesAt, rootAt, decode, sound}
 use Rattle.pool_state.specs.Rules.{firstNode, tagIn}
 use Rattle.pool_state.specs.Steps.{indexIn}
 use Rattle.pool_state.specs.Changes.{setAt, listAt, netRules}
-use Rattle.pool_state.proofs.Claims.{isList-listAt}
-use Rattle.pool_state.proofs.Holds.{rootAt-some}
+use Rattle.pool_state.proofs.Claims.{isList-listAt, isState-sets}
+use Rattle.pool_state.proofs.Kept.{heldL-none}
+use Rattle.pool_state.proofs.Holds.{rootAt-some, firstNode-is}
 use Rattle.pool_state.proofs.Indexed.{indexes-tag, indexes-at, indexed-before}
 use Rattle.pool_state.proofs.Whole.{HeaderOf, decode-whole}
-use Rattle.pool_state.proofs.Decoded.{decode-header, decode-state, decode-root, decode-parts}
+use Rattle.pool_state.proofs.Decoded.{decode-header, decode-state, decode-root, decode-list}
 use Rattle.pool_state.proofs.OnTries.{decode-at}
+use Rattle.pool_state.proofs.OnKept.{decode-kept}
+use Rattle.branch_points.specs.BranchPoints.{keptStepsL}
+use Rattle.branch_points.proofs.Steps.{keptStepsL-le}
 use Rattle.lookup.specs.Walks.{walkFrom, standsOn}
-use Rattle.lookup.specs.Rules.{unsought, unheld, onRoot, pathOf, query, lookup, memberOf, isMember, supernetRule, containsRule, emptyAt, emptyRule, setNo, lookupNo, foundAs}
+use Rattle.lookup.specs.Rules.{unsought, unheld, onRoot, pathOf, query, lookup, memberOf, isMember, supernetRule, containsRule, emptyAt, emptyRule, setNo, lookupNo, stepsOf, foundAs}
 use Rattle.lookup.specs.declared.walking.Shown.{Shown}
 use Rattle.lookup.specs.declared.walking.Shown.the-variants.{Refused}
 use Rattle.nodes.specs.Words.{Has}
 use Rattle.nodes.proofs.Has.{has-at}
 use Rattle.trie_index.specs.Index.{standing, indexT}
 use Rattle.trie_index.proofs.Fill.{length-fill, getD-fill}
-use Rattle.lookup.proofs.Searched.{shown, At, rootAt-node, walkFrom-search, standing-search}
+use Rattle.lookup.proofs.Searched.{shown, At, walkFrom-search, standing-search}
+use Rattle.lookup.proofs.Seconds.{kept-search}
 
 -- The member that is found is the query, cut to the member's length.
 take-leads : (p q : Bits) → leads p q ≡ true → take (length p) q ≡ p
@@ -64,6 +68,12 @@ trie-nil : trieOf [] ≡ none
 unfolding trieOf
 trie-nil = refl
 
+-- The second form never counts more nodes than the first.
+pub stepsOf-le : (F : Form) (l : List Bits) (q : Bits) → stepsOf F l q ≤ stepsL l q
+unfolding stepsOf
+stepsOf-le first l q = omega arith
+stepsOf-le second l q = keptStepsL-le l q
+
 module _ (w : List ℕ) (S : State) (e : decode w ≡ sound S) (k : ℕ) where
   head : HeaderOf w S
   head = decode-header w S e
@@ -79,26 +89,41 @@ module _ (w : List ℕ) (S : State) (e : decode w ≡ sound S) (k : ℕ) where
   list-of : listOf (trieOf (listAt S k)) ≡ listAt S k
   list-of = listOf-trieOf (width (S .family)) (listAt S k) (isList-listAt S k (decode-state w S e))
 
-  -- where a member of length d is found, d + 1 nodes are read
-  steps-found : (q p : Bits) → supernetL (listAt S k) q ≡ found p → stepsL (listAt S k) q ≡ suc (length p)
-  steps-found q p h = ap (λ l. stepsL l q) (sym list-of) ∙ stepsL-found (trieOf (listAt S k)) q p (ap (λ l. supernetL l q) list-of ∙ h)
-
   module _ (lt : k < length (S .sets)) where
     one : 1 ≤ firstNode k 1 (S .sets)
-    one = omega (arith, decode-parts w S e k lt .1)
+    one = omega (arith, firstNode-is (S .form) (S .family) k 1 (S .sets) (isState-sets S (decode-state w S e)) lt)
 
-    root-at : (trieOf (listAt S k) ≡ none → ⊥) → At w (base (getD w 2 0)) (getD w 3 0) (getD w (recordAt k) 0 + 0) (trieOf (listAt S k))
-    root-at ne =
-        let s = decode-at w S e k lt in
+    -- the root's number is 0 or a node's, and 0 exactly where the list is empty
+    root-sound : (getD w (recordAt k) 0 ≤ getD w 3 0) × (eqb (getD w (recordAt k) 0) 0 ≡ eqb (length (listAt S k)) 0)
+    root-sound = rw (head .nodes, decode-root w S e k lt) (go (listAt S k) (decode-list w S e k lt .within))
+      where
+        i : ℕ
+        i = firstNode k 1 (S .sets)
+
+        go : (l : List Bits) → i + heldL (S .form) l ≤ suc (S .nodes) → (rootAt i l ≤ S .nodes) × (eqb (rootAt i l) 0 ≡ eqb (length l) 0)
+        go [] h = (omega arith, refl)
+        go (p ∷ l) h =
+            let some : heldL (S .form) (p ∷ l) ≡ 0 → ⊥ = λ z. let x = heldL-none (S .form) (p ∷ l) z in let y : _≡_ {A = ℕ} 0 1 = cc in omega arith in
+            (omega (arith, some), ne-eqb i 0 (omega (arith, one)) ∙ sym (ne-eqb (suc (length l)) 0 (omega arith)))
+
+    path-second : S .form ≡ second → (q : Bits) → pathOf second w k q ≡ shown 0 (supernetL (listAt S k) q) (keptStepsL (listAt S k) q)
+    unfolding pathOf
+    path-second form q =
+        rw (head .family, head .sets, head .nodes, decode-root w S e k lt)
+        (kept-search one (listAt S k) q (isList-listAt S k (decode-state w S e)) (decode-kept w S e form k lt))
+
+    root-at : S .form ≡ first → (trieOf (listAt S k) ≡ none → ⊥) → At w (base (getD w 2 0)) (getD w 3 0) (getD w (recordAt k) 0 + 0) (trieOf (listAt S k))
+    root-at form ne =
+        let s = decode-at w S e form k lt in
         let z : listAt S k ≡ [] → ⊥ = λ q. ne (ap trieOf q ∙ trie-nil) in
         rw (add-zero (getD w (recordAt k) 0), head .sets, head .nodes, decode-root w S e k lt, rootAt-some (firstNode k 1 (S .sets)) (listAt S k) z)
         (record { one = one; within = s .within; has = s .has })
 
-    walk-sound : (q : Bits) → walkFrom w (base (getD w 2 0)) (getD w 3 0) q (getD w (recordAt k) 0) ≡ shown 0 (supernetL (listAt S k) q) (stepsL (listAt S k) q)
-    walk-sound q =
+    walk-sound : S .form ≡ first → (q : Bits) → walkFrom w (base (getD w 2 0)) (getD w 3 0) q (getD w (recordAt k) 0) ≡ shown 0 (supernetL (listAt S k) q) (stepsL (listAt S k) q)
+    walk-sound form q =
         let t = trieOf (listAt S k) in
         rw (head .sets, head .nodes, decode-root w S e k lt)
-        (walkFrom-search one (listAt S k) q (decode-at w S e k lt)
+        (walkFrom-search one (listAt S k) q (decode-at w S e form k lt)
         ∙ rw (← searchT-listOf q t, ← stepsT-listOf q t) (ap (λ l. shown 0 (supernetL l q) (stepsL l q)) list-of))
 
     -- an indexed set: its tag, and the word of its index for the first eight bits of a query
@@ -132,19 +157,19 @@ module _ (w : List ℕ) (S : State) (e : decode w ≡ sound S) (k : ℕ) where
           ∙ ap (λ v. standing (bits 8 v) 0 0 (trieOf (listAt S k))) (zero-add (val (take 8 q)))
           ∙ ap (λ p. standing p 0 0 (trieOf (listAt S k))) (bits-val 8 (take 8 q) n)
 
-      index-sound : (q : Bits) → 8 ≤ length q → standsOn w (base (getD w 2 0)) (getD w 3 0) (getD w (recordAt k) 0) (getD w (indexIn w k + val (take 8 q)) 0) (drop 8 q)
+      index-sound : S .form ≡ first → (q : Bits) → 8 ≤ length q → standsOn w (base (getD w 2 0)) (getD w 3 0) (getD w (recordAt k) 0) (getD w (indexIn w k + val (take 8 q)) 0) (drop 8 q)
           ≡ shown 0 (supernetL (listAt S k) q) (stepsL (listAt S k) q)
-      index-sound q le =
+      index-sound form q le =
           let t = trieOf (listAt S k) in
           let n : length (take 8 q) ≡ 8 = length-take-le 8 q le in
           rw (word-is q le)
-          (standing-search w (base (getD w 2 0)) (getD w 3 0) (getD w (recordAt k) 0) (take 8 q) (drop 8 q) 0 0 t (omega (arith, n)) root-at
+          (standing-search w (base (getD w 2 0)) (getD w 3 0) (getD w (recordAt k) 0) (take 8 q) (drop 8 q) 0 0 t (omega (arith, n)) (root-at form)
           ∙ ap (λ p. shown 0 (searchT p t) (stepsT p t)) (take-append-drop 8 q)
           ∙ rw (← searchT-listOf q t, ← stepsT-listOf q t) (ap (λ l. shown 0 (supernetL l q) (stepsL l q)) list-of))
 
-    path-sound : (q : Bits) → pathOf w k q ≡ shown 0 (supernetL (listAt S k) q) (stepsL (listAt S k) q)
+    path-first : S .form ≡ first → (q : Bits) → pathOf first w k q ≡ shown 0 (supernetL (listAt S k) q) (stepsL (listAt S k) q)
     unfolding pathOf
-    path-sound q = go (eqb (tagIn w k) 0) (ltb (length q) 8) refl refl
+    path-first form q = go (eqb (tagIn w k) 0) (ltb (length q) 8) refl refl
       where
         go : (a c : Bool) → eqb (tagIn w k) 0 ≡ a → ltb (length q) 8 ≡ c
             → cond (a || c) (walkFrom w (base (getD w 2 0)) (getD w 3 0) q (getD w (recordAt k) 0))
@@ -152,18 +177,23 @@ module _ (w : List ℕ) (S : State) (e : decode w ≡ sound S) (k : ℕ) where
             (standsOn w (base (getD w 2 0)) (getD w 3 0) (getD w (recordAt k) 0) (getD w (indexIn w k + val (take 8 q)) 0) (drop 8 q))
             (Refused Damaged))
             ≡ shown 0 (supernetL (listAt S k) q) (stepsL (listAt S k) q)
-        go true c f g = walk-sound q
-        go false true f g = walk-sound q
+        go true c f g = walk-sound form q
+        go false true f g = walk-sound form q
         go false false f g =
             let some : tagIn w k ≡ 0 → ⊥ = eqb-false (tagIn w k) 0 f in
-            rw (le-leb (tagIn w k) (getD w 4 0) (tag-few some)) (index-sound some q (ltb-false (length q) 8 g))
+            rw (le-leb (tagIn w k) (getD w 4 0) (tag-few some)) (index-sound some form q (ltb-false (length q) 8 g))
 
-    root-sound : (getD w (recordAt k) 0 ≤ getD w 3 0) × (eqb (getD w (recordAt k) 0) 0 ≡ eqb (length (listAt S k)) 0)
-    root-sound = rw (head .nodes, decode-root w S e k lt) (rootAt-node one (listAt S k) (decode-at w S e k lt))
+    path-sound : (q : Bits) → pathOf (S .form) w k q ≡ shown 0 (supernetL (listAt S k) q) (stepsOf (S .form) (listAt S k) q)
+    unfolding stepsOf
+    path-sound q = go (S .form) refl
+      where
+        go : (F : Form) → S .form ≡ F → pathOf F w k q ≡ shown 0 (supernetL (listAt S k) q) (stepsOf F (listAt S k) q)
+        go first form = path-first form q
+        go second form = path-second form q
 
   -- What the path of a query shows, and the whole lookup: by whether the set is unknown, whether the family is the pool's, and whether the query is a network.
   abbrev steps : Net → ℕ
-  steps n = stepsL (listAt S k) (netBits n)
+  steps n = stepsOf (S .form) (listAt S k) (netBits n)
 
   abbrev path : Net → Shown
   path n = shown 0 (supernetL (listAt S k) (netBits n)) (steps n)
@@ -177,7 +207,7 @@ module _ (w : List ℕ) (S : State) (e : decode w ≡ sound S) (k : ℕ) where
     where
       go : (a : Bool) → leb (length (S .sets)) k ≡ a → cond a (Refused NoSet) (query w k n) ≡ whole n a (eqb (n .family) (S .family)) (eqb (refusalOf n) 0)
       go true h = refl
-      go false h = rw (head .family, path-sound (leb-false (length (S .sets)) k h) (netBits n))
+      go false h = rw (head .family, head .form, path-sound (leb-false (length (S .sets)) k h) (netBits n))
 
   -- an answer by what is shown is an answer by the table
   module _ {A : Type 0} (n : Net) (z v : A) (F : Shown → ℕ × A) (no-value : (r : Refusal) → F (Refused r) ≡ (number r, z)) (value : n .family ≡ S .family → refusalOf n ≡ 0 → F (path n) ≡ (0, v)) where
@@ -194,27 +224,26 @@ module _ (w : List ℕ) (S : State) (e : decode w ≡ sound S) (k : ℕ) where
         go false true true h g = value (h refl) (g refl)
 
   pub supernetRule-sound : (n : Net) → supernetRule w k n
-      ≡ answered (lookupNo S k n) unsought (foundAs (S .family) (supernetL (listAt S k) (netBits n)) (stepsL (listAt S k) (netBits n)) (hasBitPast n))
+      ≡ answered (lookupNo S k n) unsought (foundAs (S .family) (supernetL (listAt S k) (netBits n)) (stepsOf (S .form) (listAt S k) (netBits n)) (hasBitPast n))
   unfolding supernetRule
   supernetRule-sound n =
-      by-table n unsought (foundAs (S .family) (supernetL (listAt S k) (netBits n)) (stepsL (listAt S k) (netBits n)) (hasBitPast n)) (memberOf n) (λ r. refl)
+      by-table n unsought (foundAs (S .family) (supernetL (listAt S k) (netBits n)) (stepsOf (S .form) (listAt S k) (netBits n)) (hasBitPast n)) (memberOf n) (λ r. refl)
       (λ f r. go f r (supernetL (listAt S k) (netBits n)) refl)
     where
       go : n .family ≡ S .family → refusalOf n ≡ 0 → (x : Found) → supernetL (listAt S k) (netBits n) ≡ x → memberOf n (shown 0 x (steps n)) ≡ (0, foundAs (S .family) x (steps n) (hasBitPast n))
       go f r missing h = rw (zero-add (steps n))
       go f r (found p) h =
-          let e : length p + 1 ≡ steps n = add-one (length p) ∙ sym (steps-found (netBits n) p h) in
-          rw (zero-add (length p), e, cleared-cut n p r (supernetL-found (listAt S k) (netBits n) p h .1), f)
+          rw (zero-add (length p), zero-add (steps n), cleared-cut n p r (supernetL-found (listAt S k) (netBits n) p h .1), f)
 
   pub containsRule-sound : (n : Net) → containsRule w k n
-      ≡ answered (lookupNo S k n) unheld (containsL (listAt S k) (netBits n), (stepsL (listAt S k) (netBits n), hasBitPast n))
+      ≡ answered (lookupNo S k n) unheld (containsL (listAt S k) (netBits n), (stepsOf (S .form) (listAt S k) (netBits n), hasBitPast n))
   unfolding containsRule containsL
   containsRule-sound n =
-      by-table n unheld (containsL (listAt S k) (netBits n), (stepsL (listAt S k) (netBits n), hasBitPast n)) (isMember n) (λ r. refl) (λ f r. go (supernetL (listAt S k) (netBits n)) refl)
+      by-table n unheld (containsL (listAt S k) (netBits n), (stepsOf (S .form) (listAt S k) (netBits n), hasBitPast n)) (isMember n) (λ r. refl) (λ f r. go (supernetL (listAt S k) (netBits n)) refl)
     where
       go : (x : Found) → supernetL (listAt S k) (netBits n) ≡ x → isMember n (shown 0 x (steps n)) ≡ (0, (isFound x, (steps n, hasBitPast n)))
       go missing h = rw (zero-add (steps n))
-      go (found p) h = rw (zero-add (length p)) (ap (λ s. (0, (true, (s, hasBitPast n)))) (add-one (length p) ∙ sym (steps-found (netBits n) p h)))
+      go (found p) h = rw (zero-add (steps n))
 
   pub emptyRule-sound : emptyRule w k ≡ answered (setNo S k) false (eqb (length (listAt S k)) 0)
   unfolding emptyRule

@@ -50,6 +50,6 @@ unfolding containsRule supernetRule
 contains-supernet w k n = go (lookup w k n)
   where
     go : (s : Shown) → isMember n s ≡ (memberOf n s .0, (memberOf n s .1 .0, memberOf n s .1 .1 .1))
-    go (Member d) = refl
+    go (Member d s) = refl
     go (Nothing s) = refl
     go (Refused r) = refl

@@ -1,5 +1,5 @@
 -- On words that hold a trie the walk finds what the trie's search finds, and reads the nodes on its way, by induction on the bits over the child on the side of the bit. Assumes nothing.
-use mathlib.Core.Bool.{Bool, true, false, cond, _&&_}
+use mathlib.Core.Bool.{Bool, true, false, cond, _&&_, false≢true}
 use mathlib.Core.List.{List, [], _∷_, _++_}
 use mathlib.Core.Path.{_≡_, refl, ap, sym, _∙_}
 use Prim.Native.Nat.{ℕ, suc, _+_, _-_, _*_, _/_, _%_, _≤_, _<_}
@@ -12,6 +12,7 @@ use Rattle.nets.specs.Bits.{Bits}
 use Rattle.nets.specs.Tries.{Trie, none, node, leaf, size, bare, side, fork, insertT, trieOf}
 use Rattle.nets.specs.Lists.{Found, found, missing}
 use Rattle.nets.specs.TrieOps.{searchT, under, stepsT}
+use Rattle.nets.proofs.Levels.{side-same}
 use Rattle.nodes.specs.Words.{Has, link0, link1, word, enc, place, wordAt}
 use Rattle.nodes.specs.Parse.{Stands}
 use Rattle.nodes.proofs.Has.{has-at}
@@ -25,17 +26,36 @@ use Rattle.lookup.proofs.Turns.{walkFrom-none, walkFrom-node, areNodes-
 
 -- what a search that begins d bits down and goes through s nodes shows
 abbrev pub shown : ℕ → Found → ℕ → Shown
-shown d (found p) s = Member (d + length p)
+shown d (found p) s = Member (d + length p) (d + s)
 shown d missing s = Nothing (d + s)
 
 shown-under : (c : Bool) (d : ℕ) (f : Found) (s : ℕ) → shown (d + 1) f s ≡ shown d (under c f) (suc s)
-shown-under c d (found p) s = let e : d + 1 + length p ≡ d + suc (length p) = omega arith in ap Member e
+shown-under c d (found p) s =
+    let e : d + 1 + length p ≡ d + suc (length p) = omega arith in
+    let f : d + 1 + s ≡ d + suc s = omega arith in
+    ap (λ n. Member n (d + 1 + s)) e ∙ ap (Member (d + suc (length p))) f
 shown-under c d missing s = let e : d + 1 + s ≡ d + suc s = omega arith in ap Nothing e
 
 search-none : (q : Bits) → (searchT q none ≡ missing) × (stepsT q none ≡ 0)
 unfolding searchT stepsT
 search-none [] = (refl, refl)
 search-none (b ∷ q) = (refl, refl)
+
+-- a leaf is found, and is the one node read
+leaf-search : (q : Bits) (l r : Trie) → bare l r ≡ true → searchT q (node l r) ≡ found []
+unfolding searchT
+leaf-search [] l r e = rw e
+leaf-search (c ∷ q) l r e = rw e
+
+leaf-steps : (q : Bits) (l r : Trie) → bare l r ≡ true → stepsT q (node l r) ≡ 1
+unfolding stepsT
+leaf-steps [] l r e = refl
+leaf-steps (c ∷ q) none none e = rw (side-same c none, search-none q .1)
+leaf-steps (c ∷ q) none (node x y) e = absurd (false≢true e)
+leaf-steps (c ∷ q) (node x y) r e = absurd (false≢true e)
+
+member-here : (d : ℕ) → Member d (d + 1) ≡ shown d (found []) 1
+member-here d = ap (λ n. Member n (d + 1)) (sym (add-zero d))
 
 search-on : (c : Bool) (q : Bits) (l r : Trie) (d : ℕ) → bare l r ≡ false → shown d (searchT (c ∷ q) (node l r)) (stepsT (c ∷ q) (node l r)) ≡ shown d (under c (searchT q (side c l r))) (suc (stepsT q (side c l r)))
 unfolding searchT stepsT
@@ -76,25 +96,25 @@ toward-child true l none i d q next f = rw (word-second l none, search-none q .0
 toward-child true l (node x y) i d q next f = rw (word-second l (node x y), ne-eqb (1 + size l) 0 (omega arith)) (f (some x y))
 
 -- what a node shows is what the search finds, where the way on does
-shows-search : (w : List ℕ) (b n d i : ℕ) (l r : Trie) (s : Shown) (f : Found) (k : ℕ) → At w b n i (node l r) → s ≡ shown d f k
+shows-search : (w : List ℕ) (b n d i : ℕ) (l r : Trie) (s : Shown) (f : Found) (k : ℕ) → At w b n i (node l r) → s ≡ shown d f k → (bare l r ≡ true → k ≡ 1)
     → shows n d i (wordAt w b i) s ≡ shown d (cond (bare l r) (found []) f) k
-shows-search w b n d i l r s f k h e = rw (split h .root, word-leaf l r, at-nodes h, e) (go (bare l r))
+shows-search w b n d i l r s f k h e one = rw (split h .root, word-leaf l r, at-nodes h, e) (go (bare l r) refl)
   where
-    go : (t : Bool) → cond t (Member d) (shown d f k) ≡ shown d (cond t (found []) f) k
-    go true = ap Member (sym (add-zero d))
-    go false = refl
+    go : (t : Bool) → bare l r ≡ t → cond t (Member d (d + 1)) (shown d f k) ≡ shown d (cond t (found []) f) k
+    go true z = rw (one z) (member-here d)
+    go false z = refl
 
 module _ (w : List ℕ) (b n : ℕ) where
   walk-search : (q : Bits) (t : Trie) (d i : ℕ) → (t ≡ none → ⊥) → At w b n i t → walk w b n d i q ≡ shown d (searchT q t) (stepsT q t)
   unfolding searchT stepsT
   walk-search [] none d i ne h = absurd (ne refl)
-  walk-search [] (node l r) d i ne h = walk-shows w b n d i [] ∙ shows-search w b n d i l r (Nothing (d + 1)) missing 1 h refl
+  walk-search [] (node l r) d i ne h = walk-shows w b n d i [] ∙ shows-search w b n d i l r (Nothing (d + 1)) missing 1 h refl (λ z. refl)
   walk-search (c ∷ q) none d i ne h = absurd (ne refl)
   walk-search (c ∷ q) (node l r) d i ne h =
       let e = toward-child c l r i (d + 1) q (λ j. walk w b n (d + 1) j q) (λ so. walk-search q (side c l r) (d + 1) (i + step c l) so (at-child h c)) in
       walk-shows w b n d i (c ∷ q)
       ∙ shows-search w b n d i l r (onward w b n d i (c ∷ q)) (under c (searchT q (side c l r))) (suc (stepsT q (side c l r))) h
-      (rw (split h .root) (e ∙ shown-under c d (searchT q (side c l r)) (stepsT q (side c l r))))
+      (rw (split h .root) (e ∙ shown-under c d (searchT q (side c l r)) (stepsT q (side c l r)))) (leaf-steps (c ∷ q) l r)
 
 -- From the word of an index the same is found: of the bits p, eight with the d before, it says where the walk stands, and the bits q are still to come.
 standsOn-absent : (w : List ℕ) (b n r d : ℕ) (q : Bits) → d ≤ 8 → standsOn w b n r (absentAt d) q ≡ Nothing d
@@ -113,11 +133,6 @@ standsOn-node w b n root d r q le one in-n =
     off false e = refl
     off true e = lt-leb (32 * r + d) 24 (omega (arith, leb-true 16 (32 * r + d) e))
 
-leaf-search : (q : Bits) (l r : Trie) → bare l r ≡ true → searchT q (node l r) ≡ found []
-unfolding searchT
-leaf-search [] l r e = rw e
-leaf-search (c ∷ q) l r e = rw e
-
 module _ (w : List ℕ) (b n root : ℕ) where
   at-node : {i : ℕ} (l r : Trie) → At w b n i (node l r) → (1 ≤ i) × (i ≤ n)
   at-node l r h = (h .one, omega (arith, size-node h))
@@ -125,7 +140,7 @@ module _ (w : List ℕ) (b n root : ℕ) where
   leaf-shows : (d i : ℕ) (q p : Bits) (l r : Trie) → (d ≡ 8 → ⊥) → At w b n i (node l r) → bare l r ≡ true → nodeShows w b n d i q ≡ shown d (searchT p (node l r)) (stepsT p (node l r))
   unfolding nodeShows
   leaf-shows d i q p l r ne h e =
-      rw (ne-eqb d 8 ne, split h .root, word-leaf l r, e, leaf-search p l r e) (ap Member (sym (add-zero d)))
+      rw (ne-eqb d 8 ne, split h .root, word-leaf l r, e, leaf-search p l r e, leaf-steps p l r e) (member-here d)
 
   standing-step : (c : Bool) (p q : Bits) (d r : ℕ) (x y : Trie) → d < 8 → At w b n (root + r) (node x y)
       → standsOn w b n root (standing p (d + 1) (r + side c 1 (1 + size x)) (side c x y)) q ≡ shown (d + 1) (searchT (p ++ q) (side c x y)) (stepsT (p ++ q) (side c x y))
@@ -153,7 +168,7 @@ module _ (w : List ℕ) (b n root : ℕ) where
       (standing-search p q (d + 1) (r + side c 1 (1 + size x)) (side c x y) (omega arith) (λ ne. rw u (at-child (h (some x y)) c)))
 
 -- The root of a list.
-insertT-some : (p : Bits) (t : Trie) → insertT p t ≡ none → ⊥
+pub insertT-some : (p : Bits) (t : Trie) → insertT p t ≡ none → ⊥
 unfolding insertT
 insertT-some [] t e = some none none e
 insertT-some (b ∷ p) none e = some (side b (insertT p none) none) (side b none (insertT p none)) e
@@ -168,18 +183,11 @@ unfolding size
 size-some none ne = absurd (ne refl)
 size-some (node l r) ne = omega arith
 
-module _ {w : List ℕ} {b n f i : ℕ} (pos : 1 ≤ i) where
-  -- its number is 0 or a node's, and 0 exactly where the list is empty
-  pub rootAt-node : (l : List Bits) → Stands w b n f i (trieOf l) → (rootAt i l ≤ n) × (eqb (rootAt i l) 0 ≡ eqb (length l) 0)
-  unfolding trieOf
-  rootAt-node [] s = (omega arith, refl)
-  rootAt-node (p ∷ l) s =
-      (omega (arith, s .within, size-some (insertT p (trieOf l)) (insertT-some p (trieOf l))), ne-eqb i 0 (omega arith) ∙ sym (ne-eqb (suc (length l)) 0 (omega arith)))
-
-  -- from it the walk finds what the search in the list's trie finds
-  pub walkFrom-search : (l : List Bits) (q : Bits) → Stands w b n f i (trieOf l) → walkFrom w b n q (rootAt i l) ≡ shown 0 (searchT q (trieOf l)) (stepsT q (trieOf l))
-  unfolding trieOf
-  walkFrom-search [] q s = sym (walkFrom-none w b n q 0 refl) ∙ rw (search-none q .0, search-none q .1)
-  walkFrom-search (p ∷ l) q s =
-      sym (walkFrom-node w b n q i 0 refl (omega arith) (rootAt-node (p ∷ l) s .0))
-      ∙ walk-search w b n q (insertT p (trieOf l)) 0 i (insertT-some p (trieOf l)) (record { one = pos; within = s .within; has = s .has })
+-- from it the walk finds what the search in the list's trie finds
+pub walkFrom-search : {w : List ℕ} {b n f i : ℕ} → 1 ≤ i → (l : List Bits) (q : Bits) → Stands w b n f i (trieOf l) → walkFrom w b n q (rootAt i l) ≡ shown 0 (searchT q (trieOf l)) (stepsT q (trieOf l))
+unfolding trieOf
+walkFrom-search {w} {b} {n} pos [] q s = sym (walkFrom-none w b n q 0 refl) ∙ rw (search-none q .0, search-none q .1)
+walkFrom-search {w} {b} {n} {f} {i} pos (p ∷ l) q s =
+    let t = insertT p (trieOf l) in
+    sym (walkFrom-node w b n q i 0 refl (omega arith) (omega (arith, s .within, size-some t (insertT-some p (trieOf l)))))
+    ∙ walk-search w b n q t 0 i (insertT-some p (trieOf l)) (record { one = pos; within = s .within; has = s .has })

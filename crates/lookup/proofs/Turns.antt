@@ -71,7 +71,7 @@ module _ {w : List ℕ} {b n : ℕ} {s : Shown} {i d : ℕ} {left : PrefixBits} 
   here : shows n d i x (onward w b n d i (bitsLeft left)) ≡ s
   here = rw is (sym (walk-shows w b n d i (bitsLeft left)) ∙ g .rest)
 
-  pub down-leaf : x ≡ 0 → Member d ≡ s
+  pub down-leaf : x ≡ 0 → Member d (d + 1) ≡ s
   down-leaf z = rw (eq-eqb x 0 z) at here
 
   pub down-first : (x ≡ 0 → ⊥) → n < i + x % 2 → Refused Damaged ≡ s
@@ -162,7 +162,7 @@ module _ {w : List ℕ} {b n : ℕ} {s : Shown} {all p : ℕ} {left : PrefixBits
   pub seen-less : later .len < left .len
   seen-less = omega (arith, len-next left later bit (g .next))
 
-  pub seen-leaf : x ≡ 0 → Member (all - left .len) ≡ s
+  pub seen-leaf : x ≡ 0 → Member (all - left .len) (all - left .len + 1) ≡ s
   seen-leaf z = down-leaf (g .placed .down) (g .is ∙ placed-word (g .placed)) z
 
   module _ (nz : x ≡ 0 → ⊥) where

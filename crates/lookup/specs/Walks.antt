@@ -1,4 +1,4 @@
--- The walk of a lookup: down from a root's number by the bits of the query, one word a level.
+-- The walk of a lookup in the first form: down from a root's number by the bits of the query, one word a level.
 --
 --   childAt i x           the number of the child that stands x nodes behind node i: 0, the mark for absence, where x is 0
 --   walk w b n d i q      what node i of n shows, d bits down, where the bits q are still to come: a leaf is a member of length d, and down to here d + 1 nodes are read
@@ -28,7 +28,7 @@ toward c x = side c (x % 2) (x / 2)
 
 -- what the word x of node i shows, d bits down, where s is what the way on shows
 abbrev pub shows : ℕ → ℕ → ℕ → ℕ → Shown → Shown
-shows n d i x s = cond (eqb x 0) (Member d) (cond (areNodes n i x) s (Refused Damaged))
+shows n d i x s = cond (eqb x 0) (Member d (d + 1)) (cond (areNodes n i x) s (Refused Damaged))
 
 unfoldable pub walk : List ℕ → ℕ → ℕ → ℕ → ℕ → Bits → Shown
 walk w b n d i [] = shows n d i (wordAt w b i) (Nothing (d + 1))
@@ -44,7 +44,7 @@ isNode n i = leb 1 i && leb i n
 
 -- what the node i shows, of which the index says that it is d bits down: eight, and the walk goes on, or it is a leaf
 unfoldable pub nodeShows : List ℕ → ℕ → ℕ → ℕ → ℕ → Bits → Shown
-nodeShows w b n d i q = cond (eqb d 8) (walk w b n 8 i q) (cond (eqb (wordAt w b i) 0) (Member d) (Refused Damaged))
+nodeShows w b n d i q = cond (eqb d 8) (walk w b n 8 i q) (cond (eqb (wordAt w b i) 0) (Member d (d + 1)) (Refused Damaged))
 
 unfoldable pub standsOn : List ℕ → ℕ → ℕ → ℕ → ℕ → Bits → Shown
 standsOn w b n r x q =

@@ -1,4 +1,4 @@
-// Where the path of a query begins: at the root, or in an indexed set, for a query of eight bits or more, at their word of the index.
+// Where the path of a query begins in the first form: at the root, or in an indexed set, for a query of eight bits or more, at their word of the index.
 use crate::walking::Shown;
 use crate::walking::walk_down;
 use crate::walking::walk_from;
@@ -16,7 +16,8 @@ ghost use lib.ListN.{getD, take, drop};
 ghost use Rattle.nets.specs.Bits.{digit, val};
 ghost use Rattle.nets.specs.Networks.{bitsLeft};
 ghost use Rattle.nodes.specs.Parse.{Room};
-ghost use Rattle.pool_state.specs.Decode.{leastWords, isHeader};
+ghost use Rattle.pool_state.specs.Kept.{first};
+ghost use Rattle.pool_state.specs.Decode.{recordAt, base, leastWords, isHeader};
 ghost use Rattle.lookup.specs.Walks.{nodeShows, standsOn};
 ghost use Rattle.lookup.specs.Rules.{fromRoot, fromIndex, pathOf};
 
@@ -60,14 +61,14 @@ pub fn head(bits: PrefixBits) -> Opening
 
 // What node i shows, which the index says to be d bits down.
 fn node_shows(w: &[u32], b: usize, n: u32, d: u8, i: u32, len: u8, bits: PrefixBits) -> Shown
-    requires { ⌜ Room (now w) b n × (1 ≤ i) × (i ≤ n) × (bits .len + 8 ≡ len) × (len ≤ 128) ⌝ }
+    requires { ⌜ Room (now w) b n × (1 ≤ i) × (i ≤ n) × (bits .len + 8 ≡ len) × (len ≤ 128) × (d ≤ 8) ⌝ }
     ensures { λ r. ⌜ r ≡ nodeShows (now (w .entry)) b n d i (bitsLeft bits) ⌝ }
 {
     if d == 8 {
         return walk_down(w, b, n, i, len, bits);
     }
     if word_at(w, b, n, i) == 0 {
-        return Shown::Member(d);
+        return Shown::Member(d, d + 1);
     }
     Shown::Refused(Refusal::Damaged)
 }
@@ -97,14 +98,31 @@ pub fn stand_on(w: &[u32], b: usize, n: u32, root: u32, x: u32, len: u8, bits: P
     Shown::Nothing((x - 16) as u8)
 }
 
+// Where the nodes of the pool begin, how many there are, and the root of a set.
+pub struct Ground {
+    pub b: usize,
+    pub n: u32,
+    pub root: u32,
+}
+
+pub fn grounds(w: &[u32], set: u32) -> Ground
+    requires { ⌜ (isHeader (now w) ≡ true) × (set < getD (now w) 2 0) ⌝ }
+    ensures { λ r. ⌜ (r .b ≡ base (getD (now (w .entry)) 2 0)) × (r .n ≡ getD (now (w .entry)) 3 0) × (r .root ≡ getD (now (w .entry)) (recordAt set) 0) ⌝ }
+{
+    Ground {
+        b: HEAD + RECORD * (w[2] as usize),
+        n: w[3],
+        root: w[HEAD + RECORD * (set as usize)],
+    }
+}
+
 // What the path of these bits shows in a set from the root on.
 fn from_root(w: &[u32], set: u32, bits: PrefixBits) -> Shown
     requires { ⌜ (isHeader (now w) ≡ true) × (set < getD (now w) 2 0) × (bits .len ≤ 128) ⌝ }
     ensures { λ r. ⌜ r ≡ fromRoot (now (w .entry)) set (bitsLeft bits) ⌝ }
 {
-    let root = w[HEAD + RECORD * (set as usize)];
-    let b = HEAD + RECORD * (w[2] as usize);
-    walk_from(w, b, w[3], root, bits)
+    let g = grounds(w, set);
+    walk_from(w, g.b, g.n, g.root, bits)
 }
 
 // What it shows from the word of the index on.
@@ -112,18 +130,16 @@ fn from_index(w: &[u32], set: u32, tag: u32, bits: PrefixBits) -> Shown
     requires { ⌜ (isHeader (now w) ≡ true) × (set < getD (now w) 2 0) × (8 ≤ bits .len) × (bits .len ≤ 128) × (1 ≤ tag) × (tag ≤ getD (now w) 4 0) ⌝ }
     ensures { λ r. ⌜ r ≡ fromIndex (now (w .entry)) set (leastWords (getD (now (w .entry)) 2 0) (getD (now (w .entry)) 3 0) (tag - 1)) (bitsLeft bits) ⌝ }
 {
-    let root = w[HEAD + RECORD * (set as usize)];
-    let b = HEAD + RECORD * (w[2] as usize);
-    let n = w[3];
+    let g = grounds(w, set);
     let h = head(bits);
-    let at = least_words(w[2], n, tag - 1) + h.byte;
-    stand_on(w, b, n, root, w[at], bits.len, h.rest)
+    let at = least_words(w[2], g.n, tag - 1) + h.byte;
+    stand_on(w, g.b, g.n, g.root, w[at], bits.len, h.rest)
 }
 
 // What the path of these bits shows in a set.
 pub fn path(w: &[u32], set: u32, bits: PrefixBits) -> Shown
     requires { ⌜ (isHeader (now w) ≡ true) × (set < getD (now w) 2 0) × (bits .len ≤ 128) ⌝ }
-    ensures { λ r. ⌜ r ≡ pathOf (now (w .entry)) set (bitsLeft bits) ⌝ }
+    ensures { λ r. ⌜ r ≡ pathOf first (now (w .entry)) set (bitsLeft bits) ⌝ }
 {
     let tag = w[HEAD + RECORD * (set as usize) + 4];
     if tag == 0 {

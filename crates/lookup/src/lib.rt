@@ -10,12 +10,12 @@ use walking::lookup;
 use walking::root;
 ghost use mathlib.Core.Bool.{true};
 ghost use mathlib.Core.Path.{_≡_};
-ghost use Prim.Native.Nat.{_+_, _≤_};
 ghost use Rattle.nets.specs.Networks.{withLen, withLenNo, cleared, hasBitPast};
 ghost use Rattle.pool_state.specs.Rules.{toldAs};
 ghost use Rattle.lookup.specs.Rules.{supernetAs, containsAs, supernetRule, containsRule, emptyRule};
 
 pub mod beginning;
+mod second;
 pub mod walking;
 
 // What supernet answers: the member that contains the query, or that there is none; how many nodes were read; and whether a set bit past the query's length was cut.
@@ -31,14 +31,14 @@ pub enum Contained {
     Refused(Refusal),
 }
 
-// The member of that length around the query: it and each node above it were read.
-fn member(net: Net, len: u8) -> Covering
-    requires { ⌜ (withLenNo net len ≡ 0) × (len ≤ 128) ⌝ }
-    ensures { λ r. ⌜ supernetAs r ≡ (0, (true, (cleared (withLen net len), (len + 1, hasBitPast net)))) ⌝ }
+// The member of that length around the query, found in so many steps.
+fn member(net: Net, len: u8, steps: u8) -> Covering
+    requires { ⌜ withLenNo net len ≡ 0 ⌝ }
+    ensures { λ r. ⌜ supernetAs r ≡ (0, (true, (cleared (withLen net len), (steps, hasBitPast net)))) ⌝ }
 {
     let t = net.with_new_prefix(len);
     match t {
-        Taken::Network(m) => Covering::Member(m, len + 1, has_bit_past(net)),
+        Taken::Network(m) => Covering::Member(m, steps, has_bit_past(net)),
         Taken::Refused(no) => Covering::Refused(no),
     }
 }
@@ -49,7 +49,7 @@ pub fn supernet(pool: &[u32], set: u32, net: Net) -> Covering
 {
     let s = lookup(pool, set, net);
     match s {
-        Shown::Member(len) => member(net, len),
+        Shown::Member(len, steps) => member(net, len, steps),
         Shown::Nothing(steps) => Covering::Nothing(steps, has_bit_past(net)),
         Shown::Refused(no) => Covering::Refused(no),
     }
@@ -61,7 +61,7 @@ pub fn contains(pool: &[u32], set: u32, net: Net) -> Contained
 {
     let s = lookup(pool, set, net);
     match s {
-        Shown::Member(len) => Contained::Is(true, len + 1, has_bit_past(net)),
+        Shown::Member(_, steps) => Contained::Is(true, steps, has_bit_past(net)),
         Shown::Nothing(steps) => Contained::Is(false, steps, has_bit_past(net)),
         Shown::Refused(no) => Contained::Refused(no),
     }

@@ -1,5 +1,6 @@
-// The walk of a lookup: header, arguments, and then down by the bits of the query, one word a level.
+// The walk of a lookup: header, arguments, and then the path, in the first form down by the bits of the query, one word a level.
 use crate::beginning::path;
+use crate::second::kept_path;
 use nets::Net;
 use nets::NextBit;
 use nets::Prefix;
@@ -22,9 +23,9 @@ ghost use lib.ListN.{getD};
 ghost use Rattle.lookup.specs.Walks.{walk, walkFrom};
 ghost use Rattle.lookup.specs.Rules.{onRoot, query, lookup};
 
-// What a path shows: a member of that length, which is one less than the nodes read; nothing, and how many nodes were read; or why there is no answer.
+// What a path shows: a member of that length, or nothing, each with how many nodes were read; or why there is no answer.
 pub enum Shown {
-    Member(u8),
+    Member(u8, u8),
     Nothing(u8),
     Refused(Refusal),
 }
@@ -53,7 +54,7 @@ pub fn walk_tested(w: &[u32], b: usize, n: u32, p: usize, above: u8, bits: Prefi
     loop {
         let x = word_at(w, b, n, i);
         if x == 0 {
-            return Shown::Member(d);
+            return Shown::Member(d, d + 1);
         }
         if n < i + x % 2 {
             return Shown::Refused(Refusal::Damaged);
@@ -121,7 +122,7 @@ pub fn walk_down(w: &[u32], b: usize, n: u32, root: u32, len: u8, bits: PrefixBi
                 }
                 if x < 3 {
                     if x == 0 {
-                        return Shown::Member(d);
+                        return Shown::Member(d, d + 1);
                     }
                     if x != lone(bit) {
                         return Shown::Nothing(d + 1);
@@ -163,7 +164,12 @@ pub fn query(w: &[u32], set: u32, net: Net) -> Shown
     }
     let p = net.prefix_bits();
     match p {
-        Prefix::Bits(bits) => path(w, set, bits),
+        Prefix::Bits(bits) => {
+            if w[5] == 0 {
+                return path(w, set, bits);
+            }
+            kept_path(w, set, net)
+        }
         Prefix::Refused(_) => Shown::Refused(Refusal::BadNetwork),
     }
 }

@@ -37,8 +37,8 @@ use Rattle.lookup_many.specs.declared.lanes.Four.{Four}
 abbrev lane : ℕ → PrefixBits → Lane
 lane p s = record { p = p; bits = s }
 
-pub seated : {w : List ℕ} {b n k f : ℕ} → isHeader w ≡ true → k < getD w 2 0 → tagIn w k ≡ 0 → b ≡ base (getD w 2 0) → n ≡ getD w 3 0 → (rootIn w k ≡ 0 → ⊥) → rootIn w k ≤ n → f ≡ getD w 1 0 → Seat w b n k f
-seated h lt t b n nz le f = record { header = h; known = lt; plain = t; from = b; nodes = n; one = omega arith; within = le; family = f }
+pub seated : {w : List ℕ} {b n k f : ℕ} → isHeader w ≡ true → k < getD w 2 0 → getD w 5 0 ≡ 0 → tagIn w k ≡ 0 → b ≡ base (getD w 2 0) → n ≡ getD w 3 0 → (rootIn w k ≡ 0 → ⊥) → rootIn w k ≤ n → f ≡ getD w 1 0 → Seat w b n k f
+seated h lt z t b n nz le f = record { header = h; known = lt; form = z; plain = t; from = b; nodes = n; one = omega arith; within = le; family = f }
 
 pub seat-room : {w : List ℕ} {b n k f : ℕ} → Seat w b n k f → Room w b n
 seat-room {w} s = rw (s .from, s .nodes) (header-room (isHeader-header w (s .header)))
@@ -74,7 +74,7 @@ module _ (q : Net) {w : List ℕ} {b n k : ℕ} {l : Lane} (s : Seat w b n k (q 
         let z : 0 + (bits .len - l .bits .len) ≡ bits .len - l .bits .len = omega arith in
         let f = rw (i, z) at (from-start .shows 0 (omega (arith, prefix-few x q bits e h))) in
         let r : t ≡ walkFrom w b n (bitsLeft bits) (rootIn w k) = d ∙ sym f ∙ walkFrom-node w b n (bitsLeft bits) (rootIn w k) 0 refl (λ z. omega (arith, s .one)) (s .within) in
-        ap (λ y. inOne (isMember q y)) (query-path w k q (s .family) x e bits t h ((rw (s .from, s .nodes) at r) ∙ path-plain w k (bitsLeft bits) (s .plain)))
+        ap (λ y. inOne (isMember q y)) (query-path w k q (s .family) x e bits t h (s .form) ((rw (s .from, s .nodes) at r) ∙ path-plain w k (bitsLeft bits) (s .plain)))
 
   pub end-refused : (y : Refusal) → x ≡ prefix.Refused y → inOne (isMember q (Refused BadNetwork)) ≡ asked w k q
   unfolding asked

@@ -58,8 +58,8 @@ module _ (g : ℕ → ℕ) (m from : ℕ) (v : List ℕ) where
       let z : m - i ≡ 0 = omega arith in
       sym (put-nil u i) ∙ (rw z at (h .rest))
 
--- A row that is written up to a number.
-pub record Written (g : ℕ → ℕ) (m : ℕ) (v u : List ℕ) (i : ℕ) : Type 0 where
+-- A row that is filled up to a number.
+pub record FilledTo (g : ℕ → ℕ) (m : ℕ) (v u : List ℕ) (i : ℕ) : Type 0 where
   pub le : i ≤ m
   pub same : length u ≡ length v
   pub is : u ≡ put v 0 (fill g 0 i)
@@ -75,11 +75,11 @@ module _ (g : ℕ → ℕ) (v : List ℕ) where
       f ∙ ap (λ y. put y d (fill g d (m - d))) e ∙ put-fill g v 0 d (m - d) d (sym (zero-add d)) ∙ ap (λ y. put v 0 (fill g 0 y)) k
 
   module _ (m : ℕ) where
-    pub written-start : Written g m v v 0
-    written-start = record { le = omega arith; same = refl; is = fill-none }
+    pub filled-start : FilledTo g m v v 0
+    filled-start = record { le = omega arith; same = refl; is = fill-none }
 
-    pub written-next : (u t : List ℕ) (i : ℕ) → Written g m v u i → i + 4 ≤ m → t ≡ put u i (fill g i 4) → Written g m v t (i + 4)
-    written-next u t i h le e =
+    pub filled-next : (u t : List ℕ) (i : ℕ) → FilledTo g m v u i → i + 4 ≤ m → t ≡ put u i (fill g i 4) → FilledTo g m v t (i + 4)
+    filled-next u t i h le e =
         let f : t ≡ put v 0 (fill g 0 (i + 4)) = e ∙ ap (λ y. put y i (fill g i 4)) (h .is) ∙ put-fill g v 0 i 4 i (sym (zero-add i)) in
         record { le = le; same = ap length f ∙ length-put v 0 (fill g 0 (i + 4)); is = f }
 
@@ -98,9 +98,9 @@ module _ (g : ℕ → ℕ) (v : List ℕ) (i : ℕ) where
 
 -- What is shown, in one number.
 module _ (n : Net) where
-  pub one-member : (d x : ℕ) → x ≡ 562949953421312 * bit (hasBitPast n) → (s : Shown) → s ≡ Member d → d + 1 + 281474976710656 + x ≡ inOne (isMember n s)
+  pub one-member : (d k x : ℕ) → x ≡ 562949953421312 * bit (hasBitPast n) → (s : Shown) → s ≡ Member d k → k + 281474976710656 + x ≡ inOne (isMember n s)
   unfolding inOne
-  one-member d x e s h = rw (h, e) (omega arith)
+  one-member d k x e s h = rw (h, e) (omega arith)
 
   pub one-nothing : (k x : ℕ) → x ≡ 562949953421312 * bit (hasBitPast n) → (s : Shown) → s ≡ Nothing k → k + x ≡ inOne (isMember n s)
   unfolding inOne

@@ -5,7 +5,7 @@
 --   Goes w b n l r       a walk at l may go on to r: from there the path shows what it shows from l
 --   laneOf p q           the walk of the query q at its beginning;  fourOf: those of four queries of a row
 --   rootIn w k, placeIn  the number of the root of set k, and the place of that node
---   Seat w b n k f       what the walks of one call share: the header, where the nodes stand, a set that is not indexed and whose root's number is a node's, and the pool's family
+--   Seat w b n k f       what the walks of one call share: the header, the first form, where the nodes stand, a set that is not indexed and whose root's number is a node's, and the pool's family
 --   Fits qs i m v        the m queries from number i on are in the row, and the answers have a place for each
 use mathlib.Core.Bool.{true, cond}
 use mathlib.Core.List.{List}
@@ -76,6 +76,7 @@ placeIn w b k = b + (rootIn w k - 1)
 pub record Seat (w : List ℕ) (b n k f : ℕ) : Type 0 where
   pub header : isHeader w ≡ true
   pub known : k < getD w 2 0
+  pub form : getD w 5 0 ≡ 0
   pub plain : tagIn w k ≡ 0
   pub from : b ≡ base (getD w 2 0)
   pub nodes : n ≡ getD w 3 0

@@ -54,7 +54,7 @@ pub fn number_of(net: Net, s: Shown) -> u64
     ensures { λ r. ⌜ r ≡ inOne (isMember net s) ⌝ }
 {
     match s {
-        Shown::Member(d) => d as u64 + 1 + 281474976710656 + report(net),
+        Shown::Member(_, k) => k as u64 + 281474976710656 + report(net),
         Shown::Nothing(k) => k as u64 + report(net),
         Shown::Refused(no) => 4294967296 * (no.number() as u64),
     }

@@ -1,4 +1,4 @@
-// Queries answered four at a time: four walks begin at the root, go down side by side, and end one after another.
+// Queries answered four at a time, in the first form: four walks begin at the root, go down side by side, and end one after another.
 use crate::asking::number_of;
 use crate::asking::query_at;
 use crate::lanes::Four;
@@ -130,7 +130,7 @@ fn four(
     end_four(w, b, n, set, family, queries, i, f, answers);
 }
 
-// Answers the queries in fours, as many as there are, and says how many queries those were: none where the set is indexed, or the root's number is no node's.
+// Answers the queries in fours, as many as there are, and says how many queries those were: none in the second form, where the set is indexed, or the root's number is no node's.
 pub fn by_fours(w: &[u32], set: u32, family: u8, queries: &[u64], answers: &mut [u64]) -> usize
     requires { ⌜ (isHeader (now w) ≡ true) × (set < getD (now w) 2 0) × (family ≡ getD (now w) 1 0) × (length (now queries) / 3 ≤ length (now answers)) ⌝ }
     ensures { λ r. ⌜ (r ≤ length (now (queries .entry)) / 3) × (now (answers .exit) ≡ put (now (answers .entry)) 0 (fill (askedOf (now (w .entry)) set family (now (queries .entry))) 0 r)) ⌝ }
@@ -140,6 +140,9 @@ pub fn by_fours(w: &[u32], set: u32, family: u8, queries: &[u64], answers: &mut 
     let root = w[HEAD + RECORD * (set as usize)];
     let tag = w[HEAD + RECORD * (set as usize) + 4];
     let mut i = 0;
+    if w[5] != 0 {
+        return 0;
+    }
     if tag != 0 {
         return 0;
     }

@@ -45,6 +45,7 @@ module _ (S : State) (k : ℕ) where
       room = claim-roomOf S k e lt;
     },
     refl,
+    refl,
   )
 
   -- it is granted exactly where the set is empty, and else gets 8

@@ -6,7 +6,7 @@ ghost use Prim.Native.Nat.{_≤_, _<_};
 pub const WORDS: usize = 8072;
 
 pub fn lay(pool: &mut [u32]) {
-    pool::layout(pool, 4, 1, 1000, &[1000], &[1000], 0);
+    pool::layout(pool, 4, 0, 1, 1000, &[1000], &[1000], 0);
 }
 
 // Where the piece ends that begins at the place.

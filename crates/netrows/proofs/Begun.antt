@@ -20,19 +20,26 @@ use Rattle.pool_state.proofs.Filled.{Filled, fill-refused, fill-short, fill-gra
 use Rattle.pool_state.proofs.Claims.{isState-family}
 use Rattle.pool_state.proofs.Decoded.{decode-state}
 use Rattle.pool_state.proofs.OnTries.{trieAt}
-use Rattle.trie_paths.specs.Spans.{Spans}
+use Rattle.listing.specs.Seated.{HeldIn, GoesIn}
+use Rattle.listing.proofs.ByForm.{held-nowhere}
 use Rattle.listing.proofs.Seats.{Sits}
+use Rattle.kept_spots.proofs.Onward.{right-before}
 use Rattle.nodes.specs.declared.seats.Seat.{Seat}
-use Rattle.trie_spots.specs.Spots.{beforeAll, goneOn, StandsIn}
+use Rattle.trie_spots.specs.Spots.{beforeAll, goneOn}
 use Rattle.trie_spots.specs.declared.spots.Spot.{Spot}
-use Rattle.trie_spots.proofs.Onward.{stands-nowhere, seat-gone}
+use Rattle.trie_spots.proofs.Onward.{seat-gone}
 use Rattle.netrows.specs.Rows.{filled, rowRules, rowRule, rowAfter, Listed}
 use Rattle.netrows.specs.Turns.{idle, Begins}
 
 -- A turn that stores nothing begins a listing that leaves the row.
 begins-idle : {w : List ℕ} {k n : ℕ} {a : Answer} → ((v : List Net) → length v ≡ n → Listed w k v a v) → Begins w k n (idle a)
 unfolding goneOn nextL listOf levels
-begins-idle {w} h = record { trie = none; stands = stands-nowhere w; family = refl; spot = refl; at = refl; fits = omega arith; told = h }
+begins-idle {w} h = record { trie = none; holds = held-nowhere w; family = refl; spot = refl; at = refl; fits = omega arith; told = h }
+
+-- One can go on from before the first network of a set.
+pub begins-goes : {w : List ℕ} {k : ℕ} {S : State} {s : Seat} → Sits w k S s → GoesIn w (beforeAll s)
+begins-goes {w} {k} {S} {s} h =
+    record { trie = trieAt S k; holds = h .holds; family = rw (h .family) (isState-family S (decode-state w S (h .decoded))); right = right-before s }
 
 -- A listing fills the row.
 abbrev Fills : List ℕ → ℕ → List Net → Answer → List Net → Type 0
@@ -50,26 +57,27 @@ module _ {w : List ℕ} {v u : List Net} {k : ℕ} {r : Answer} where
 pub begins-refused : {w : List ℕ} {k n : ℕ} (x : Refusal) → Refuses (decode w) k (number x) → Begins w k n (idle (answer.Refused x))
 begins-refused {w} {k} x e = begins-idle (λ v q. listed (fill-refused (decode w) k (length v) _ _ v _ x e))
 
-module _ {w : List ℕ} {k : ℕ} {S : State} {s : Seat} (h : Sits w k S s) {m : ℕ} (c : (t : Trie) → Spans w (s .base) (s .first) (s .end) t → m ≡ length (listOf t)) where
+module _ {w : List ℕ} {k : ℕ} {S : State} {s : Seat} (h : Sits w k S s) {m : ℕ} (c : (t : Trie) → HeldIn w s t → m ≡ length (listOf t)) where
   counted : m ≡ length (listAt S k)
-  counted = c (trieAt S k) (h .holds .stands) ∙ ap length (h .list)
+  counted = c (trieAt S k) (h .holds) ∙ ap length (h .list)
 
   pub begins-short : {n : ℕ} → n < m → Begins w k n (idle (answer.Refused ShortBuffer))
   begins-short lt = begins-idle (λ v q.
       let less : length v < length (listAt S k) = omega (arith, counted) in
       listed (fill-short (decode w) k (length v) _ _ v _ S (h .decoded) (h .known) less))
 
-  pub begins-granted : {n : ℕ} (r : Spot) → m ≤ n → ((t : Trie) → StandsIn w s t → r ≡ goneOn (listOf t) (beforeAll s)) → Begins w k n (record { spot = r; at = 0; answer = answer.Granted m })
+  pub begins-granted : {n : ℕ} (r : Spot) → m ≤ n → ((t : Trie) → HeldIn w s t → r ≡ goneOn (listOf t) (beforeAll s))
+      → Begins w k n (record { spot = r; at = 0; answer = answer.Granted m })
   begins-granted r le f =
       let e = f (trieAt S k) (h .holds) in
       let i : r .seat ≡ s = ap (λ (x : Spot). x .seat) e ∙ seat-gone (listOf (trieAt S k)) (beforeAll s) in
       record {
         trie = trieAt S k;
-        stands = rw i (h .holds);
+        holds = rw i (h .holds);
         family = rw (i, h .family) (isState-family S (decode-state w S (h .decoded)));
         spot = e ∙ ap (λ x. goneOn (listOf (trieAt S k)) (beforeAll x)) (sym i);
         at = refl;
-        fits = omega (arith, c (trieAt S k) (h .holds .stands));
+        fits = omega (arith, c (trieAt S k) (h .holds));
         told = λ v q.
             let room : length (listAt S k) ≤ length v = omega (arith, counted) in
             rw (counted, i, h .family, h .list) (listed (fill-granted (decode w) k (length v) _ _ v _ S (h .decoded) (h .known) room));

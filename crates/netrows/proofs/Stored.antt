@@ -11,7 +11,11 @@ use Rattle.nets.specs.Tries.{listOf}
 use Rattle.nets.specs.Networks.{netFrom}
 use Rattle.nets.specs.declared.Net.{Net}
 use Rattle.nodes.specs.declared.seats.Seat.{Seat}
-use Rattle.trie_spots.specs.Spots.{beforeAll, goneOn, StandsIn}
+use Rattle.listing.specs.Seated.{HeldIn}
+use Rattle.listing.proofs.ByForm.{held-deep}
+use Rattle.kept_spots.specs.Onward.{KeptRight}
+use Rattle.kept_spots.proofs.Onward.{right-before, right-gone}
+use Rattle.trie_spots.specs.Spots.{beforeAll, goneOn}
 use Rattle.trie_spots.specs.declared.spots.Spot.{Spot}
 use Rattle.trie_spots.proofs.Onward.{Lists, lists-trie, seat-gone, ahead, ahead-all, Arrives, gone-more, gone-last}
 use Rattle.netrows.specs.Rows.{filled, Listed}
@@ -40,6 +44,7 @@ module _ {w : List ℕ} {k : ℕ} (v : List Net) {t₀ : Turn} (b : Begins w k (
     pub from : Spot
     pub spot : t .spot ≡ goneOn l from
     pub here : from .seat ≡ seat
+    pub right : KeptRight from
     pub at : t .at ≡ length done
     pub left : j ≡ length (ahead l from)
     pub split : l ≡ done ++ ahead l from
@@ -54,6 +59,7 @@ module _ {w : List ℕ} {k : ℕ} (v : List Net) {t₀ : Turn} (b : Begins w k (
         from = beforeAll seat;
         spot = b .spot;
         here = refl;
+        right = right-before seat;
         at = b .at;
         left = ap length (sym (ahead-all l seat));
         split = sym (ahead-all l seat);
@@ -64,13 +70,16 @@ module _ {w : List ℕ} {k : ℕ} (v : List Net) {t₀ : Turn} (b : Begins w k (
 
   module _ {j : ℕ} {t : Turn} {u : List Net} (s : State j t u) where
     lists : Lists (s .from .seat .family) l
-    lists = rw (s .here) (lists-trie (seat .family) (b .trie) (b .stands .deep) (b .family))
+    lists = rw (s .here) (lists-trie (seat .family) (b .trie) (held-deep (b .holds)) (b .family))
 
     pub same-seat : t .spot .seat ≡ seat
     same-seat = ap (λ (x : Spot). x .seat) (s .spot) ∙ seat-gone l (s .from) ∙ s .here
 
-    pub stands : StandsIn w (t .spot .seat) (b .trie)
-    stands = rw same-seat (b .stands)
+    pub holds : HeldIn w (t .spot .seat) (b .trie)
+    holds = rw same-seat (b .holds)
+
+    right-on : KeptRight (t .spot)
+    right-on = rw (s .spot) (right-gone l (s .from) lists (s .right))
 
     module _ (m : t .spot .more ≡ true) where
       arrives : Arrives l (s .from) (t .spot)
@@ -83,7 +92,8 @@ module _ {w : List ℕ} {k : ℕ} (v : List Net) {t₀ : Turn} (b : Begins w k (
       within = omega (arith, longer, s .at, b .fits)
 
       pub stores : length v < 2 ^ 64 → Stores w t
-      stores few = record { goes = record { trie = b .trie; stands = stands; right = λ _. arrives .right }; small = omega (arith, within) }
+      stores few =
+          record { goes = record { trie = b .trie; holds = holds; family = rw same-seat (b .family); right = right-on }; small = omega (arith, within) }
 
       pub steps : (r : Turn) → r ≡ turnAfter l t → (i : ℕ) × ((i < j) × State i r (set u (t .at) (t .spot .net)))
       steps r e =
@@ -97,6 +107,7 @@ module _ {w : List ℕ} {k : ℕ} (v : List Net) {t₀ : Turn} (b : Begins w k (
                 from = t .spot;
                 spot = ap (λ (x : Turn). x .spot) e;
                 here = same-seat;
+                right = right-on;
                 at = ap (λ (x : Turn). x .at) e ∙ ap (λ x. x + 1) (s .at) ∙ sym (length-append (s .done) (q ∷ []));
                 left = refl;
                 split = s .split ∙ ap (λ x. s .done ++ x) (arrives .taken) ∙ sym (append-assoc (s .done) (q ∷ []) (ahead l (t .spot)));

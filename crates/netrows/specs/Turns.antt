@@ -14,7 +14,8 @@ use Rattle.nets.specs.Tries.{Trie, listOf}
 use Rattle.nets.specs.declared.Net.{Net}
 use Rattle.nets.specs.Networks.{isFamily}
 use Rattle.pool_state.specs.declared.Answer.{Answer}
-use Rattle.trie_spots.specs.Spots.{nowhere, beforeAll, goneOn, StandsIn, Goes}
+use Rattle.listing.specs.Seated.{HeldIn, GoesIn}
+use Rattle.trie_spots.specs.Spots.{nowhere, beforeAll, goneOn}
 use Rattle.netrows.specs.Rows.{filled, Listed}
 use Rattle.netrows.specs.declared.turns.Turn.{Turn}
 
@@ -25,12 +26,12 @@ abbrev pub turnAfter : List Bits → Turn → Turn
 turnAfter l t = record { spot = goneOn l (t .spot); at = t .at + 1; answer = t .answer }
 
 pub record Stores (w : List ℕ) (t : Turn) : Type 0 where
-  pub goes : Goes w (t .spot)
+  pub goes : GoesIn w (t .spot)
   pub small : t .at + 1 < 2 ^ 64
 
 pub record Begins (w : List ℕ) (k n : ℕ) (t : Turn) : Type 0 where
   pub trie : Trie
-  pub stands : StandsIn w (t .spot .seat) trie
+  pub holds : HeldIn w (t .spot .seat) trie
   pub family : isFamily (t .spot .seat .family) ≡ true
   pub spot : t .spot ≡ goneOn (listOf trie) (beforeAll (t .spot .seat))
   pub at : t .at ≡ 0

@@ -1,16 +1,16 @@
 // The turns of the listing: every decision is made here, so that what goes through the row only stores a network and takes the next turn.
 ghost use mathlib.Core.Path.{_≡_};
 ghost use Rattle.nets.specs.Tries.{Trie, listOf};
-ghost use Rattle.trie_spots.specs.Spots.{StandsIn};
+ghost use Rattle.listing.specs.Seated.{HeldIn};
 ghost use Rattle.netrows.specs.Turns.{idle, turnAfter, Stores, Begins};
+use listing::seated::count;
+use listing::seated::go_on;
 use nets::Refusal;
 use pool_check::seats::seat_of;
 use pool_state::Answer;
 use pool_state::Seated;
-use trie_list::rows::count;
 use trie_spots::spots::Spot;
 use trie_spots::spots::before_all;
-use trie_spots::spots::go_on;
 use trie_spots::spots::nowhere;
 
 // How far the listing has come, the entry of the network that it is at, and what it will answer.
@@ -39,7 +39,7 @@ pub fn begin(pool: &[u32], set: u32, entries: usize) -> Turn
     match seated {
         Seated::Refused(no) => idle(Answer::Refused(no)),
         Seated::At(_, seat) => {
-            let n = count(pool, seat.base, seat.first, seat.end);
+            let n = count(pool, seat);
             if entries < n {
                 return idle(Answer::Refused(Refusal::ShortBuffer));
             }
@@ -56,7 +56,7 @@ pub fn begin(pool: &[u32], set: u32, entries: usize) -> Turn
 // The turn behind one that stored a network.
 pub fn after(pool: &[u32], t: Turn) -> Turn
     requires { ⌜ Stores (now pool) t ⌝ }
-    ensures { λ r. ⌜ ((u : Trie) → StandsIn (now (pool .entry)) (t .spot .seat) u → r ≡ turnAfter (listOf u) t) ⌝ }
+    ensures { λ r. ⌜ ((u : Trie) → HeldIn (now (pool .entry)) (t .spot .seat) u → r ≡ turnAfter (listOf u) t) ⌝ }
 {
     let s = t.spot;
     let answer = t.answer;

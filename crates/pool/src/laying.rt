@@ -3,6 +3,7 @@ use nets::families::is_family;
 use pool_check::HEAD;
 use pool_check::MARK;
 use pool_check::RECORD;
+use pool_check::is_form;
 use pool_check::is_size;
 use pool_check::least_words;
 use trie_index::INDEX;
@@ -14,9 +15,9 @@ ghost use Prim.Native.Nat.{_+_, _*_, _≤_, _<_};
 ghost use lib.ListN.{length, replicate};
 ghost use Rattle.nodes.specs.Words.{put};
 ghost use Rattle.nets.specs.Bits.{digit};
-ghost use Rattle.pool_state.specs.Kept.{indexL};
+ghost use Rattle.pool_state.specs.Kept.{first, indexL};
 ghost use Rattle.pool_state.specs.Decode.{mark, recordAt, base, overRecords, tagOf, overIndexes};
-ghost use Rattle.pool_state.specs.Rules.{sharesFit, setup, marksFit, marks, isSetup, emptySets, blanks};
+ghost use Rattle.pool_state.specs.Rules.{sharesFit, setup, marksFit, marks, isFormed, isSetup, emptySets, blanks};
 
 // How many of the first sets the bits of a number mark.
 pub fn count_marks(sets: u32, indexed: u64) -> u32
@@ -73,19 +74,34 @@ pub fn shares_fit(sets: u32, nodes: u32, shares: &[u32], limits: &[u32]) -> bool
     true
 }
 
+// The form is offered, and no set is to be indexed in the second.
+fn is_formed(form: u32, indexed: u64) -> bool
+    ensures { λ r. ⌜ r ≡ isFormed form indexed ⌝ }
+{
+    if !is_form(form) {
+        return false;
+    }
+    if form == 0 {
+        return true;
+    }
+    indexed == 0
+}
+
 // The setup keeps the rules, and so many words are enough for it.
 pub fn is_setup(
     words: usize,
     family: u8,
+    form: u32,
     sets: u32,
     nodes: u32,
     shares: &[u32],
     limits: &[u32],
     indexed: u64,
 ) -> bool
-    ensures { λ r. ⌜ r ≡ isSetup words (setup family sets nodes (now (shares .entry)) (now (limits .entry)) indexed) ⌝ }
+    ensures { λ r. ⌜ r ≡ isSetup words (setup family form sets nodes (now (shares .entry)) (now (limits .entry)) indexed) ⌝ }
 {
     is_family(family as u32)
+        && is_formed(form, indexed)
         && is_size(sets, nodes)
         && marks_fit(sets, indexed)
         && least_words(sets, nodes, count_marks(sets, indexed)) <= words
@@ -104,21 +120,22 @@ pub fn clear(pool: &mut [u32], n: usize)
     }
 }
 
-pub fn header(pool: &mut [u32], family: u8, sets: u32, nodes: u32)
-    requires { ⌜ 4 ≤ length (now pool) ⌝ }
-    ensures { λ _. ⌜ now (pool .exit) ≡ put (now (pool .entry)) 0 (mark ∷ family ∷ sets ∷ nodes ∷ []) ⌝ }
+pub fn header(pool: &mut [u32], family: u8, form: u32, sets: u32, nodes: u32)
+    requires { ⌜ 6 ≤ length (now pool) ⌝ }
+    ensures { λ _. ⌜ now (pool .exit) ≡ put (put (now (pool .entry)) 0 (mark ∷ family ∷ sets ∷ nodes ∷ [])) 5 (form ∷ []) ⌝ }
 {
     pool[0] = MARK;
     pool[1] = family as u32;
     pool[2] = sets;
     pool[3] = nodes;
+    pool[5] = form;
 }
 
 // The records of empty sets with these shares and limits.
 pub fn records(pool: &mut [u32], shares: &[u32], limits: &[u32])
     requires { ⌜ length (now shares) ≡ length (now limits) ⌝ }
     requires { ⌜ base (length (now shares)) ≤ length (now pool) ⌝ }
-    ensures { λ _. ⌜ now (pool .exit) ≡ overRecords (now (pool .entry)) 0 1 (emptySets (now (shares .entry)) (now (limits .entry)) 0) ⌝ }
+    ensures { λ _. ⌜ now (pool .exit) ≡ overRecords (now (pool .entry)) 0 1 (emptySets first (now (shares .entry)) (now (limits .entry)) 0) ⌝ }
 {
     let mut s: usize = 0;
     while s < shares.len() {

@@ -5,14 +5,20 @@ use pool_check::HEAD;
 use pool_check::RECORD;
 use pool_check::is_size;
 use pool_check::least_words;
+use pool_check::seats::seat_in;
 use pool_check::seats::seat_of;
 use pool_check::survey;
 pub use pool_state::Answer;
 pub use pool_state::Report;
 use pool_state::Seated;
+use pool_state::Survey;
 pub use pool_state::Told;
 ghost use mathlib.Core.Path.{_≡_};
-ghost use Rattle.pool_state.specs.Decode.{decode};
+ghost use lib.ListN.{length};
+ghost use Rattle.pool_state.specs.States.{State};
+ghost use Rattle.pool_state.specs.Decode.{sound, decode};
+ghost use Rattle.pool_state.specs.Changes.{listAt};
+ghost use Rattle.pool_state.specs.Steps.{Surveyed};
 ghost use Rattle.pool_state.specs.Rules.{answerAs, reportAs, setup, Laid, freeRule, heldRule, planRule};
 ghost use Rattle.pool.specs.Words.{wordsRule};
 
@@ -31,26 +37,37 @@ pub fn words(sets: u32, nodes: u32, indexed: u32) -> Answer
     Answer::Granted(least_words(sets, nodes, indexed) as u32)
 }
 
-// Lays out a pool of empty sets in the lent words, a share and a limit for each set; bit s of `indexed` says whether set s is indexed by its networks' first eight bits. A refusal changes no word, and no word past the smallest buffer is touched.
+// Lays out a pool of empty sets in the lent words, a share and a limit for each set; bit s of `indexed` says whether set s is indexed by its networks' first eight
+// bits. A refusal changes no word, and no word past the smallest buffer is touched.
 pub fn layout(
     pool: &mut [u32],
     family: u8,
+    form: u32,
     sets: u32,
     nodes: u32,
     shares: &[u32],
     limits: &[u32],
     indexed: u64,
 ) -> Answer
-    ensures { λ r. ⌜ Laid (now (pool .entry)) (setup family sets nodes (now (shares .entry)) (now (limits .entry)) indexed) (answerAs r) (now (pool .exit)) ⌝ }
+    ensures { λ r. ⌜ Laid (now (pool .entry)) (setup family form sets nodes (now (shares .entry)) (now (limits .entry)) indexed) (answerAs r) (now (pool .exit)) ⌝ }
 {
-    if !laying::is_setup(pool.len(), family, sets, nodes, shares, limits, indexed) {
+    if !laying::is_setup(
+        pool.len(),
+        family,
+        form,
+        sets,
+        nodes,
+        shares,
+        limits,
+        indexed,
+    ) {
         return Answer::Refused(Refusal::BadSetup);
     }
     laying::clear(
         pool,
         least_words(sets, nodes, laying::count_marks(sets, indexed)),
     );
-    laying::header(pool, family, sets, nodes);
+    laying::header(pool, family, form, sets, nodes);
     laying::records(pool, shares, limits);
     laying::indexes(pool, least_words(sets, nodes, 0), sets, indexed);
     Answer::Granted(0)
@@ -67,6 +84,18 @@ pub fn free(pool: &[u32]) -> Answer
     Answer::Refused(Refusal::Damaged)
 }
 
+// The networks of a surveyed set: the leaves of its trie, or in the second form one more than the branch points.
+fn networks(pool: &[u32], set: u32, found: Survey) -> u32
+    requires { ⌜ Surveyed (now pool) set found ⌝ }
+    ensures { λ r. ⌜ ((S : State) → decode (now (pool .entry)) ≡ sound S → r ≡ length (listAt S set)) ⌝ }
+{
+    if pool[5] == 0 {
+        let seat = seat_in(pool, found);
+        return zeros_at(pool, seat.base + (seat.first - 1), found.held);
+    }
+    (found.held + 1) / 2
+}
+
 // The nodes and the networks of a set.
 pub fn held(pool: &[u32], set: u32) -> Report
     ensures { λ r. ⌜ reportAs r ≡ heldRule (decode (now (pool .entry))) set ⌝ }
@@ -74,8 +103,8 @@ pub fn held(pool: &[u32], set: u32) -> Report
     let seated = seat_of(pool, set);
     match seated {
         Seated::Refused(no) => Report::Refused(no),
-        Seated::At(found, seat) => {
-            let n = zeros_at(pool, seat.base + (seat.first - 1), found.held);
+        Seated::At(found, _) => {
+            let n = networks(pool, set, found);
             Report::Numbers(found.held, n)
         }
     }

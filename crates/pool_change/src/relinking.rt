@@ -6,19 +6,24 @@ use trie_index::INDEX;
 use trie_index::write_index;
 ghost use mathlib.Core.Path.{_≡_};
 ghost use Prim.Native.Nat.{_+_};
-ghost use Rattle.nodes.specs.Words.{put, place};
+ghost use Rattle.nodes.specs.Words.{put};
 ghost use Rattle.pool_state.specs.Rules.{answerAs};
-ghost use Rattle.pool_state.specs.Steps.{behindAt, Shiftable, ownRoot, movedRoot, relinked, Movable, Relink, Indexable, Settle, Reindexed, Settled};
+ghost use Rattle.pool_state.specs.Steps.{spotBy, behindAt, Shiftable, ownRoot, movedRoot, relinked, Movable, Relink, Indexable, Settle, Reindexed, Settled};
 
-// Moves the words of the sets behind a set to where they stand once the set has n nodes.
-pub fn shift_behind(w: &mut [u32], b: usize, v: Survey, n: u32)
-    requires { ⌜ Shiftable (now w) b v n ⌝ }
-    ensures { λ _. ⌜ now (w .exit) ≡ put (now (w .entry)) (place b (v .at + n)) (behindAt (now (w .entry)) b v) ⌝ }
+// Moves the words of the sets behind a set to where they stand once the set has n nodes, of s words each.
+pub fn shift_behind(w: &mut [u32], b: usize, s: usize, v: Survey, n: u32)
+    requires { ⌜ Shiftable s (now w) b v n ⌝ }
+    ensures { λ _. ⌜ now (w .exit) ≡ put (now (w .entry)) (spotBy s b (v .at + n)) (behindAt s (now (w .entry)) b v) ⌝ }
 {
     let at = v.at as usize;
     let end = at + v.held as usize;
     let to = at + n as usize;
-    shift(w, b + (end - 1), b + (to - 1), v.used as usize + 1 - end);
+    shift(
+        w,
+        b + s * (end - 1),
+        b + s * (to - 1),
+        s * (v.used as usize + 1 - end),
+    );
 }
 
 // After a set, which begins at a node, went from old nodes to new ones: its root, and a root behind it.

@@ -15,7 +15,7 @@ use Rattle.nets.specs.Networks.{width}
 use Rattle.nets.specs.Tries.{Trie, none, trieOf}
 use Rattle.nodes.proofs.Has.{has-head}
 use Rattle.trie_index.specs.Index.{indexT, isAt, Rooted}
-use Rattle.pool_state.specs.Kept.{indexL}
+use Rattle.pool_state.specs.Kept.{indexL, first}
 use Rattle.pool_state.specs.States.{SetState, State, indexedOf}
 use Rattle.pool_state.specs.Decode.{recordAt, base, leastWords, rootAt, tagOf, indexWords, indexesAt, Decoded, damaged, sound, isHeader, areIndexes, whereIndexed, readPool, decode}
 use Rattle.pool_state.specs.Rules.{noSet, noSurvey, firstNode, tagIn, surveyOf}
@@ -26,6 +26,7 @@ use Rattle.pool_state.proofs.Holds.{HoldsSet, cons-some, holds-at}
 use Rattle.pool_state.proofs.Encoded.{sound-header, reads-sound}
 use Rattle.pool_state.proofs.Indexed.{areIndexes-count}
 use Rattle.pool_state.proofs.Changed.{firstNode-from}
+use Rattle.pool_state.proofs.Claims.{indexable-first, isSet-indexable}
 
 pub read-header : {w : List ℕ} → ((S : State) × (readPool w ≡ sound S)) → IsHeader w
 read-header {w} (S, e) = isHeader-header w (sound-header (reads-sound w S e) .known)
@@ -35,11 +36,11 @@ unfolding indexedOf
 indexed-cons x xs = refl
 
 -- The trie of a list, by the root's number.
-list-rooted : {w : List ℕ} {b n d i : ℕ} (l : List Bits) → 1 ≤ i → StandsL w b n d i l → Rooted w b n (rootAt i l) (trieOf l)
+list-rooted : {v : ℕ} {w : List ℕ} {b n i : ℕ} (l : List Bits) → 1 ≤ i → StandsL first v w b n i l → Rooted w b n (rootAt i l) (trieOf l)
 unfolding trieOf
 list-rooted [] one h = record { empty = λ e. refl; some = λ ne. absurd (ne refl) }
-list-rooted {w} {b} {n} {d} {i} (p ∷ l) one h =
-    record { empty = λ e. absurd (omega arith); some = λ ne. (suc d, stands-trie h, trie-some d (p ∷ l) (h .list) (cons-some p l)) }
+list-rooted {v} {w} {b} {n} {i} (p ∷ l) one h =
+    record { empty = λ e. absurd (omega arith); some = λ ne. (suc (width v), stands-trie h, trie-some (width v) (p ∷ l) (h .list) (cons-some p l)) }
 
 module _ (w : List ℕ) (s : ℕ) (S : State) (e : readPool w ≡ sound S) (lt : s < getD w 2 0) where
   abbrev its : SetState
@@ -48,14 +49,15 @@ module _ (w : List ℕ) (s : ℕ) (S : State) (e : readPool w ≡ sound S) (lt :
   known : s < length (S .sets)
   known = omega (arith, sound-header (reads-sound w S e) .sets)
 
-  own : HoldsSet w (base (length (S .sets))) (S .nodes) (S .family) s (firstNode s 1 (S .sets)) its
+  own : HoldsSet (S .form) w (base (length (S .sets))) (S .nodes) (S .family) s (firstNode s 1 (S .sets)) its
   own = rw zero-add at (holds-at 0 s (S .sets) (omega arith) known (reads-sound w S e .holds))
 
-  rooted : Rooted w (base (getD w 2 0)) (getD w 3 0) (getD w (recordAt s) 0) (trieOf (its .list))
-  rooted =
+  rooted : its .indexed ≡ true → Rooted w (base (getD w 2 0)) (getD w 3 0) (getD w (recordAt s) 0) (trieOf (its .list))
+  rooted x =
       let h = sound-header (reads-sound w S e) in
       let r : getD w (recordAt s) 0 ≡ rootAt (firstNode s 1 (S .sets)) (its .list) = has-head (own .here) in
-      rw (h .sets, h .nodes, r) (list-rooted (its .list) (firstNode-from s 1 (S .sets) known) (own .list))
+      let F : S .form ≡ first = sym (own .form) ∙ indexable-first its x (isSet-indexable (S .family) its (own .rules)) in
+      rw (h .sets, h .nodes, r) (list-rooted (its .list) (firstNode-from s 1 (S .sets) known) (rw F at (own .list)))
 
   -- the tag and the index of set s, and then those of the others
   abbrev rest : ℕ → Bool
@@ -120,7 +122,7 @@ module _ (w : List ℕ) (s j : ℕ) (lt : s < getD w 2 0) (le : j ≤ s) (all : 
         says S e =
             let h = sound-header (reads-sound w S e) in
             let q : p ≡ indexesAt S + 256 * j = ep ∙ rw (h .sets, h .nodes) (let y : leastWords (length (S .sets)) (S .nodes) j ≡ indexesAt S + 256 * j = omega arith in y) in
-            told (trieOf (its w s S e lt .list)) (rw (eb, er) (rooted w s S e lt)) ∙ ap (λ x. isAt w x (indexT (trieOf (its w s S e lt .list)))) q
+            told (trieOf (its w s S e lt .list)) (rw (eb, er) (rooted w s S e lt (marked w s S e lt some))) ∙ ap (λ x. isAt w x (indexT (trieOf (its w s S e lt .list)))) q
 
         pub after-wrong : not r ≡ true → After w s j 255
         after-wrong n = (λ k. absurd (k refl), λ S e. on w s S e lt some j z ∙ rw (← says S e, not-true r n))
@@ -129,7 +131,7 @@ module _ (w : List ℕ) (s j : ℕ) (lt : s < getD w 2 0) (le : j ≤ s) (all : 
         after-right n = (λ k. omega arith, λ S e. on w s S e lt some j z ∙ rw (← says S e, not-false r n, ne-eqb (j + 1) 255 (λ q. omega (arith, small))))
 
       pub after-rooted : (t : Trie) × Rooted w (base (getD w 2 0)) (getD w 3 0) (getD w (recordAt s) 0) t
-      after-rooted = let (S, e) = all in (trieOf (its w s S e lt .list), rooted w s S e lt)
+      after-rooted = let (S, e) = all in (trieOf (its w s S e lt .list), rooted w s S e lt (marked w s S e lt some))
 
 -- The loop: the tags and indexes from set s on decide.
 pub record Left (w : List ℕ) (s j : ℕ) : Type 0 where

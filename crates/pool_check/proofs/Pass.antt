@@ -1,7 +1,7 @@
 -- The pass by the tests of the code: one set, and the loop over the sets, at whose head what is left to scan completes the answer. Assumes nothing.
-use mathlib.Core.Path.{_≡_, refl, sym, _∙_}
+use mathlib.Core.Path.{_≡_, refl, sym, _∙_, ap}
 use mathlib.Core.Bool.{Bool, true, false, not, cond}
-use mathlib.Core.List.{List}
+use mathlib.Core.List.{List, []}
 use Prim.Native.Nat.{ℕ, suc, _+_, _-_, _≤_, _<_, max}
 use native.Mathlib.Nat.{add-zero}
 use native.Mathlib.Omega.{arith}
@@ -12,104 +12,129 @@ use Rattle.nets.specs.Networks.{width}
 use Rattle.nets.specs.Bits.{Bits}
 use Rattle.nets.proofs.Strings.{cond-both}
 use Rattle.nodes.specs.Parse.{Room, parse, after}
-use Rattle.pool_state.specs.Kept.{heldL, ReadList, badList, okList, endL}
-use Rattle.pool_state.specs.Decode.{recordAt, base, isHeader, readSet, isRight, readPool}
+use Rattle.pool_state.specs.Kept.{heldL, ReadList, badList, okList, endL, Form, first, formOf, readL, RoomL}
+use Rattle.pool_state.specs.Decode.{recordAt, base, isHeader, readSet, isRight, readPool, formIn}
 use Rattle.pool_state.specs.Rules.{shareIn, noSurvey, surveyOf}
-use Rattle.pool_state.proofs.Kept.{heldL-nil, endL-parse}
-use Rattle.pool_state.proofs.Header.{isHeader-header, header-room}
+use Rattle.pool_state.proofs.Kept.{heldL-nil, endL-parse, sameForm-is, endL-kept, form-some}
+use Rattle.pool_state.proofs.Header.{isHeader-header, header-room, header-rooms}
 use Rattle.pool_check.proofs.Scan.{found, turn, scan, scan-survey}
+use Rattle.kept_nodes.specs.Parse.{keptParse, keptAfter}
+use Rattle.pool_check.specs.Sets.{Placed, endIn}
+use family-few.{}
+use Rattle.nets.proofs.Numbers.{family-few}
 
 -- One set.
-module _ (w : List ℕ) (b n f s i : ℕ) where
-  pub readSet-none : getD w (recordAt s) 0 ≡ 0 → i ≡ endL i (readSet w b n f s i)
-  unfolding readSet endL
-  readSet-none z = rw (eq-eqb (getD w (recordAt s) 0) 0 z, heldL-nil, add-zero)
+width-few : (f : ℕ) → width f ≤ 128
+unfolding width
+width-few f = cond-both (λ x. x ≤ 128) (eqb f 4) 32 128 (omega arith) (omega arith)
 
-  pub readSet-off : (getD w (recordAt s) 0 ≡ 0 → ⊥) → (getD w (recordAt s) 0 ≡ i → ⊥) → 0 ≡ endL i (readSet w b n f s i)
-  unfolding readSet endL
+pub levels-few : {v : ℕ} {w : List ℕ} {b n f : ℕ} → RoomL v w b n → f ≡ suc (width v) → f ≤ 129
+levels-few {v} room e = omega (arith, width-few v)
+
+pub room-family : {v : ℕ} {w : List ℕ} {b n : ℕ} → RoomL v w b n → v ≤ 6
+room-family {v} room = family-few v (room .family)
+
+module _ (w : List ℕ) (b n s i : ℕ) where
+  -- its list
+  abbrev pub listIn : ReadList
+  listIn = readSet w b n (getD w 1 0) s i
+
+  pub readSet-none : getD w (recordAt s) 0 ≡ 0 → i ≡ endIn w b n s i
+  unfolding readSet endL endIn
+  readSet-none z = rw (eq-eqb (getD w (recordAt s) 0) 0 z, heldL-nil (formIn w), add-zero)
+
+  pub readSet-off : (getD w (recordAt s) 0 ≡ 0 → ⊥) → (getD w (recordAt s) 0 ≡ i → ⊥) → 0 ≡ endIn w b n s i
+  unfolding readSet endL endIn
   readSet-off nz off = rw (ne-eqb (getD w (recordAt s) 0) 0 nz, ne-eqb (getD w (recordAt s) 0) i off)
 
-  pub readSet-at : (getD w (recordAt s) 0 ≡ 0 → ⊥) → getD w (recordAt s) 0 ≡ i → after i (parse w b n f i) ≡ endL i (readSet w b n f s i)
-  unfolding readSet
-  readSet-at nz on = rw (ne-eqb (getD w (recordAt s) 0) 0 nz, eq-eqb (getD w (recordAt s) 0) i on) (sym (endL-parse w b n f i))
+  module _ (nz : getD w (recordAt s) 0 ≡ 0 → ⊥) (on : getD w (recordAt s) 0 ≡ i) where
+    read-at : endL (formIn w) i (readL (formIn w) (getD w 1 0) w b n i) ≡ endIn w b n s i
+    unfolding readSet endIn
+    read-at = rw (ne-eqb (getD w (recordAt s) 0) 0 nz, eq-eqb (getD w (recordAt s) 0) i on)
+
+    -- in the first form, and in the second
+    pub readSet-first : getD w 5 0 ≡ 0 → {f r : ℕ} → f ≡ suc (width (getD w 1 0)) → r ≡ after i (parse w b n f i) → r ≡ endIn w b n s i
+    readSet-first z e q =
+        q ∙ ap (λ f. after i (parse w b n f i)) e ∙ sym (endL-parse (getD w 1 0) w b n i) ∙ ap (λ x. endL (formOf x) i (readL (formOf x) (getD w 1 0) w b n i)) (sym z) ∙ read-at
+
+    pub readSet-second : (getD w 5 0 ≡ 0 → ⊥) → {r : ℕ} → r ≡ keptAfter i (keptParse (getD w 1 0) w b n (suc (width (getD w 1 0))) [] i) → r ≡ endIn w b n s i
+    readSet-second ne q = q ∙ sym (endL-kept (getD w 1 0) w b n i) ∙ ap (λ F. endL F i (readL F (getD w 1 0) w b n i)) (sym (form-some (getD w 5 0) ne)) ∙ read-at
 
 -- The loop: set s is next, and what is left to scan completes the answer.
-pub record Pass (w : List ℕ) (k sets n b f s i c a h : ℕ) : Type 0 where
-  pub room : Room w b n
+pub record Pass (w : List ℕ) (k sets n b s i c a h : ℕ) : Type 0 where
+  pub form : formIn w ≡ first
+  pub room : RoomL (getD w 1 0) w b n
   pub few : sets ≤ 64
   pub long : base sets ≤ length w
-  pub fuel : f ≡ suc (width (getD w 1 0))
-  pub deep : f ≤ 129
   pub past : s ≤ sets
   pub pos : 1 ≤ i
   pub within : c ≤ n
   pub is : scan w b n (getD w 1 0) k (sets - s) s i c (a, h) ≡ surveyOf (readPool w) k
 
-width-few : (f : ℕ) → width f ≤ 128
-unfolding width
-width-few f = cond-both (λ x. x ≤ 128) (eqb f 4) 32 128 (omega arith) (omega arith)
-
-pub pass-start : (w : List ℕ) (k f : ℕ) → isHeader w ≡ true → f ≡ suc (width (getD w 1 0)) → Pass w k (getD w 2 0) (getD w 3 0) (base (getD w 2 0)) f 0 1 0 0 0
-pass-start w k f h e =
+pub pass-start : (w : List ℕ) (k : ℕ) → isHeader w ≡ true → Pass w k (getD w 2 0) (getD w 3 0) (base (getD w 2 0)) 0 1 0 0 0
+pass-start w k h =
     let r = isHeader-header w h in
     let z : getD w 2 0 - 0 ≡ getD w 2 0 = omega arith in
     record {
-      room = header-room r;
+      form = sameForm-is (formIn w) first (r .offered);
+      room = header-rooms r;
       few = omega arith;
       long = omega arith;
-      fuel = e;
-      deep = omega (arith, width-few (getD w 1 0));
       past = omega arith;
       pos = omega arith;
       within = omega arith;
       is = rw z (scan-survey w k h);
     }
 
-lost : (i : ℕ) (x : ReadList) → 1 ≤ i → 0 ≡ endL i x → x ≡ badList
+lost : (F : Form) (i : ℕ) (x : ReadList) → 1 ≤ i → 0 ≡ endL F i x → x ≡ badList
 unfolding endL
-lost i badList pos e = refl
-lost i (okList l) pos e = absurd (omega arith)
+lost F i badList pos e = refl
+lost F i (okList l) pos e = absurd (omega arith)
 
-got : (i r : ℕ) (x : ReadList) → r ≡ endL i x → (r ≡ 0 → ⊥) → (l : List Bits) × (x ≡ okList l) × (r ≡ i + heldL l)
+got : (F : Form) (i r : ℕ) (x : ReadList) → r ≡ endL F i x → (r ≡ 0 → ⊥) → (l : List Bits) × (x ≡ okList l) × (r ≡ i + heldL F l)
 unfolding endL
-got i r badList h ne = absurd (ne h)
-got i r (okList l) h ne = (l, refl, h)
+got F i r badList h ne = absurd (ne h)
+got F i r (okList l) h ne = (l, refl, h)
 
 -- two numbers that are picked by one test
 picked : (t : Bool) (x y a h : ℕ) → _≡_ {A = ℕ × ℕ} (cond t (x, y) (a, h)) (cond t x a, cond t y h)
 picked true x y a h = refl
 picked false x y a h = refl
 
-module _ {w : List ℕ} {k sets n b f s i c a h : ℕ} (o : Pass w k sets n b f s i c a h) where
+module _ {w : List ℕ} {k sets n b s i c a h : ℕ} (o : Pass w k sets n b s i c a h) where
   pub pass-done : sets ≤ s → found i c (a, h) ≡ surveyOf (readPool w) k
   unfolding scan
   pass-done le = let e : sets - s ≡ 0 = omega arith in rw e at (o .is)
 
-  module _ (more : s < sets) {e : ℕ} (end : e ≡ endL i (readSet w b n f s i)) where
+  module _ (more : s < sets) {e : ℕ} (end : e ≡ endIn w b n s i) where
     left : sets - s ≡ suc (sets - (s + 1))
     left = omega arith
 
     pub pass-bad : e ≡ 0 → noSurvey ≡ surveyOf (readPool w) k
-    unfolding scan
-    pass-bad z = rw (left, scan, ← o .fuel, lost i (readSet w b n f s i) (o .pos) (sym z ∙ end)) at (o .is)
+    unfolding scan endIn
+    pass-bad z = rw (left, scan, lost (formIn w) i (listIn w b n s i) (o .pos) (sym z ∙ end)) at (o .is)
 
     module _ (some : e ≡ 0 → ⊥) where
-      there : (l : List Bits) × (readSet w b n f s i ≡ okList l) × (e ≡ i + heldL l)
-      there = got i e (readSet w b n f s i) end some
+      there : (l : List Bits) × (listIn w b n s i ≡ okList l) × (e ≡ i + heldL (formIn w) l)
+      unfolding endIn
+      there = got (formIn w) i e (listIn w b n s i) end some
 
-      pub pass-found : (f : ℕ) × (l : List Bits) × (readSet w b n f s i ≡ okList l) × (e ≡ i + heldL l)
-      pass-found = (f, there .0, there .1, there .2)
+      placed : Placed w b n s i (there .0)
+      placed = record { form = o .form; room = o .room; one = o .pos; known = omega arith; fits = omega arith; read = there .1 }
+
+      pub pass-found : (l : List Bits) × Placed w b n s i l × (e ≡ i + heldL (formIn w) l)
+      pass-found = (there .0, placed, there .2)
 
       pub pass-up : i ≤ e
       pass-up = omega (arith, there .2)
 
       opened : turn w b n (getD w 1 0) k (scan w b n (getD w 1 0) k (sets - (s + 1)) (s + 1)) s i c (a, h) (there .0) ≡ surveyOf (readPool w) k
       unfolding scan
-      opened = rw (left, scan, ← o .fuel, there .1) at (o .is)
+      opened = rw (left, scan, there .1) at (o .is)
 
-      module _ {r : Bool} (right : (f : ℕ) (l : List Bits) → readSet w b n f s i ≡ okList l → e ≡ i + heldL l → r ≡ isRight w (getD w 1 0) s l) where
+      module _ {r : Bool} (right : (l : List Bits) → Placed w b n s i l → e ≡ i + heldL (formIn w) l → r ≡ isRight w (getD w 1 0) s l) where
         is-right : r ≡ isRight w (getD w 1 0) s (there .0)
-        is-right = right f (there .0) (there .1) (there .2)
+        is-right = right (there .0) placed (there .2)
 
         pub pass-off : not r ≡ true → noSurvey ≡ surveyOf (readPool w) k
         pass-off out = rw (sym is-right ∙ not-true r out) at opened
@@ -118,19 +143,18 @@ module _ {w : List ℕ} {k sets n b f s i c a h : ℕ} (o : Pass w k sets n b f 
           allowed : cond (leb (c + q) n) (scan w b n (getD w 1 0) k (sets - (s + 1)) (s + 1) e (c + q) (cond (eqb s k) i a, cond (eqb s k) (e - i) h)) noSurvey ≡ surveyOf (readPool w) k
           allowed =
               let z : i + (e - i) ≡ e = omega (arith, pass-up) in
-              let y : heldL (there .0) ≡ e - i = omega (arith, there .2) in
+              let y : heldL (formIn w) (there .0) ≡ e - i = omega (arith, there .2) in
               rw (sym is-right ∙ not-false r fit, y, ← claim, picked (eqb s k) i (e - i) a h, z) at opened
 
           pub pass-over : n - c < q → noSurvey ≡ surveyOf (readPool w) k
           pass-over lt = rw (lt-leb (c + q) n (omega arith)) at allowed
 
-          pub pass-on : q ≤ n - c → Pass w k sets n b f (s + 1) e (c + q) (cond (eqb s k) i a) (cond (eqb s k) (e - i) h)
+          pub pass-on : q ≤ n - c → Pass w k sets n b (s + 1) e (c + q) (cond (eqb s k) i a) (cond (eqb s k) (e - i) h)
           pass-on le = record {
+            form = o .form;
             room = o .room;
             few = o .few;
             long = o .long;
-            fuel = o .fuel;
-            deep = o .deep;
             past = omega arith;
             pos = omega (arith, pass-up);
             within = omega arith;

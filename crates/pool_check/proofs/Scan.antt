@@ -11,10 +11,10 @@ use lib.ListN.{getD}
 use borrow.Author.Tests.{le-leb, lt-leb, eq-eqb, ne-eqb, leb-true, leb-false}
 use Rattle.nets.specs.Networks.{width}
 use Rattle.nets.specs.Bits.{Bits}
-use Rattle.pool_state.specs.Kept.{heldL, ReadList, badList, okList}
+use Rattle.pool_state.specs.Kept.{heldL, ReadList, badList, okList, first}
 use Rattle.pool_state.proofs.Kept.{heldL-nil}
 use Rattle.pool_state.specs.States.{SetState, held, claim, used, claimed}
-use Rattle.pool_state.specs.Decode.{base, damaged, sound, ReadSets, badSets, okSets, setOf, isRight, setBefore, isHeader, readSet, readSets, judged, readPool}
+use Rattle.pool_state.specs.Decode.{base, damaged, sound, ReadSets, badSets, okSets, setOf, isRight, setBefore, isHeader, readSet, readSets, judged, readPool, formIn}
 use Rattle.pool_state.specs.Rules.{shareIn, noSet, noSurvey, firstNode, surveyOf}
 use Rattle.pool_state.specs.declared.Survey.{Survey}
 
@@ -28,7 +28,7 @@ chosen-past k s i p [] lt = refl
 chosen-past k s i p (x ∷ xs) lt = rw (ne-eqb s k (omega arith)) (chosen-past k (s + 1) (i + held x) p xs (omega arith))
 
 chosen-start : (j s i : ℕ) (xs : List SetState) → chosen (s + j) s i (0, 0) xs ≡ (firstNode j i xs, held (getD xs j noSet))
-chosen-start j s i [] = rw heldL-nil
+chosen-start j s i [] = rw (heldL-nil first)
 chosen-start zero s i (x ∷ xs) = rw (eq-eqb s (s + 0) (omega arith)) (chosen-past (s + 0) (s + 1) (i + held x) (i, held x) xs (omega arith))
 chosen-start (suc j) s i (x ∷ xs) =
     let e : s + suc j ≡ s + 1 + j = omega arith in
@@ -43,14 +43,15 @@ module _ (w : List ℕ) (b n f k : ℕ) where
   abbrev pub turn : (ℕ → ℕ → ℕ × ℕ → Survey) → ℕ → ℕ → ℕ → ℕ × ℕ → List Bits → Survey
   turn next s i c p l =
       cond (isRight w f s l)
-      (cond (leb (c + max (shareIn w s) (heldL l)) n) (next (i + heldL l) (c + max (shareIn w s) (heldL l)) (cond (eqb s k) (i, heldL l) p)) noSurvey)
+      (cond (leb (c + max (shareIn w s) (heldL (formIn w) l)) n)
+      (next (i + heldL (formIn w) l) (c + max (shareIn w s) (heldL (formIn w) l)) (cond (eqb s k) (i, heldL (formIn w) l) p)) noSurvey)
       noSurvey
 
   -- m sets of the family f are still to come, from set s and number i on; the claims before them are c, and p is what is known of set k
   unfoldable pub scan : ℕ → ℕ → ℕ → ℕ → ℕ × ℕ → Survey
   scan zero s i c p = found i c p
   scan (suc m) s i c p =
-      elim (readSet w b n (suc (width f)) s i) [
+      elim (readSet w b n f s i) [
         | badList ↦ noSurvey
         | okList l ↦ turn (scan m (s + 1)) s i c p l
       ]
@@ -89,12 +90,12 @@ module _ (w : List ℕ) (b n f k : ℕ) where
   scan-finish : (m s i c : ℕ) (p : ℕ × ℕ) → c ≤ n → scan m s i c p ≡ finish s i c p (readSets w b n f m s i)
   unfolding scan readSets used claimed
   scan-finish zero s i c p le = rw (add-zero c, add-zero i, le-leb c n le)
-  scan-finish (suc m) s i c p le = go (readSet w b n (suc (width f)) s i) (scan-finish m (s + 1))
+  scan-finish (suc m) s i c p le = go (readSet w b n f s i) (scan-finish m (s + 1))
     where
       go : (r : ReadList)
           → ((j d : ℕ) (q : ℕ × ℕ) → d ≤ n → scan m (s + 1) j d q ≡ finish (s + 1) j d q (readSets w b n f m (s + 1) j))
           → elim r [ badList ↦ noSurvey | okList l ↦ turn (scan m (s + 1)) s i c p l ] ≡
-          finish s i c p (elim r [ badList ↦ badSets | okList l ↦ setBefore (isRight w f s l) (setOf w s l) (readSets w b n f m (s + 1) (i + heldL l)) ])
+          finish s i c p (elim r [ badList ↦ badSets | okList l ↦ setBefore (isRight w f s l) (setOf w s l) (readSets w b n f m (s + 1) (i + heldL (formIn w) l)) ])
       go badList ih = refl
       go (okList l) ih =
           let x = setOf w s l in
@@ -110,7 +111,7 @@ finish-judged w b f k (okSets xs) = rw (zero-add (claimed xs)) (go (leb (claimed
     start = rw (zero-add k) at (chosen-start k 0 1 xs)
 
     go : (o : Bool) → cond o (found (1 + used xs) (claimed xs) (chosen k 0 1 (0, 0) xs)) noSurvey
-        ≡ surveyOf (cond o (sound (record { family = getD w 1 0; nodes = getD w 3 0; sets = xs })) damaged) k
+        ≡ surveyOf (cond o (sound (record { family = getD w 1 0; form = formIn w; nodes = getD w 3 0; sets = xs })) damaged) k
     go true = let e : 1 + used xs - 1 ≡ used xs = omega arith in rw (start, e)
     go false = refl
 

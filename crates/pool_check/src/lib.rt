@@ -1,6 +1,7 @@
 // The check of a whole pool, in one pass over its sets, and the seat of one of them. Of a public-only set the ways down to the inner networks are read, and no list; of an indexed one the
 // top eight levels once more.
 use claims::claim_at;
+use kept_check::kept_end;
 use nets::families::is_family;
 use nodes::reading::trie_end;
 use pool_state::Survey;
@@ -8,19 +9,19 @@ use trie_index::INDEX;
 use trie_index::is_index;
 use trie_meets::standing::is_clear;
 ghost use mathlib.Core.Path.{_≡_};
-ghost use mathlib.Core.Bool.{true, false, not, cond, _&&_, _||_};
+ghost use mathlib.Core.Bool.{true, false, cond, _&&_};
 ghost use mathlib.Core.List.{List};
 ghost use Prim.Native.Nat.{ℕ, suc, _+_, _≤_, _<_};
 ghost use lib.Dec.{eqb, leb};
 ghost use lib.ListN.{length, getD, drop};
 ghost use Rattle.nets.specs.Bits.{Bits};
 ghost use Rattle.nets.specs.Networks.{width};
-ghost use Rattle.inner_nets.specs.Inner.{isPublic};
-ghost use Rattle.nodes.specs.Parse.{Room};
-ghost use Rattle.pool_state.specs.Kept.{heldL, okList, endL};
+ghost use Rattle.pool_state.specs.Kept.{heldL, RoomL};
 ghost use Rattle.pool_state.specs.States.{State, isSize};
-ghost use Rattle.pool_state.specs.Decode.{base, leastWords, isHeader, readSet, isRight, indexesAt, areIndexes, sound, readPool, decode};
-ghost use Rattle.pool_state.specs.Rules.{shareIn, limitIn, publicIn, noSurvey, surveyOf};
+ghost use Rattle.pool_state.specs.Decode.{base, leastWords, formIn, isForm, isHeader, isRight, indexesAt, areIndexes, sound, readPool, decode};
+ghost use Rattle.pool_state.specs.Rules.{shareIn, limitIn, noSurvey, surveyOf};
+ghost use Rattle.pool_state.specs.Steps.{strideIn};
+ghost use Rattle.pool_check.specs.Sets.{endIn, Placed, isUnindexed, marks};
 
 pub mod claims;
 pub mod seats;
@@ -62,7 +63,14 @@ pub fn least_words(sets: u32, nodes: u32, indexed: u32) -> usize
     HEAD + RECORD * (sets as usize) + NODE * (nodes as usize) + INDEX * (indexed as usize)
 }
 
-// The first five words are those of a pool, and the slice is long enough for it.
+// The word of a form that is offered.
+pub fn is_form(x: u32) -> bool
+    ensures { λ r. ⌜ r ≡ isForm x ⌝ }
+{
+    x == 0
+}
+
+// The first six words are those of a pool, and the slice is long enough for it.
 pub fn is_header(w: &[u32]) -> bool
     ensures { λ r. ⌜ r ≡ isHeader (now (w .entry)) ⌝ }
 {
@@ -73,6 +81,9 @@ pub fn is_header(w: &[u32]) -> bool
         return false;
     }
     if !is_family(w[1]) {
+        return false;
+    }
+    if !is_form(w[5]) {
         return false;
     }
     let sets = w[2];
@@ -87,6 +98,20 @@ pub fn is_header(w: &[u32]) -> bool
     least_words(sets, nodes, indexed) <= w.len()
 }
 
+// How many words a node takes, by the pool's form and family.
+pub fn stride_of(w: &[u32]) -> usize
+    requires { ⌜ 64 ≤ length (now w) ⌝ }
+    ensures { λ r. ⌜ r ≡ strideIn (now (w .entry)) ⌝ }
+{
+    if w[5] == 0 {
+        return 1;
+    }
+    if w[1] == 4 {
+        return 2;
+    }
+    5
+}
+
 // The levels that a trie of the family may have: one more than the bits of an address.
 pub fn most_levels(family: u32) -> u32
     ensures { λ r. ⌜ r ≡ suc (width family) ⌝ }
@@ -98,11 +123,10 @@ pub fn most_levels(family: u32) -> u32
 }
 
 // The number after the nodes of set s, where i is the next number that is not placed, or 0 where the set is damaged.
-fn set_end(w: &[u32], b: usize, n: u32, fuel: u32, s: usize, i: u32) -> u32
-    requires { ⌜ Room (now w) b n ⌝ }
-    requires { ⌜ (1 ≤ i) × (fuel ≤ 129) ⌝ }
+fn set_end(w: &[u32], b: usize, n: u32, s: usize, i: u32) -> u32
+    requires { ⌜ RoomL (getD (now w) 1 0) (now w) b n × (1 ≤ i) ⌝ }
     requires { ⌜ (s < 64) × (base (s + 1) ≤ length (now w)) ⌝ }
-    ensures { λ r. ⌜ r ≡ endL i (readSet (now (w .entry)) b n fuel s i) ⌝ }
+    ensures { λ r. ⌜ r ≡ endIn (now (w .entry)) b n s i ⌝ }
 {
     let root = w[HEAD + RECORD * s];
     if root == 0 {
@@ -111,7 +135,10 @@ fn set_end(w: &[u32], b: usize, n: u32, fuel: u32, s: usize, i: u32) -> u32
     if root != i {
         return 0;
     }
-    trie_end(w, b, n, fuel, i)
+    if w[5] == 0 {
+        return trie_end(w, b, n, most_levels(w[1]), i);
+    }
+    kept_end(w, w[1] as u8, b, n, i)
 }
 
 // The share and the nodes of set s are at most its limit.
@@ -127,12 +154,21 @@ fn in_limit(w: &[u32], s: usize, nodes: u32) -> bool
     nodes <= limit
 }
 
+// Set s is not indexed, where the pool is in the second form.
+fn keeps_form(w: &[u32], s: usize) -> bool
+    requires { ⌜ (s < 64) × (base (s + 1) ≤ length (now w)) ⌝ }
+    ensures { λ r. ⌜ r ≡ isUnindexed (now (w .entry)) s ⌝ }
+{
+    if w[5] == 0 {
+        return true;
+    }
+    w[HEAD + RECORD * s + 4] == 0
+}
+
 // The mark of set s, which begins at node i, is one of the two, and where it says public-only, the set keeps clear of the inner networks.
 fn keeps_mark(w: &[u32], b: usize, n: u32, s: usize, i: u32) -> bool
-    requires { ⌜ Room (now w) b n × (1 ≤ i) ⌝ }
-    requires { ⌜ (s < 64) × (base (s + 1) ≤ length (now w)) ⌝ }
-    requires { ⌜ ((f : ℕ) × (l : List Bits) × (readSet (now w) b n f s i ≡ okList l)) ⌝ }
-    ensures { λ r. ⌜ ((f : ℕ) (l : List Bits) → readSet (now (w .entry)) b n f s i ≡ okList l → r ≡ (leb (publicIn (now (w .entry)) s) 1 && (not (eqb (publicIn (now (w .entry)) s) 1) || isPublic (getD (now (w .entry)) 1 0) l))) ⌝ }
+    requires { ⌜ ((l : List Bits) × Placed (now w) b n s i l) ⌝ }
+    ensures { λ r. ⌜ ((l : List Bits) → Placed (now (w .entry)) b n s i l → r ≡ marks (now (w .entry)) s l) ⌝ }
 {
     let mark = w[HEAD + RECORD * s + 3];
     if mark == 0 {
@@ -149,11 +185,12 @@ fn keeps_mark(w: &[u32], b: usize, n: u32, s: usize, i: u32) -> bool
 
 // The rules of set s, whose list stands from node i up to node `end`.
 fn is_right(w: &[u32], b: usize, n: u32, s: usize, i: u32, end: u32) -> bool
-    requires { ⌜ Room (now w) b n × (1 ≤ i) ⌝ }
-    requires { ⌜ (s < 64) × (base (s + 1) ≤ length (now w)) ⌝ }
-    requires { ⌜ ((f : ℕ) × (l : List Bits) × (readSet (now w) b n f s i ≡ okList l) × (end ≡ i + heldL l)) ⌝ }
-    ensures { λ r. ⌜ ((f : ℕ) (l : List Bits) → readSet (now (w .entry)) b n f s i ≡ okList l → end ≡ i + heldL l → r ≡ isRight (now (w .entry)) (getD (now (w .entry)) 1 0) s l) ⌝ }
+    requires { ⌜ ((l : List Bits) × Placed (now w) b n s i l × (end ≡ i + heldL (formIn (now w)) l)) ⌝ }
+    ensures { λ r. ⌜ ((l : List Bits) → Placed (now (w .entry)) b n s i l → end ≡ i + heldL (formIn (now (w .entry))) l → r ≡ isRight (now (w .entry)) (getD (now (w .entry)) 1 0) s l) ⌝ }
 {
+    if !keeps_form(w, s) {
+        return false;
+    }
     if !in_limit(w, s, end - i) {
         return false;
     }
@@ -190,14 +227,13 @@ fn survey_sets(w: &[u32], set: usize) -> Survey
     let sets = w[2] as usize;
     let n = w[3];
     let b = HEAD + RECORD * sets;
-    let fuel = most_levels(w[1]);
     let mut s: usize = 0;
     let mut i: u32 = 1;
     let mut claimed: u32 = 0;
     let mut at: u32 = 0;
     let mut held: u32 = 0;
     while s < sets {
-        let end = set_end(w, b, n, fuel, s, i);
+        let end = set_end(w, b, n, s, i);
         if end == 0 {
             return no_survey();
         }

@@ -1,7 +1,7 @@
 -- States: the rules of a state and of its sets, taken apart, and what the claims of the sets leave of the pool's nodes: free nodes, and the room for a set.
 -- Assumes nothing.
-use mathlib.Core.Path.{_≡_, refl}
-use mathlib.Core.Bool.{Bool, true, false, _&&_}
+use mathlib.Core.Path.{_≡_, refl, ap}
+use mathlib.Core.Bool.{Bool, true, false, _&&_, not, _||_, false≢true}
 use mathlib.Core.List.{List, [], _∷_}
 use Prim.Native.Nat.{ℕ, zero, suc, _+_, _-_, _≤_, _<_}
 use native.Mathlib.Omega.{arith}
@@ -12,8 +12,9 @@ use Rattle.nets.specs.Bits.{Bits, before}
 use Rattle.nets.specs.Lists.{isList, nodesL}
 use Rattle.nets.specs.Networks.{isFamily, width}
 use Rattle.nets.proofs.Strings.{and-left, and-right}
-use Rattle.pool_state.specs.Kept.{heldL}
-use Rattle.pool_state.specs.States.{SetState, State, held, claim, used, claimed, claimedBut, freeOf, roomOf, admits, keepsRules, isSize, isSet, areSets, isState}
+use Rattle.pool_state.specs.Kept.{Form, first, sameForm, heldL}
+use Rattle.pool_state.specs.States.{SetState, State, held, claim, used, claimed, claimedBut, freeOf, roomOf, admits, indexable, keepsRules, isSize, isSet, areSets, isOffered, isState}
+use Rattle.pool_state.proofs.Kept.{sameForm-is, sameForm-refl}
 use Rattle.pool_state.specs.Rules.{noSet}
 
 -- The rules of a state.
@@ -31,29 +32,38 @@ isSize-is s n e =
     )
 
 abbrev numbers : State → Bool
-numbers S = isFamily (S .family) && isSize (length (S .sets)) (S .nodes)
+numbers S = isFamily (S .family) && (isOffered (S .form) && isSize (length (S .sets)) (S .nodes))
 
 abbrev lists : State → Bool
-lists S = areSets (S .family) (S .sets) && leb (claimed (S .sets)) (S .nodes)
+lists S = areSets (S .form) (S .family) (S .sets) && leb (claimed (S .sets)) (S .nodes)
 
 module _ (S : State) (e : isState S ≡ true) where
   pub isState-family : isFamily (S .family) ≡ true
   unfolding isState
-  isState-family = and-left (isFamily (S .family)) (isSize (length (S .sets)) (S .nodes)) (and-left (numbers S) (lists S) e)
+  isState-family = and-left (isFamily (S .family)) (isOffered (S .form) && isSize (length (S .sets)) (S .nodes)) (and-left (numbers S) (lists S) e)
+
+  form-size : (isOffered (S .form) && isSize (length (S .sets)) (S .nodes)) ≡ true
+  unfolding isState
+  form-size = and-right (isFamily (S .family)) (isOffered (S .form) && isSize (length (S .sets)) (S .nodes)) (and-left (numbers S) (lists S) e)
+
+  pub isState-offered : isOffered (S .form) ≡ true
+  isState-offered = and-left (isOffered (S .form)) (isSize (length (S .sets)) (S .nodes)) form-size
+
+  pub isState-form : S .form ≡ first
+  isState-form = sameForm-is (S .form) first isState-offered
 
   pub isState-size : isSize (length (S .sets)) (S .nodes) ≡ true
-  unfolding isState
-  isState-size = and-right (isFamily (S .family)) (isSize (length (S .sets)) (S .nodes)) (and-left (numbers S) (lists S) e)
+  isState-size = and-right (isOffered (S .form)) (isSize (length (S .sets)) (S .nodes)) form-size
 
-  pub isState-sets : areSets (S .family) (S .sets) ≡ true
+  pub isState-sets : areSets (S .form) (S .family) (S .sets) ≡ true
   unfolding isState
-  isState-sets = and-left (areSets (S .family) (S .sets)) (leb (claimed (S .sets)) (S .nodes)) (and-right (numbers S) (lists S) e)
+  isState-sets = and-left (areSets (S .form) (S .family) (S .sets)) (leb (claimed (S .sets)) (S .nodes)) (and-right (numbers S) (lists S) e)
 
   pub isState-claimed : claimed (S .sets) ≤ S .nodes
   unfolding isState
   isState-claimed =
       leb-true (claimed (S .sets)) (S .nodes)
-      (and-right (areSets (S .family) (S .sets)) (leb (claimed (S .sets)) (S .nodes)) (and-right (numbers S) (lists S) e))
+      (and-right (areSets (S .form) (S .family) (S .sets)) (leb (claimed (S .sets)) (S .nodes)) (and-right (numbers S) (lists S) e))
 
 -- The rules of a set: share and nodes are within the limit, and it keeps clear of the inner networks where it is public-only.
 module _ (f : ℕ) (x : SetState) (e : isSet f x ≡ true) where
@@ -63,11 +73,20 @@ module _ (f : ℕ) (x : SetState) (e : isSet f x ≡ true) where
   pub isSet-rules : keepsRules f x ≡ true
   isSet-rules = and-right (isList (width f) (x .list)) (keepsRules f x) e
 
+  abbrev within : Bool
+  within = leb (x .share) (x .limit) && (leb (held x) (x .limit) && admits f x (x .list))
+
+  pub isSet-indexable : indexable x ≡ true
+  isSet-indexable = and-left (indexable x) within isSet-rules
+
+  is-within : within ≡ true
+  is-within = and-right (indexable x) within isSet-rules
+
   pub isSet-share : x .share ≤ x .limit
-  isSet-share = leb-true (x .share) (x .limit) (and-left (leb (x .share) (x .limit)) (leb (held x) (x .limit) && admits f x (x .list)) isSet-rules)
+  isSet-share = leb-true (x .share) (x .limit) (and-left (leb (x .share) (x .limit)) (leb (held x) (x .limit) && admits f x (x .list)) is-within)
 
   held-admits : (leb (held x) (x .limit) && admits f x (x .list)) ≡ true
-  held-admits = and-right (leb (x .share) (x .limit)) (leb (held x) (x .limit) && admits f x (x .list)) isSet-rules
+  held-admits = and-right (leb (x .share) (x .limit)) (leb (held x) (x .limit) && admits f x (x .list)) is-within
 
   pub isSet-held : held x ≤ x .limit
   isSet-held = leb-true (held x) (x .limit) (and-left (leb (held x) (x .limit)) (admits f x (x .list)) held-admits)
@@ -75,26 +94,48 @@ module _ (f : ℕ) (x : SetState) (e : isSet f x ≡ true) where
   pub isSet-admits : admits f x (x .list) ≡ true
   isSet-admits = and-right (leb (held x) (x .limit)) (admits f x (x .list)) held-admits
 
-module _ (f : ℕ) (x : SetState) (xs : List SetState) (e : areSets f (x ∷ xs) ≡ true) where
-  pub areSets-head : isSet f x ≡ true
-  areSets-head = and-left (isSet f x) (areSets f xs) e
+pub indexable-first : (x : SetState) → x .indexed ≡ true → indexable x ≡ true → x .form ≡ first
+indexable-first x q e = sameForm-is (x .form) first (go (sameForm (x .form) first) (rw q at e))
+  where
+    go : (c : Bool) → (c || not true) ≡ true → c ≡ true
+    go true p = refl
+    go false p = absurd (false≢true p)
 
-  pub areSets-tail : areSets f xs ≡ true
-  areSets-tail = and-right (isSet f x) (areSets f xs) e
+module _ (F : Form) (f : ℕ) (x : SetState) (xs : List SetState) (e : areSets F f (x ∷ xs) ≡ true) where
+  first-set : (sameForm (x .form) F && isSet f x) ≡ true
+  first-set = and-left (sameForm (x .form) F && isSet f x) (areSets F f xs) e
+
+  pub areSets-form : x .form ≡ F
+  areSets-form = sameForm-is (x .form) F (and-left (sameForm (x .form) F) (isSet f x) first-set)
+
+  pub areSets-head : isSet f x ≡ true
+  areSets-head = and-right (sameForm (x .form) F) (isSet f x) first-set
+
+  pub areSets-tail : areSets F f xs ≡ true
+  areSets-tail = and-right (sameForm (x .form) F && isSet f x) (areSets F f xs) e
+
+pub areSets-cons : (F : Form) (f : ℕ) (x : SetState) (xs : List SetState) → x .form ≡ F → isSet f x ≡ true → areSets F f xs ≡ true → areSets F f (x ∷ xs) ≡ true
+areSets-cons F f x xs q e g = rw (e, g, ap (λ G. sameForm G F) q) (rw (sameForm-refl F))
 
 -- So every set of a state keeps them; a number that is no set's has an empty one, which does too.
-areSets-at : (f k : ℕ) (xs : List SetState) → areSets f xs ≡ true → isSet f (getD xs k noSet) ≡ true
+areSets-at : (F : Form) (f k : ℕ) (xs : List SetState) → areSets F f xs ≡ true → isSet f (getD xs k noSet) ≡ true
 unfolding isList heldL nodesL
-areSets-at f k [] e = refl
-areSets-at f zero (x ∷ xs) e = areSets-head f x xs e
-areSets-at f (suc k) (x ∷ xs) e = areSets-at f k xs (areSets-tail f x xs e)
+areSets-at F f k [] e = refl
+areSets-at F f zero (x ∷ xs) e = areSets-head F f x xs e
+areSets-at F f (suc k) (x ∷ xs) e = areSets-at F f k xs (areSets-tail F f x xs e)
+
+-- and is kept in the pool's form.
+pub form-at : (F : Form) (f k : ℕ) (xs : List SetState) → k < length xs → areSets F f xs ≡ true → getD xs k noSet .form ≡ F
+form-at F f k [] lt e = absurd (omega arith)
+form-at F f zero (x ∷ xs) lt e = areSets-form F f x xs e
+form-at F f (suc k) (x ∷ xs) lt e = form-at F f k xs (omega arith) (areSets-tail F f x xs e)
 
 module _ (S : State) (k : ℕ) (e : isState S ≡ true) where
   abbrev set : SetState
   set = getD (S .sets) k noSet
 
   rules : isSet (S .family) set ≡ true
-  rules = areSets-at (S .family) k (S .sets) (isState-sets S e)
+  rules = areSets-at (S .form) (S .family) k (S .sets) (isState-sets S e)
 
   pub isList-listAt : isList (width (S .family)) (set .list) ≡ true
   isList-listAt = isSet-list (S .family) set rules
@@ -104,6 +145,9 @@ module _ (S : State) (k : ℕ) (e : isState S ≡ true) where
 
   pub held-limit : held set ≤ set .limit
   held-limit = isSet-held (S .family) set rules
+
+  pub indexable-at : indexable set ≡ true
+  indexable-at = isSet-indexable (S .family) set rules
 
   -- a public-only set keeps clear of the inner networks
   pub admits-listAt : admits (S .family) set (set .list) ≡ true
@@ -131,7 +175,13 @@ roomOf-is S k lt = omega (arith, claimedBut-is k (S .sets) lt)
 
 -- The scope document's pool: IPv6, 100 nodes, shares 40 and 30, limits 60 and 80, set 0 empty; set 1 is empty, or has one /59.
 abbrev poolWith : List Bits → State
-poolWith l = record { family = 6; nodes = 100; sets = record { share = 40; limit = 60; public = false; indexed = false; list = [] } ∷ record { share = 30; limit = 80; public = false; indexed = false; list = l } ∷ [] }
+poolWith l =
+    record {
+      family = 6;
+      form = first;
+      nodes = 100;
+      sets = record { share = 40; limit = 60; public = false; indexed = false; form = first; list = [] } ∷ record { share = 30; limit = 80; public = false; indexed = false; form = first; list = l } ∷ [];
+    }
 
 pub room-empty : (isState (poolWith []) ≡ true) × (roomOf (poolWith []) 1 ≡ 60) × (roomOf (poolWith []) 0 ≡ 70)
 unfolding isState claimed claimedBut isList heldL nodesL
@@ -140,6 +190,6 @@ room-empty = (refl, refl, refl)
 abbrev one59 : List Bits
 one59 = replicate 59 false ∷ []
 
-pub room-one59 : (isState (poolWith one59) ≡ true) × (heldL one59 ≡ 60) × (roomOf (poolWith one59) 0 ≡ 40)
+pub room-one59 : (isState (poolWith one59) ≡ true) × (heldL first one59 ≡ 60) × (roomOf (poolWith one59) 0 ≡ 40)
 unfolding isState claimed claimedBut isList heldL nodesL before width
 room-one59 = (refl, refl, refl)

@@ -1,27 +1,27 @@
 -- What sound words say, in the scope document's sentences, as what is decoded stands in the words. So encoding and decoding are inverse, and a granted layout is decoded.
 -- Assumes nothing.
 use mathlib.Core.Path.{_≡_, refl, _∙_}
-use mathlib.Core.Bool.{Bool, true, false, cond, false≢true}
+use mathlib.Core.Bool.{Bool, true, false, cond, false≢true, _||_, not}
 use mathlib.Core.List.{List, [], _∷_, _++_}
-use Prim.Native.Nat.{ℕ, suc, _+_, _/_, _%_, _≤_, _<_}
+use Prim.Native.Nat.{ℕ, suc, _+_, _/_, _%_, _≤_, _<_, _*_, zero}
 use native.Mathlib.Nat.{zero-add}
 use native.Mathlib.Omega.{arith}
 use lib.Dec.{eqb, leb}
 use lib.ListN.{length, getD, take, drop, replicate}
-use borrow.Author.Tests.{le-leb}
+use borrow.Author.Tests.{le-leb, eqb-true, ne-eqb}
 use Rattle.nets.specs.Bits.{digit}
 use Rattle.nets.specs.Lists.{isList}
 use Rattle.nets.specs.Networks.{width}
 use Rattle.nets.proofs.Strings.{and-left, and-right}
 use Rattle.nodes.specs.Words.{put, Has}
-use Rattle.pool_state.specs.Kept.{encL}
-use Rattle.pool_state.specs.States.{State, used, claimed, indexedOf, isSet, areSets, isState}
-use Rattle.pool_state.specs.Decode.{recordAt, base, leastOf, rootAt, nodeWords, over, sound, decode}
-use Rattle.pool_state.specs.Rules.{noSet, firstNode, total, Setup, layoutNo, emptySets, emptyState, laid, withinLimits, wordsOf, isSetup}
+use Rattle.pool_state.specs.Kept.{encL, Form, first, second, sameForm, formNo, formOf, strideL}
+use Rattle.pool_state.specs.States.{State, used, claimed, indexedOf, isSet, areSets, isState, isOffered}
+use Rattle.pool_state.specs.Decode.{recordAt, base, leastOf, rootAt, nodeWords, over, sound, decode, isForm}
+use Rattle.pool_state.specs.Rules.{noSet, firstNode, total, Setup, layoutNo, emptySets, emptyState, laid, withinLimits, wordsOf, isSetup, isFormed}
 use Rattle.nodes.proofs.Put.{length-put}
 use Rattle.nodes.proofs.Has.{has-head, has-at}
-use Rattle.pool_state.proofs.Kept.{StandsL, heldL-nil}
-use Rattle.pool_state.proofs.Claims.{isState-sets, isState-claimed, used-claimed}
+use Rattle.pool_state.proofs.Kept.{StandsL, heldL-nil, spotL-one}
+use Rattle.pool_state.proofs.Claims.{isState-sets, isState-claimed, used-claimed, areSets-cons}
 use Rattle.pool_state.proofs.Setups.{Kept, isSetup-kept, length-emptySets, indexedOf-emptySets}
 use Rattle.pool_state.proofs.Holds.{HoldsSet, length-nodeWords, nodeWords-at, firstNode-is, holds-at}
 use Rattle.pool_state.proofs.Whole.{HeaderOf, whole-header, whole-decode, decode-whole, over-whole, whole-over}
@@ -36,16 +36,16 @@ module _ (w : List ℕ) (S : State) (e : decode w ≡ sound S) where
   decode-state = decode-whole w S e .plain .state
 
   -- Each node has at most one place: the lists of the sets stand one behind the other.
-  pub decode-has : Has w (base (length (S .sets))) (nodeWords (S .sets))
-  decode-has = has-at (omega arith) (decode-whole w S e .plain .holds .nodes)
+  pub decode-has : Has w (base (length (S .sets))) (nodeWords (S .family) (S .sets))
+  decode-has = has-at (spotL-one (S .form) (S .family) _) (decode-whole w S e .plain .holds .nodes)
 
   -- Every node that is not placed is free: as many are placed as the lists have, no more than are claimed, and no more are claimed than there are.
-  pub decode-used : (length (nodeWords (S .sets)) ≡ used (S .sets)) × (used (S .sets) ≤ claimed (S .sets)) × (claimed (S .sets) ≤ S .nodes)
-  decode-used = (length-nodeWords (S .family) (S .sets) (isState-sets S decode-state), used-claimed (S .sets), isState-claimed S decode-state)
+  pub decode-used : (length (nodeWords (S .family) (S .sets)) ≡ strideL (S .form) (S .family) * used (S .sets)) × (used (S .sets) ≤ claimed (S .sets)) × (claimed (S .sets) ≤ S .nodes)
+  decode-used = (length-nodeWords (S .form) (S .family) (S .sets) (isState-sets S decode-state), used-claimed (S .sets), isState-claimed S decode-state)
 
   -- Set k: its record, its list, and the lists before and behind it.
   module _ (k : ℕ) (lt : k < length (S .sets)) where
-    pub decode-set : HoldsSet w (base (length (S .sets))) (S .nodes) (S .family) k (firstNode k 1 (S .sets)) (getD (S .sets) k noSet)
+    pub decode-set : HoldsSet (S .form) w (base (length (S .sets))) (S .nodes) (S .family) k (firstNode k 1 (S .sets)) (getD (S .sets) k noSet)
     decode-set = rw zero-add at (holds-at 0 k (S .sets) (omega arith) lt (decode-whole w S e .plain .holds))
 
     pub decode-root : getD w (recordAt k) 0 ≡ rootAt (firstNode k 1 (S .sets)) (getD (S .sets) k noSet .list)
@@ -60,12 +60,15 @@ module _ (w : List ℕ) (S : State) (e : decode w ≡ sound S) where
     pub decode-public : getD w (recordAt k + 3) 0 ≡ digit (getD (S .sets) k noSet .public)
     decode-public = decode-set .here .at 3 (omega arith)
 
-    pub decode-list : StandsL w (base (length (S .sets))) (S .nodes) (width (S .family)) (firstNode k 1 (S .sets)) (getD (S .sets) k noSet .list)
+    pub decode-list : StandsL (S .form) (S .family) w (base (length (S .sets))) (S .nodes) (firstNode k 1 (S .sets)) (getD (S .sets) k noSet .list)
     decode-list = decode-set .list
 
-    pub decode-parts : (nodeWords (S .sets) ≡ nodeWords (take k (S .sets)) ++ (encL (getD (S .sets) k noSet .list) ++ nodeWords (drop (suc k) (S .sets))))
-        × (firstNode k 1 (S .sets) ≡ 1 + length (nodeWords (take k (S .sets))))
-    decode-parts = (nodeWords-at k (S .sets) lt, firstNode-is (S .family) k 1 (S .sets) (isState-sets S decode-state) lt)
+    pub decode-form : getD (S .sets) k noSet .form ≡ S .form
+    decode-form = decode-set .form
+
+    pub decode-parts : nodeWords (S .family) (S .sets)
+        ≡ nodeWords (S .family) (take k (S .sets)) ++ (encL (getD (S .sets) k noSet .form) (S .family) (getD (S .sets) k noSet .list) ++ nodeWords (S .family) (drop (suc k) (S .sets)))
+    decode-parts = nodeWords-at (S .family) k (S .sets) lt
 
 -- Encoding and decoding are inverse.
 pub over-decode : (w : List ℕ) (S : State) → decode w ≡ sound S → over w S ≡ w
@@ -82,18 +85,29 @@ pub over-one : (w : List ℕ) (S T : State) → isState S ≡ true → isState T
 over-one w S T e f le lf q = decode-one (over w T) S T (rw q at (decode-over w S e le)) (decode-over w T f lf)
 
 -- A granted layout: every set is empty.
-isSet-empty : (f x y : ℕ) (c : Bool) → leb x y ≡ true → isSet f (record { share = x; limit = y; public = false; indexed = c; list = [] }) ≡ true
+isSet-empty : (F : Form) (f x y : ℕ) (c : Bool) → (sameForm F first || not c) ≡ true → leb x y ≡ true → isSet f (record { share = x; limit = y; public = false; indexed = c; form = F; list = [] }) ≡ true
 unfolding isList
-isSet-empty f x y c e = rw (e, heldL-nil, le-leb 0 y (omega arith))
+isSet-empty F f x y c i e = rw (i, e, heldL-nil F, le-leb 0 y (omega arith))
 
-emptySets-is : (v : ℕ) (shares limits : List ℕ) (z : ℕ) → withinLimits shares limits ≡ true
-    → (areSets v (emptySets shares limits z) ≡ true) × (claimed (emptySets shares limits z) ≡ total shares)
+-- the marks of a setup, of which none is there in the second form
+abbrev Unmarked : Form → ℕ → Type 0
+Unmarked F z = (sameForm F first || eqb z 0) ≡ true
+
+unmarked-half : (F : Form) (z : ℕ) → Unmarked F z → ((sameForm F first || not (eqb (z % 2) 1)) ≡ true) × Unmarked F (z / 2)
+unmarked-half first z e = (refl, refl)
+unmarked-half second z e = let q = eqb-true z 0 e in rw q (refl, refl)
+
+emptySets-is : (F : Form) (v : ℕ) (shares limits : List ℕ) (z : ℕ) → Unmarked F z → withinLimits shares limits ≡ true
+    → (areSets F v (emptySets F shares limits z) ≡ true) × (claimed (emptySets F shares limits z) ≡ total shares)
 unfolding claimed total
-emptySets-is v [] limits z e = (refl, refl)
-emptySets-is v (x ∷ shares) [] z e = absurd (false≢true e)
-emptySets-is v (x ∷ shares) (y ∷ limits) z e =
-    let h = emptySets-is v shares limits (z / 2) (and-right (leb x y) (withinLimits shares limits) e) in
-    (rw (isSet-empty v x y (eqb (z % 2) 1) (and-left (leb x y) (withinLimits shares limits) e)) (h .0), omega (arith, h .1, heldL-nil))
+emptySets-is F v [] limits z m e = (refl, refl)
+emptySets-is F v (x ∷ shares) [] z m e = absurd (false≢true e)
+emptySets-is F v (x ∷ shares) (y ∷ limits) z m e =
+    let (o, n) = unmarked-half F z m in
+    let h = emptySets-is F v shares limits (z / 2) n (and-right (leb x y) (withinLimits shares limits) e) in (
+      areSets-cons F v (record { share = x; limit = y; public = false; indexed = eqb (z % 2) 1; form = F; list = [] }) (emptySets F shares limits (z / 2)) refl (isSet-empty F v x y (eqb (z % 2) 1) o (and-left (leb x y) (withinLimits shares limits) e)) (h .0),
+      omega (arith, h .1, heldL-nil F),
+    )
 
 layoutNo-kept : (w : List ℕ) (p : Setup) → layoutNo w p ≡ 0 → Kept (length w) p
 unfolding layoutNo
@@ -107,18 +121,32 @@ module _ (w : List ℕ) (p : Setup) (e : layoutNo w p ≡ 0) where
   kept : Kept (length w) p
   kept = layoutNo-kept w p e
 
+  -- the form is offered, and none is marked in the second
+  kept-form : isOffered (formOf (p .form)) ≡ true
+  unfolding isForm isFormed
+  kept-form =
+      and-right (eqb (p .form) (formNo (formOf (p .form)))) (isOffered (formOf (p .form))) (and-left (isForm (p .form)) (eqb (p .form) 0 || eqb (p .indexed) 0) (kept .form))
+
+  kept-unmarked : Unmarked (formOf (p .form)) (p .indexed)
+  unfolding isFormed
+  kept-unmarked = go (p .form) (and-right (isForm (p .form)) (eqb (p .form) 0 || eqb (p .indexed) 0) (kept .form))
+    where
+      go : (x : ℕ) → (eqb x 0 || eqb (p .indexed) 0) ≡ true → Unmarked (formOf x) (p .indexed)
+      go zero e = refl
+      go (suc x) e = rw (ne-eqb (suc x) 0 (omega arith)) at e
+
   pub laid-sets : length (emptyState p .sets) ≡ p .sets
-  laid-sets = length-emptySets (p .shares) (p .limits) (p .indexed) (omega (arith, kept .share, kept .limit)) ∙ kept .share
+  laid-sets = length-emptySets (formOf (p .form)) (p .shares) (p .limits) (p .indexed) (omega (arith, kept .share, kept .limit)) ∙ kept .share
 
   pub laid-state : isState (emptyState p) ≡ true
   unfolding isState
   laid-state =
-      let x = emptySets-is (p .family) (p .shares) (p .limits) (p .indexed) (kept .within) in
-      rw (kept .family, laid-sets, kept .size, x .0, x .1) (le-leb (total (p .shares)) (p .nodes) (kept .total))
+      let x = emptySets-is (formOf (p .form)) (p .family) (p .shares) (p .limits) (p .indexed) kept-unmarked (kept .within) in
+      rw (kept .family, kept-form, laid-sets, kept .size, x .0, x .1) (le-leb (total (p .shares)) (p .nodes) (kept .total))
 
   pub laid-least : leastOf (emptyState p) ≡ wordsOf p
   laid-least =
-      rw (laid-sets, indexedOf-emptySets (p .shares) (p .limits) (p .indexed) (omega (arith, kept .share, kept .limit)), kept .share)
+      rw (laid-sets, indexedOf-emptySets (formOf (p .form)) (p .shares) (p .limits) (p .indexed) (omega (arith, kept .share, kept .limit)), kept .share)
 
   pub decode-laid : decode (laid w p) ≡ sound (emptyState p)
   unfolding laid

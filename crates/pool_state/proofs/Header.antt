@@ -9,9 +9,10 @@ use lib.ListN.{length, getD}
 use borrow.Author.Tests.{le-leb, lt-leb, eq-eqb, ne-eqb, leb-true, eqb-true}
 use Rattle.nets.proofs.Strings.{and-left, and-right}
 use Rattle.nodes.specs.Parse.{Room}
-use Rattle.pool_state.specs.States.{isSize}
+use Rattle.pool_state.specs.Kept.{formNo, RoomL}
+use Rattle.pool_state.specs.States.{isSize, isOffered}
 use Rattle.nets.specs.Networks.{isFamily}
-use Rattle.pool_state.specs.Decode.{mark, base, leastWords, isHeader}
+use Rattle.pool_state.specs.Decode.{mark, base, leastWords, formIn, isForm, isHeader}
 use Rattle.pool_state.proofs.Claims.{Sized, isSize-is}
 
 -- The tests.
@@ -28,6 +29,10 @@ module _ (w : List ℕ) where
   unfolding isHeader
   isHeader-family e = simp (e, and-false)
 
+  pub isHeader-form : isForm (getD w 5 0) ≡ false → false ≡ isHeader w
+  unfolding isHeader
+  isHeader-form e = simp (e, and-false)
+
   pub isHeader-size : isSize (getD w 2 0) (getD w 3 0) ≡ false → false ≡ isHeader w
   unfolding isHeader
   isHeader-size e = simp (e, and-false)
@@ -36,34 +41,39 @@ module _ (w : List ℕ) where
   unfolding isHeader
   isHeader-indexed lt = simp (lt-leb (getD w 4 0) (getD w 2 0) lt, and-false)
 
-  pub isHeader-long : getD w 0 0 ≡ mark → isFamily (getD w 1 0) ≡ true → isSize (getD w 2 0) (getD w 3 0) ≡ true → getD w 4 0 ≤ getD w 2 0
+  pub isHeader-long : getD w 0 0 ≡ mark → isFamily (getD w 1 0) ≡ true → isForm (getD w 5 0) ≡ true → isSize (getD w 2 0) (getD w 3 0) ≡ true → getD w 4 0 ≤ getD w 2 0
       → {n : ℕ} → n ≡ leastWords (getD w 2 0) (getD w 3 0) (getD w 4 0) → leb n (length w) ≡ isHeader w
   unfolding isHeader
-  isHeader-long m f s i e = rw (e, eq-eqb (getD w 0 0) mark m, f, s, le-leb (getD w 4 0) (getD w 2 0) i)
+  isHeader-long m f o s i e = rw (e, eq-eqb (getD w 0 0) mark m, f, o, s, le-leb (getD w 4 0) (getD w 2 0) i)
 
 -- What it says: the mark, a family, few sets and nodes, no more indexed sets than sets, and words for them all.
 pub record IsHeader (w : List ℕ) : Type 0 where
   pub marked : getD w 0 0 ≡ mark
   pub family : isFamily (getD w 1 0) ≡ true
+  pub form : getD w 5 0 ≡ formNo (formIn w)
+  pub offered : isOffered (formIn w) ≡ true
   pub size : isSize (getD w 2 0) (getD w 3 0) ≡ true
   pub sized : Sized (getD w 2 0) (getD w 3 0)
   pub indexed : getD w 4 0 ≤ getD w 2 0
   pub long : leastWords (getD w 2 0) (getD w 3 0) (getD w 4 0) ≤ length w
 
 pub isHeader-header : (w : List ℕ) → isHeader w ≡ true → IsHeader w
-unfolding isHeader
+unfolding isHeader isForm
 isHeader-header w e =
     let a = eqb (getD w 0 0) mark in
-    let b = isFamily (getD w 1 0) in
+    let b = isFamily (getD w 1 0) && isForm (getD w 5 0) in
     let c = isSize (getD w 2 0) (getD w 3 0) in
     let i = leb (getD w 4 0) (getD w 2 0) in
     let d = leb (leastWords (getD w 2 0) (getD w 3 0) (getD w 4 0)) (length w) in
     let f = and-left (a && b) (c && (i && d)) e in
     let g = and-right (a && b) (c && (i && d)) e in
     let h = and-right c (i && d) g in
+    let o = and-right (isFamily (getD w 1 0)) (isForm (getD w 5 0)) (and-right a b f) in
     record {
       marked = eqb-true (getD w 0 0) mark (and-left a b f);
-      family = and-right a b f;
+      family = and-left (isFamily (getD w 1 0)) (isForm (getD w 5 0)) (and-right a b f);
+      form = eqb-true (getD w 5 0) (formNo (formIn w)) (and-left (eqb (getD w 5 0) (formNo (formIn w))) (isOffered (formIn w)) o);
+      offered = and-right (eqb (getD w 5 0) (formNo (formIn w))) (isOffered (formIn w)) o;
       size = and-left c (i && d) g;
       sized = isSize-is (getD w 2 0) (getD w 3 0) (and-left c (i && d) g);
       indexed = leb-true (getD w 4 0) (getD w 2 0) (and-left i d h);
@@ -72,3 +82,6 @@ isHeader-header w e =
 
 pub header-room : {w : List ℕ} → IsHeader w → Room w (base (getD w 2 0)) (getD w 3 0)
 header-room h = record { low = omega arith; few = omega arith; long = omega arith }
+
+pub header-rooms : {w : List ℕ} → IsHeader w → RoomL (getD w 1 0) w (base (getD w 2 0)) (getD w 3 0)
+header-rooms h = record { family = h .family; low = omega arith; few = omega arith; long = omega arith }

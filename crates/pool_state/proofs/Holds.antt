@@ -4,6 +4,7 @@ use mathlib.Core.Path.{_≡_, refl, sym, ap, _∙_, subst}
 use mathlib.Core.Bool.{Bool, true, false, not, cond}
 use mathlib.Core.List.{List, [], _∷_, _++_, append-assoc}
 use Prim.Native.Nat.{ℕ, zero, suc, _+_, _*_, _≤_, _<_}
+use native.Mathlib.Nat.{mul-add}
 use native.Mathlib.Omega.{arith}
 use lib.Dec.{eqb, leb}
 use lib.ListN.{length, getD, take, drop, length-append}
@@ -11,25 +12,29 @@ use borrow.Author.Tests.{eq-eqb, ne-eqb, eqb-true, leb-true}
 use Rattle.nets.specs.Bits.{Bits, digit}
 use Rattle.nets.specs.Networks.{width}
 use Rattle.nets.proofs.Strings.{and-left, and-right}
-use Rattle.nodes.specs.Words.{put, Has, Apart, place}
-use Rattle.nodes.specs.Parse.{Room}
-use Rattle.pool_state.specs.Kept.{heldL, encL, ReadList, badList, okList, readL}
+use Rattle.nodes.specs.Words.{put, Has, Apart}
+use Rattle.pool_state.specs.Kept.{Form, heldL, encL, strideL, spotL, RoomL, ReadList, badList, okList, readL}
 use Rattle.pool_state.specs.States.{SetState, held, used, keepsRules, isSet, areSets}
-use Rattle.pool_state.specs.Decode.{recordAt, rootAt, nodeWords, ReadSets, badSets, okSets, readSet, setOf, isRight, setBefore, readSets}
+use Rattle.pool_state.specs.Decode.{recordAt, rootAt, nodeWords, ReadSets, badSets, okSets, formIn, readSet, setOf, isRight, setBefore, readSets}
 use Rattle.pool_state.specs.Rules.{noSet, firstNode}
 use Rattle.nodes.proofs.Has.{has-put, has-front, has-back, has-head, has-at, has-join}
-use Rattle.pool_state.proofs.Kept.{StandsL, length-encL, heldL-nil, nil-stands, readL-of, readL-stands}
-use Rattle.pool_state.proofs.Claims.{isSet-list, isSet-rules, areSets-head, areSets-tail}
+use Rattle.pool_state.proofs.Kept.{spotL-on, spotL-end, strideL-words, StandsL, length-encL, nil-stands, readL-of, readL-stands}
+use Rattle.pool_state.proofs.Claims.{isSet-list, isSet-rules, areSets-form, areSets-head, areSets-tail, areSets-cons}
 
 -- The words of a set, and of sets.
-set-words : (v : ℕ) (x : SetState) → isSet v x ≡ true → length (encL (x .list)) ≡ held x
-set-words v x e = length-encL (width v) (x .list) (isSet-list v x e)
+set-words : (F : Form) (v : ℕ) (x : SetState) → x .form ≡ F → isSet v x ≡ true → length (encL (x .form) v (x .list)) ≡ strideL F v * held x
+set-words F v x q e = length-encL (width v) (x .list) (isSet-list v x e) (x .form) v ∙ ap (λ G. strideL G v * held x) q
 
-pub length-nodeWords : (v : ℕ) (xs : List SetState) → areSets v xs ≡ true → length (nodeWords xs) ≡ used xs
+pub length-nodeWords : (F : Form) (v : ℕ) (xs : List SetState) → areSets F v xs ≡ true → length (nodeWords v xs) ≡ strideL F v * used xs
 unfolding nodeWords used
-length-nodeWords v [] e = refl
-length-nodeWords v (x ∷ xs) e =
-    omega (arith, length-append (encL (x .list)) (nodeWords xs), set-words v x (areSets-head v x xs e), length-nodeWords v xs (areSets-tail v x xs e))
+length-nodeWords F v [] e = omega arith
+length-nodeWords F v (x ∷ xs) e =
+    let a = set-words F v x (areSets-form F v x xs e) (areSets-head F v x xs e) in
+    let b = length-nodeWords F v xs (areSets-tail F v x xs e) in
+    length-append (encL (x .form) v (x .list)) (nodeWords v xs) ∙ rw (a, b) (sym (mul-add (strideL F v) (held x) (used xs)))
+
+pub nodeWords-few : (F : Form) (v : ℕ) (xs : List SetState) → areSets F v xs ≡ true → length (nodeWords v xs) ≤ 8 * used xs
+nodeWords-few F v xs e = omega (arith, length-nodeWords F v xs e, strideL-words F v (used xs))
 
 -- What stands in the words w, with the nodes 1..n from b on and lists of the family v: the record of a set, records, a set, and sets; the first is set s and begins at node i.
 abbrev pub recordOf : ℕ → SetState → List ℕ
@@ -55,50 +60,61 @@ abbrev pub AllTagged : List ℕ → ℕ → List SetState → Type 0
 AllTagged w s [] = Unit
 AllTagged w s (x ∷ xs) = Tagged w s x × AllTagged w (s + 1) xs
 
-pub record HoldsSet (w : List ℕ) (b n v s i : ℕ) (x : SetState) : Type 0 where
+pub record HoldsSet (F : Form) (w : List ℕ) (b n v s i : ℕ) (x : SetState) : Type 0 where
+  pub form : x .form ≡ F
   pub rules : isSet v x ≡ true
   pub here : Has w (recordAt s) (recordOf i x)
   pub tag : Tagged w s x
-  pub list : StandsL w b n (width v) i (x .list)
+  pub list : StandsL F v w b n i (x .list)
 
-pub record Holds (w : List ℕ) (b n v s i : ℕ) (xs : List SetState) : Type 0 where
-  pub rules : areSets v xs ≡ true
+pub record Holds (F : Form) (w : List ℕ) (b n v s i : ℕ) (xs : List SetState) : Type 0 where
+  pub rules : areSets F v xs ≡ true
   pub records : Records w s i xs
   pub tags : AllTagged w s xs
-  pub nodes : Has w (place b i) (nodeWords xs)
+  pub nodes : Has w (spotL F v b i) (nodeWords v xs)
   pub within : i + used xs ≤ suc n
 
-module _ {w : List ℕ} {b n v s i : ℕ} {x : SetState} {xs : List SetState} (pos : 1 ≤ i) where
-  holds-cons : HoldsSet w b n v s i x → Holds w b n v (s + 1) (i + held x) xs → Holds w b n v s i (x ∷ xs)
+-- where the next set begins
+pub next-set : (F : Form) (v b i : ℕ) (x : SetState) → 1 ≤ i → x .form ≡ F → isSet v x ≡ true → spotL F v b i + length (encL (x .form) v (x .list)) ≡ spotL F v b (i + held x)
+next-set F v b i x pos q e = ap (λ m. spotL F v b i + m) (set-words F v x q e) ∙ spotL-on F v b i (held x) pos
+
+module _ {F : Form} {w : List ℕ} {b n v s i : ℕ} {x : SetState} {xs : List SetState} (pos : 1 ≤ i) where
+  holds-cons : HoldsSet F w b n v s i x → Holds F w b n v (s + 1) (i + held x) xs → Holds F w b n v s i (x ∷ xs)
   unfolding nodeWords used
   holds-cons h g = record {
-    rules = rw (h .rules) (g .rules);
+    rules = areSets-cons F v x xs (h .form) (h .rules) (g .rules);
     records = (h .here, g .records);
     tags = (h .tag, g .tags);
-    nodes = has-join (encL (x .list)) (nodeWords xs) (h .list .has) (has-at (omega (arith, set-words v x (h .rules))) (g .nodes));
+    nodes = has-join (encL (x .form) v (x .list)) (nodeWords v xs) (rw (h .form) (h .list .has)) (has-at (sym (next-set F v b i x pos (h .form) (h .rules))) (g .nodes));
     within = omega (arith, g .within);
   }
 
-  holds-head : Holds w b n v s i (x ∷ xs) → HoldsSet w b n v s i x
+  holds-head : Holds F w b n v s i (x ∷ xs) → HoldsSet F w b n v s i x
   unfolding nodeWords used
   holds-head h =
-      let e = areSets-head v x xs (h .rules) in
+      let e = areSets-head F v x xs (h .rules) in
+      let q = areSets-form F v x xs (h .rules) in
       record {
+        form = q;
         rules = e;
         here = h .records .0;
         tag = h .tags .0;
-        list = record { list = isSet-list v x e; within = omega (arith, h .within); has = has-front (encL (x .list)) (nodeWords xs) (h .nodes) };
+        list = record {
+          list = isSet-list v x e;
+          within = omega (arith, h .within, ap (λ G. heldL G (x .list)) q);
+          has = rw q at (has-front (encL (x .form) v (x .list)) (nodeWords v xs) (h .nodes));
+        };
       }
 
-  holds-tail : Holds w b n v s i (x ∷ xs) → Holds w b n v (s + 1) (i + held x) xs
+  holds-tail : Holds F w b n v s i (x ∷ xs) → Holds F w b n v (s + 1) (i + held x) xs
   unfolding nodeWords used
   holds-tail h =
-      let e = set-words v x (areSets-head v x xs (h .rules)) in
+      let e = next-set F v b i x pos (areSets-form F v x xs (h .rules)) (areSets-head F v x xs (h .rules)) in
       record {
-        rules = areSets-tail v x xs (h .rules);
+        rules = areSets-tail F v x xs (h .rules);
         records = h .records .1;
         tags = h .tags .1;
-        nodes = has-at (omega arith) (has-back (encL (x .list)) (nodeWords xs) (h .nodes));
+        nodes = has-at e (has-back (encL (x .form) v (x .list)) (nodeWords v xs) (h .nodes));
         within = omega (arith, h .within);
       }
 
@@ -125,34 +141,35 @@ digit-of (suc zero) le = refl
 digit-of (suc (suc x)) le = absurd (omega arith)
 
 -- A set is read where the words hold it,
-readSet-root : (w : List ℕ) (b n d s i : ℕ) (l : List Bits) → 1 ≤ i → getD w (recordAt s) 0 ≡ rootAt i l → StandsL w b n d i l → readSet w b n (suc d) s i ≡ okList l
+readSet-root : (w : List ℕ) (b n v s i : ℕ) (l : List Bits) → 1 ≤ i → getD w (recordAt s) 0 ≡ rootAt i l → StandsL (formIn w) v w b n i l → readSet w b n v s i ≡ okList l
 unfolding readSet
-readSet-root w b n d s i [] pos r h = rw (eq-eqb (getD w (recordAt s) 0) 0 r)
-readSet-root w b n d s i (p ∷ l) pos r h = rw (r, ne-eqb i 0 (omega arith), eq-eqb i i refl) (readL-of pos (cons-some p l) h)
+readSet-root w b n v s i [] pos r h = rw (eq-eqb (getD w (recordAt s) 0) 0 r)
+readSet-root w b n v s i (p ∷ l) pos r h = rw (r, ne-eqb i 0 (omega arith), eq-eqb i i refl) (readL-of (formIn w) pos (cons-some p l) h)
 
-module _ {w : List ℕ} {b n v s i : ℕ} {x : SetState} (pos : 1 ≤ i) (h : HoldsSet w b n v s i x) where
-  readSet-of : readSet w b n (suc (width v)) s i ≡ okList (x .list)
-  readSet-of = readSet-root w b n (width v) s i (x .list) pos (has-head (h .here)) (h .list)
+module _ {w : List ℕ} {b n v s i : ℕ} {x : SetState} (pos : 1 ≤ i) (h : HoldsSet (formIn w) w b n v s i x) where
+  readSet-of : readSet w b n v s i ≡ okList (x .list)
+  readSet-of = readSet-root w b n v s i (x .list) pos (has-head (h .here)) (h .list)
 
   setOf-of : setOf w s (x .list) ≡ x
-  setOf-of = rw (h .here .at 1 (omega arith), h .here .at 2 (omega arith), h .here .at 3 (omega arith), digit-is (x .public), h .tag)
+  setOf-of = rw (h .here .at 1 (omega arith), h .here .at 2 (omega arith), h .here .at 3 (omega arith), digit-is (x .public), h .tag, h .form)
 
   isRight-of : isRight w v s (x .list) ≡ true
   isRight-of =
       let a : leb (getD w (recordAt s + 3) 0) 1 ≡ true = rw (h .here .at 3 (omega arith)) (digit-few (x .public)) in
       rw a (ap (keepsRules v) setOf-of ∙ isSet-rules v x (h .rules))
 
-readSets-step : (w : List ℕ) (b n f m s i : ℕ) (l : List Bits) → readSet w b n (suc (width f)) s i ≡ okList l
-    → readSets w b n f (suc m) s i ≡ setBefore (isRight w f s l) (setOf w s l) (readSets w b n f m (s + 1) (i + heldL l))
+readSets-step : (w : List ℕ) (b n f m s i : ℕ) (l : List Bits) → readSet w b n f s i ≡ okList l
+    → readSets w b n f (suc m) s i ≡ setBefore (isRight w f s l) (setOf w s l) (readSets w b n f m (s + 1) (i + heldL (formIn w) l))
 unfolding readSets
 readSets-step w b n f m s i l e = rw (e, readSets)
 
-pub readSets-of : (w : List ℕ) (b n v s i : ℕ) (xs : List SetState) → 1 ≤ i → Holds w b n v s i xs → readSets w b n v (length xs) s i ≡ okSets xs
+pub readSets-of : (w : List ℕ) (b n v s i : ℕ) (xs : List SetState) → 1 ≤ i → Holds (formIn w) w b n v s i xs → readSets w b n v (length xs) s i ≡ okSets xs
 unfolding readSets
 readSets-of w b n v s i [] pos h = refl
 readSets-of w b n v s i (x ∷ xs) pos h =
     let g = holds-head pos h in
-    let e = readSets-of w b n v (s + 1) (i + held x) xs (omega arith) (holds-tail pos h) in
+    let e =
+    subst (λ G. readSets w b n v (length xs) (s + 1) (i + heldL G (x .list)) ≡ okSets xs) (g .form) (readSets-of w b n v (s + 1) (i + held x) xs (omega arith) (holds-tail pos h)) in
     readSets-step w b n v (length xs) s i (x .list) (readSet-of pos g) ∙ rw (isRight-of pos g, setOf-of pos g, e)
 
 -- and what is read stands there.
@@ -167,7 +184,14 @@ setBefore-ok c x badSets xs e = absurd (never-sets xs e)
 setBefore-ok true x (okSets ys) xs e = (ys, refl, refl, cc)
 setBefore-ok false x (okSets ys) xs e = absurd (never-sets xs e)
 
--- four words, as they are read
+-- a word, and four words, as they are read
+pub has-one : (w : List ℕ) (p : ℕ) → p < length w → Has w p (getD w p 0 ∷ [])
+has-one w p le = record { fits = omega arith; at = go }
+  where
+    go : (k : ℕ) → k < 1 → getD w (p + k) 0 ≡ getD (getD w p 0 ∷ []) k 0
+    go zero l = let e : p + 0 ≡ p = omega arith in rw e
+    go (suc k) l = absurd (omega arith)
+
 pub has-four : (w : List ℕ) (p : ℕ) → p + 4 ≤ length w → Has w p (getD w p 0 ∷ getD w (p + 1) 0 ∷ getD w (p + 2) 0 ∷ getD w (p + 3) 0 ∷ [])
 has-four w p le = record { fits = le; at = go }
   where
@@ -178,27 +202,28 @@ has-four w p le = record { fits = le; at = go }
     go (suc (suc (suc zero))) l = refl
     go (suc (suc (suc (suc k)))) l = absurd (omega arith)
 
-module _ (w : List ℕ) (b n : ℕ) (room : Room w b n) where
-  readSet-stands : (d s i : ℕ) (l : List Bits) → 1 ≤ i → i ≤ suc n → readSet w b n (suc d) s i ≡ okList l → (getD w (recordAt s) 0 ≡ rootAt i l) × StandsL w b n d i l
+module _ (v : ℕ) (w : List ℕ) (b n : ℕ) (room : RoomL v w b n) where
+  readSet-stands : (s i : ℕ) (l : List Bits) → 1 ≤ i → i ≤ suc n → readSet w b n v s i ≡ okList l → (getD w (recordAt s) 0 ≡ rootAt i l) × StandsL (formIn w) v w b n i l
   unfolding readSet
-  readSet-stands d s i l pos le e = go (eqb (getD w (recordAt s) 0) 0) (eqb (getD w (recordAt s) 0) i) refl refl e
+  readSet-stands s i l pos le e = go (eqb (getD w (recordAt s) 0) 0) (eqb (getD w (recordAt s) 0) i) refl refl e
     where
-      go : (c o : Bool) → eqb (getD w (recordAt s) 0) 0 ≡ c → eqb (getD w (recordAt s) 0) i ≡ o → cond c (okList []) (cond o (readL w b n (suc d) i) badList) ≡ okList l
-          → (getD w (recordAt s) 0 ≡ rootAt i l) × StandsL w b n d i l
+      go : (c o : Bool) → eqb (getD w (recordAt s) 0) 0 ≡ c → eqb (getD w (recordAt s) 0) i ≡ o → cond c (okList []) (cond o (readL (formIn w) v w b n i) badList) ≡ okList l
+          → (getD w (recordAt s) 0 ≡ rootAt i l) × StandsL (formIn w) v w b n i l
       go true o z q h =
           let a : [] ≡ l = cc in
-          subst (λ m. (getD w (recordAt s) 0 ≡ rootAt i m) × StandsL w b n d i m) a (eqb-true (getD w (recordAt s) 0) 0 z, nil-stands w b n d i le (omega (arith, room .long)))
+          subst (λ m. (getD w (recordAt s) 0 ≡ rootAt i m) × StandsL (formIn w) v w b n i m) a (eqb-true (getD w (recordAt s) 0) 0 z, nil-stands (formIn w) v w b n i le (spotL-end (formIn w) room i le))
       go false true z q h =
-          let (a, ne) = readL-stands room pos h in
+          let (a, ne) = readL-stands (formIn w) room pos h in
           (eqb-true (getD w (recordAt s) 0) i q ∙ sym (rootAt-some i l ne), a)
       go false false z q h = absurd (never-read l h)
 
-  module _ (v m s i : ℕ) (pos : 1 ≤ i) (le : i ≤ suc n) (fits : recordAt (s + suc m) ≤ length w) where
-    readSet-holds : (l : List Bits) → readSet w b n (suc (width v)) s i ≡ okList l → isRight w v s l ≡ true → HoldsSet w b n v s i (setOf w s l)
+  module _ (m s i : ℕ) (pos : 1 ≤ i) (le : i ≤ suc n) (fits : recordAt (s + suc m) ≤ length w) where
+    readSet-holds : (l : List Bits) → readSet w b n v s i ≡ okList l → isRight w v s l ≡ true → HoldsSet (formIn w) w b n v s i (setOf w s l)
     readSet-holds l e r =
-        let h = readSet-stands (width v) s i l pos le e in
+        let h = readSet-stands s i l pos le e in
         let z = leb-true (getD w (recordAt s + 3) 0) 1 (and-left (leb (getD w (recordAt s + 3) 0) 1) (keepsRules v (setOf w s l)) r) in
         record {
+          form = refl;
           rules = rw (h .1 .list) (and-right (leb (getD w (recordAt s + 3) 0) 1) (keepsRules v (setOf w s l)) r);
           here = rw (h .0, digit-of (getD w (recordAt s + 3) 0) z) at (has-four w (recordAt s) (omega arith));
           tag = refl;
@@ -206,49 +231,46 @@ module _ (w : List ℕ) (b n : ℕ) (room : Room w b n) where
         }
 
     readSets-first : (xs : List SetState) → readSets w b n v (suc m) s i ≡ okSets xs
-        → (x : SetState) × (ys : List SetState) × HoldsSet w b n v s i x × (readSets w b n v m (s + 1) (i + held x) ≡ okSets ys) × (x ∷ ys ≡ xs)
+        → (x : SetState) × (ys : List SetState) × HoldsSet (formIn w) w b n v s i x × (readSets w b n v m (s + 1) (i + held x) ≡ okSets ys) × (x ∷ ys ≡ xs)
     unfolding readSets
-    readSets-first xs e = go (readSet w b n (suc (width v)) s i) refl
+    readSets-first xs e = go (readSet w b n v s i) refl
       where
-        go : (r : ReadList) → readSet w b n (suc (width v)) s i ≡ r
-            → (x : SetState) × (ys : List SetState) × HoldsSet w b n v s i x × (readSets w b n v m (s + 1) (i + held x) ≡ okSets ys) × (x ∷ ys ≡ xs)
+        go : (r : ReadList) → readSet w b n v s i ≡ r
+            → (x : SetState) × (ys : List SetState) × HoldsSet (formIn w) w b n v s i x × (readSets w b n v m (s + 1) (i + held x) ≡ okSets ys) × (x ∷ ys ≡ xs)
         go badList q = absurd (never-sets xs (rw (q, readSets) at e))
         go (okList l) q =
-            let a = setBefore-ok (isRight w v s l) (setOf w s l) (readSets w b n v m (s + 1) (i + heldL l)) xs (sym (readSets-step w b n v m s i l q) ∙ e) in
+            let a = setBefore-ok (isRight w v s l) (setOf w s l) (readSets w b n v m (s + 1) (i + heldL (formIn w) l)) xs (sym (readSets-step w b n v m s i l q) ∙ e) in
             (setOf w s l, a .0, readSet-holds l q (a .2), a .1, a .3)
 
-  pub readSets-holds : (v m s i : ℕ) (xs : List SetState) → 1 ≤ i → i ≤ suc n → recordAt (s + m) ≤ length w → readSets w b n v m s i ≡ okSets xs → Holds w b n v s i xs × (length xs ≡ m)
+  pub readSets-holds : (m s i : ℕ) (xs : List SetState) → 1 ≤ i → i ≤ suc n → recordAt (s + m) ≤ length w → readSets w b n v m s i ≡ okSets xs
+      → Holds (formIn w) w b n v s i xs × (length xs ≡ m)
   unfolding readSets nodeWords used
-  readSets-holds v zero s i xs pos le fits e =
+  readSets-holds zero s i xs pos le fits e =
       let a : [] ≡ xs = cc in
-      let empty : Has w (place b i) [] = record { fits = omega (arith, room .long); at = λ k l. absurd (omega arith) } in
-      subst (λ ys. Holds w b n v s i ys × (length ys ≡ 0)) a (record { rules = refl; records = tt; tags = tt; nodes = empty; within = omega arith }, refl)
-  readSets-holds v (suc m) s i xs pos le fits e =
-      let p = readSets-first v m s i pos le fits xs e in
+      let empty : Has w (spotL (formIn w) v b i) [] = record { fits = omega (arith, spotL-end (formIn w) room i le); at = λ k l. absurd (omega arith) } in
+      subst (λ ys. Holds (formIn w) w b n v s i ys × (length ys ≡ 0)) a (record { rules = refl; records = tt; tags = tt; nodes = empty; within = omega arith }, refl)
+  readSets-holds (suc m) s i xs pos le fits e =
+      let p = readSets-first m s i pos le fits xs e in
       let h = p .2 in
-      let g = readSets-holds v m (s + 1) (i + held (p .0)) (p .1) (omega arith) (omega (arith, h .list .within)) (omega arith) (p .3) in
-      subst (λ ys. Holds w b n v s i ys × (length ys ≡ suc m)) (p .4) (holds-cons pos h (g .0), ap suc (g .1))
+      let g = readSets-holds m (s + 1) (i + held (p .0)) (p .1) (omega arith) (omega (arith, h .list .within, ap (λ G. heldL G (p .0 .list)) (h .form))) (omega arith) (p .3) in
+      subst (λ ys. Holds (formIn w) w b n v s i ys × (length ys ≡ suc m)) (p .4) (holds-cons pos h (g .0), ap suc (g .1))
 
 -- Set k of sets in words, and the words of the nodes before it and behind it.
-pub holds-at : {w : List ℕ} {b n v i : ℕ} (s k : ℕ) (xs : List SetState) → 1 ≤ i → k < length xs → Holds w b n v s i xs → HoldsSet w b n v (s + k) (firstNode k i xs) (getD xs k noSet)
+pub holds-at : {F : Form} {w : List ℕ} {b n v i : ℕ} (s k : ℕ) (xs : List SetState) → 1 ≤ i → k < length xs → Holds F w b n v s i xs
+    → HoldsSet F w b n v (s + k) (firstNode k i xs) (getD xs k noSet)
 holds-at s k [] pos lt h = absurd (omega arith)
 holds-at s zero (x ∷ xs) pos lt h = let e : s + 0 ≡ s = omega arith in rw e (holds-head pos h)
 holds-at s (suc k) (x ∷ xs) pos lt h = let e : s + suc k ≡ s + 1 + k = omega arith in rw e (holds-at (s + 1) k xs (omega arith) (omega arith) (holds-tail pos h))
 
-pub nodeWords-at : (k : ℕ) (xs : List SetState) → k < length xs → nodeWords xs ≡ nodeWords (take k xs) ++ (encL (getD xs k noSet .list) ++ nodeWords (drop (suc k) xs))
+pub nodeWords-at : (v k : ℕ) (xs : List SetState) → k < length xs
+    → nodeWords v xs ≡ nodeWords v (take k xs) ++ (encL (getD xs k noSet .form) v (getD xs k noSet .list) ++ nodeWords v (drop (suc k) xs))
 unfolding nodeWords
-nodeWords-at k [] lt = absurd (omega arith)
-nodeWords-at zero (x ∷ xs) lt = refl
-nodeWords-at (suc k) (x ∷ xs) lt = rw (nodeWords-at k xs (omega arith)) (sym (append-assoc (encL (x .list)) (nodeWords (take k xs)) _))
+nodeWords-at v k [] lt = absurd (omega arith)
+nodeWords-at v zero (x ∷ xs) lt = refl
+nodeWords-at v (suc k) (x ∷ xs) lt = rw (nodeWords-at v k xs (omega arith)) (sym (append-assoc (encL (x .form) v (x .list)) (nodeWords v (take k xs)) _))
 
-pub firstNode-is : (v k i : ℕ) (xs : List SetState) → areSets v xs ≡ true → k < length xs → firstNode k i xs ≡ i + length (nodeWords (take k xs))
-unfolding nodeWords
-firstNode-is v k i [] e lt = absurd (omega arith)
-firstNode-is v zero i (x ∷ xs) e lt = omega arith
-firstNode-is v (suc k) i (x ∷ xs) e lt =
-    omega (
-      arith,
-      firstNode-is v k (i + held x) xs (areSets-tail v x xs e) (omega arith),
-      length-append (encL (x .list)) (nodeWords (take k xs)),
-      set-words v x (areSets-head v x xs e),
-    )
+pub firstNode-is : (F : Form) (v k i : ℕ) (xs : List SetState) → areSets F v xs ≡ true → k < length xs → firstNode k i xs ≡ i + used (take k xs)
+unfolding used
+firstNode-is F v k i [] e lt = absurd (omega arith)
+firstNode-is F v zero i (x ∷ xs) e lt = omega arith
+firstNode-is F v (suc k) i (x ∷ xs) e lt = omega (arith, firstNode-is F v k (i + held x) xs (areSets-tail F v x xs e) (omega arith))

@@ -44,23 +44,23 @@ module _ {w : List ℕ} {S : State} {k : ℕ} {v : Survey} (h : Seen w S k v) wh
   room-held le = omega (arith, own, share-is, h .held, h .claimed, seen-header h .nodes)
 
   -- the verdict on a result of n nodes, where c says whether the set may have it as far as its mark goes
-  module _ (l : List Bits) {c : Bool} (p : admits (S .family) (setAt S k) l ≡ c) {n : ℕ} (e : heldL l ≡ n) where
+  module _ (l : List Bits) {c : Bool} (p : admits (S .family) (setAt S k) l ≡ c) {n : ℕ} (e : heldL (setAt S k .form) l ≡ n) where
     pub judge-public : c ≡ false → 14 ≡ firstNo (grantRules S k l)
     judge-public q = rw (p, q)
 
     module _ (t : c ≡ true) where
       pub judge-limit : getD w (recordAt k + 2) 0 < n → 9 ≡ firstNo (grantRules S k l)
-      judge-limit lt = rw (p, t, lt-ltb (setAt S k .limit) (heldL l) (omega (arith, limit-is)))
+      judge-limit lt = rw (p, t, lt-ltb (setAt S k .limit) (heldL (setAt S k .form) l) (omega (arith, limit-is)))
 
       module _ (le : n ≤ getD w (recordAt k + 2) 0) {r : ℕ} (q : r ≡ roomOf S k) where
-        within : ltb (setAt S k .limit) (heldL l) ≡ false
-        within = le-ltb (setAt S k .limit) (heldL l) (omega (arith, limit-is))
+        within : ltb (setAt S k .limit) (heldL (setAt S k .form) l) ≡ false
+        within = le-ltb (setAt S k .limit) (heldL (setAt S k .form) l) (omega (arith, limit-is))
 
         pub judge-room : r < n → 10 ≡ firstNo (grantRules S k l)
-        judge-room lt = rw (p, t, within, lt-ltb (roomOf S k) (heldL l) (omega arith))
+        judge-room lt = rw (p, t, within, lt-ltb (roomOf S k) (heldL (setAt S k .form) l) (omega arith))
 
         pub judge-none : n ≤ r → 0 ≡ firstNo (grantRules S k l)
-        judge-none lf = rw (p, t, within, le-ltb (roomOf S k) (heldL l) (omega arith))
+        judge-none lf = rw (p, t, within, le-ltb (roomOf S k) (heldL (setAt S k .form) l) (omega arith))
 
 -- The number of a change: the set, and then the rules of the call.
 module _ (S : State) (k : ℕ) (rs : List Rule) where
@@ -79,10 +79,10 @@ pub relistNo-known : (S : State) (k : ℕ) (a : List Rule) (l : List Bits) → k
 relistNo-known S k a l lt = changeNo-known S k (a ++ grantRules S k l) lt ∙ firstNo-append a (grantRules S k l)
 
 module _ (S : State) (k : ℕ) (l : List Bits) where
-  pub grant-within : firstNo (grantRules S k l) ≡ 0 → (heldL l ≤ setAt S k .limit) × (heldL l ≤ roomOf S k)
+  pub grant-within : firstNo (grantRules S k l) ≡ 0 → (heldL (setAt S k .form) l ≤ setAt S k .limit) × (heldL (setAt S k .form) l ≤ roomOf S k)
   grant-within e =
       let c = firstNo-zero (grantRules S k l) e in
-      (ltb-false (setAt S k .limit) (heldL l) (c .1 .0), ltb-false (roomOf S k) (heldL l) (c .1 .1 .0))
+      (ltb-false (setAt S k .limit) (heldL (setAt S k .form) l) (c .1 .0), ltb-false (roomOf S k) (heldL (setAt S k .form) l) (c .1 .1 .0))
 
   pub grant-admits : firstNo (grantRules S k l) ≡ 0 → admits (S .family) (setAt S k) l ≡ true
   grant-admits e = not-false (admits (S .family) (setAt S k) l) (firstNo-zero (grantRules S k l) e .0)
@@ -96,7 +96,7 @@ module _ (S : State) (k : ℕ) (l : List Bits) where
       λ z. is-fits S k (setWith (setAt S k) l) (grant-fits z),
       λ z.
           let f = fits-is S k (setWith (setAt S k) l) z in
-          rw (f .public, le-ltb (setAt S k .limit) (heldL l) (f .held), le-ltb (roomOf S k) (heldL l) (omega (arith, f .room))),
+          rw (f .public, le-ltb (setAt S k .limit) (heldL (setAt S k .form) l) (f .held), le-ltb (roomOf S k) (heldL (setAt S k .form) l) (omega (arith, f .room))),
     )
 
 -- What a set may have as far as its mark goes, by whether it is marked: anything, or what is clear of the inner networks.

@@ -57,7 +57,7 @@ module _ (S : State) (k : ℕ) (rs : List Rule) (x : SetState) where
 
 -- where the rules are passed, x is what may stand there, and is indexed where the set is
 abbrev pub Keeps : State → ℕ → List Rule → SetState → Type 0
-Keeps S k rs x = k < length (S .sets) → firstNo rs ≡ 0 → (isList (width (S .family)) (x .list) ≡ true) × Fits S k x × (x .indexed ≡ setAt S k .indexed)
+Keeps S k rs x = k < length (S .sets) → firstNo rs ≡ 0 → (isList (width (S .family)) (x .list) ≡ true) × Fits S k x × (x .indexed ≡ setAt S k .indexed) × (x .form ≡ setAt S k .form)
 
 -- The call leaves sound words, of that state: with x where it is granted; the other sets as they were; no list above its limit; no word past the smallest buffer touched.
 pub record Leaves (w : List ℕ) (S : State) (k : ℕ) (rs : List Rule) (x : SetState) (v : List ℕ) : Type 0 where
@@ -75,7 +75,7 @@ module _ {w v : List ℕ} {S : State} {k : ℕ} {rs : State → List Rule} {f : 
   unfolding wordsAfter leftOn
   after-holds =
       after-cases S k (rs S) (f S) (λ T. decode v ≡ sound T)
-      (λ z. let (lt, y) = changeNo-zero S k (rs S) z in let (l, g, m) = i lt y in rw (c .words, d, z) (decode-withSet w S k (f S) d lt l g m))
+      (λ z. let (lt, y) = changeNo-zero S k (rs S) z in let (l, g, m, q) = i lt y in rw (c .words, d, z) (decode-withSet w S k (f S) d lt l g m q))
       (λ q. rw (c .words, d, q) d)
 
   after-past : Past (leastOf S) w v
@@ -84,8 +84,8 @@ module _ {w v : List ℕ} {S : State} {k : ℕ} {rs : State → List Rule} {f : 
       after-cases S k (rs S) (f S) (λ T. Past (leastOf S) w v)
       (λ z.
       let (lt, y) = changeNo-zero S k (rs S) z in
-      let (l, g, m) = i lt y in
-      let o = over-past w (withSet S k (f S)) (isState-withSet S k (decode-state w S d) lt (f S) l g) in
+      let (l, g, m, q) = i lt y in
+      let o = over-past w (withSet S k (f S)) (isState-withSet S k (decode-state w S d) lt (f S) q m l g) in
       rw (c .words, d, z) (rw (withSet-least S k (f S) m) at o))
       (λ q. rw (c .words, d, q) (past-refl _ w))
 
@@ -107,25 +107,25 @@ pub record RelistLeaves (w : List ℕ) (S : State) (k : ℕ) (a : List Rule) (l 
   pub leaves : Leaves w S k (a ++ grantRules S k l) (setWith (setAt S k) l) v
   pub list : relistNo S k a l ≡ 0 → listAt (relistAfter S k a l) k ≡ l
   pub plan : (j : ℕ) → SamePlan (setAt (relistAfter S k a l) j) (setAt S j)
-  pub share : k < length (S .sets) → firstNo a ≡ 0 → admits (S .family) (setAt S k) l ≡ true → heldL l ≤ setAt S k .share → r ≡ (0, heldL l)
+  pub share : k < length (S .sets) → firstNo a ≡ 0 → admits (S .family) (setAt S k) l ≡ true → heldL (setAt S k .form) l ≤ setAt S k .share → r ≡ (0, heldL (setAt S k .form) l)
 
 module _ (S : State) (k : ℕ) (a : List Rule) (l : List Bits) where
   pub after-plan : (j : ℕ) → SamePlan (setAt (relistAfter S k a l) j) (setAt S j)
   after-plan j =
       after-cases S k (a ++ grantRules S k l) (setWith (setAt S k) l) (λ (T : State). SamePlan (setAt T j) (setAt S j))
-      (λ q. withSet-plan S k l j) (λ q. (refl, refl, refl, refl))
+      (λ q. withSet-plan S k l j) (λ q. (refl, refl, refl, refl, refl))
 
   pub relist-keeps : isState S ≡ true → (firstNo a ≡ 0 → isList (width (S .family)) l ≡ true) → Keeps S k (a ++ grantRules S k l) (setWith (setAt S k) l)
-  relist-keeps e i lt z = let (x, y) = firstNo-both a (grantRules S k l) z in (i x, grant-fits S k l e lt y, refl)
+  relist-keeps e i lt z = let (x, y) = firstNo-both a (grantRules S k l) z in (i x, grant-fits S k l e lt y, refl, refl)
 
 module _ (a : State → List Rule) (f : State → List Bits) {w v : List ℕ} {S : State} {k : ℕ} {r : ℕ × ℕ} (d : decode w ≡ sound S)
     (i : firstNo (a S) ≡ 0 → isList (width (S .family)) (f S) ≡ true) (c : Relisted w k a f r v) where
-  answer-share : k < length (S .sets) → firstNo (a S) ≡ 0 → admits (S .family) (setAt S k) (f S) ≡ true → heldL (f S) ≤ setAt S k .share → r ≡ (0, heldL (f S))
+  answer-share : k < length (S .sets) → firstNo (a S) ≡ 0 → admits (S .family) (setAt S k) (f S) ≡ true → heldL (setAt S k .form) (f S) ≤ setAt S k .share → r ≡ (0, heldL (setAt S k .form) (f S))
   unfolding changeRule relistRules relistSet
   answer-share lt z m le =
       let e = decode-state w S d in
-      let p = le-ltb (setAt S k .limit) (heldL (f S)) (omega (arith, share-limit S k e)) in
-      let q = le-ltb _ (heldL (f S)) (share-roomOf S k e lt (heldL (f S)) le) in
+      let p = le-ltb (setAt S k .limit) (heldL (setAt S k .form) (f S)) (omega (arith, share-limit S k e)) in
+      let q = le-ltb _ (heldL (setAt S k .form) (f S)) (share-roomOf S k e lt (heldL (setAt S k .form) (f S)) le) in
       c .answer ∙ sym (owes-granted _ 0 _ w (λ T. w) d (relistNo-known S k (a S) (f S) lt ∙ rw (z, m, p, q)) .0)
 
   leaves-state : Leaves w S k (a S ++ grantRules S k (f S)) (setWith (setAt S k) (f S)) v

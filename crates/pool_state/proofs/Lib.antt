@@ -27,8 +27,10 @@ pub mod Reindexed
 pub mod Restated
 pub mod Planned
 pub mod Returns
+pub mod Counted
 -- The same for a set as a trie.
 pub mod OnTries
+pub mod OnKept
 -- What each call comes to: one outcome, and what it leaves.
 pub mod Determined
 pub mod Filled

@@ -10,11 +10,12 @@ use borrow.Author.Tests.{eqb-true}
 use Rattle.nets.specs.Bits.{digit}
 use Rattle.nodes.specs.Words.{put}
 use Rattle.nodes.proofs.Put.{getD-put-behind, length-put}
+use Rattle.pool_state.specs.Kept.{formNo}
 use Rattle.pool_state.specs.States.{SetState, State, held, indexedOf, isState}
 use Rattle.pool_state.specs.Decode.{mark, recordAt, base, leastOf, rootAt, overRecords, nodeWords, overSets, indexesAt, tagOf, indexWords, overIndexes, over}
 use Rattle.pool_state.specs.Rules.{Setup, wordsOf, emptyState, layoutNo, laid, Laid}
 use Rattle.pool_state.proofs.Claims.{isState-sets, isState-claimed, used-claimed}
-use Rattle.pool_state.proofs.Holds.{length-nodeWords}
+use Rattle.pool_state.proofs.Holds.{nodeWords-few}
 use Rattle.pool_state.proofs.Indexed.{length-indexWords}
 use Rattle.pool_state.proofs.Whole.{length-over}
 use Rattle.pool_state.proofs.Decoded.{laid-state, laid-least}
@@ -42,9 +43,10 @@ unfolding overSets
 overSets-past w S e j le =
     let n = length (S .sets) in
     let h = mark ∷ S .family ∷ n ∷ S .nodes ∷ [] in
-    let l = length-nodeWords (S .family) (S .sets) (isState-sets S e) in
-    getD-put-behind (overRecords (put w 0 h) 0 1 (S .sets)) (base n) (nodeWords (S .sets)) j (omega (arith, l, used-claimed (S .sets), isState-claimed S e))
-    ∙ (overRecords-past (put w 0 h) 0 1 (S .sets) j (omega arith) ∙ getD-put-behind w 0 h j (omega arith))
+    let u = put (put w 0 h) 5 (formNo (S .form) ∷ []) in
+    let l = nodeWords-few (S .form) (S .family) (S .sets) (isState-sets S e) in
+    getD-put-behind (overRecords u 0 1 (S .sets)) (base n) (nodeWords (S .family) (S .sets)) j (omega (arith, l, used-claimed (S .sets), isState-claimed S e))
+    ∙ (overRecords-past u 0 1 (S .sets) j (omega arith) ∙ getD-put-behind (put w 0 h) 5 (formNo (S .form) ∷ []) j (omega arith) ∙ getD-put-behind w 0 h j (omega arith))
 
 overIndexes-past : (w : List ℕ) (m s i : ℕ) (xs : List SetState) (j : ℕ) → recordAt (s + length xs) ≤ m → m + 256 * (i + indexedOf xs) ≤ j → getD (overIndexes w m s i xs) j 0 ≡ getD w j 0
 unfolding overIndexes indexedOf

@@ -11,7 +11,7 @@ use lib.Seq.{getD-set-other}
 use borrow.Author.Tests.{ne-eqb}
 use Rattle.nets.specs.Bits.{Bits}
 use Rattle.nodes.specs.Words.{put, Has}
-use Rattle.pool_state.specs.Kept.{heldL}
+use Rattle.pool_state.specs.Kept.{heldL, Form}
 use Rattle.pool_state.specs.States.{SetState, held}
 use Rattle.pool_state.specs.Decode.{recordAt, base, rootAt, overRecords}
 use Rattle.pool_state.specs.Rules.{noSet, firstNode}
@@ -71,9 +71,9 @@ movedRoot-is : (i old new : ℕ) (l : List Bits) → 1 ≤ i → movedRoot old n
 movedRoot-is i old new [] pos = refl
 movedRoot-is i old new (p ∷ l) pos = rw (ne-eqb (i + old) 0 (λ e. omega arith)) (omega arith)
 
-ownRoot-is : (i : ℕ) (l : List Bits) → ownRoot i (heldL l) ≡ rootAt i l
-ownRoot-is i [] = rw heldL-nil
-ownRoot-is i (p ∷ l) = rw (ne-eqb (heldL (p ∷ l)) 0 (λ e. cons-some p l (heldL-none (p ∷ l) e)))
+ownRoot-is : (F : Form) (i : ℕ) (l : List Bits) → ownRoot i (heldL F l) ≡ rootAt i l
+ownRoot-is F i [] = rw (heldL-nil F)
+ownRoot-is F i (p ∷ l) = rw (ne-eqb (heldL F (p ∷ l)) 0 (λ e. cons-some p l (heldL-none F (p ∷ l) e)))
 
 -- Where the share and the limit of a set stand, writing its record writes its root.
 put-root : {w : List ℕ} {p x : ℕ} {ys : List ℕ} (r : ℕ) → Has w p (x ∷ ys) → put w p (r ∷ ys) ≡ put w p (r ∷ [])
@@ -98,7 +98,7 @@ overRecords-moved w s i old new (x ∷ xs) pos h =
 
 -- The records from set s on, where set s + k has another list.
 overRecords-with : (k : ℕ) (l : List Bits) (w : List ℕ) (s i : ℕ) (ss : List SetState) → 1 ≤ i → k < length ss → Records w s i ss
-    → overRecords w s i (setsWith k (setWith (getD ss k noSet) l) ss) ≡ movedRoots (put w (recordAt (s + k)) (rootAt (firstNode k i ss) l ∷ [])) (held (getD ss k noSet)) (heldL l) (length ss - suc k) (s + k + 1)
+    → overRecords w s i (setsWith k (setWith (getD ss k noSet) l) ss) ≡ movedRoots (put w (recordAt (s + k)) (rootAt (firstNode k i ss) l ∷ [])) (held (getD ss k noSet)) (heldL (getD ss k noSet .form) l) (length ss - suc k) (s + k + 1)
 unfolding overRecords
 overRecords-with k l w s i [] pos lt h = absurd (omega arith)
 overRecords-with zero l w s i (x ∷ xs) pos lt h =
@@ -106,7 +106,7 @@ overRecords-with zero l w s i (x ∷ xs) pos lt h =
     let a : s + 0 ≡ s = omega arith in
     let b : suc (length xs) - 1 ≡ length xs = omega arith in
     let g = records-put w (s + 1) (i + held x) xs (recordAt s) (rootAt i l ∷ []) (λ j c d e f. omega arith) (h .1) in
-    rw (a, b) (ap (λ y. overRecords y (s + 1) (i + heldL l) xs) (put-root (rootAt i l) (h .0)) ∙ overRecords-moved u (s + 1) i (held x) (heldL l) xs pos g)
+    rw (a, b) (ap (λ y. overRecords y (s + 1) (i + heldL (x .form) l) xs) (put-root (rootAt i l) (h .0)) ∙ overRecords-moved u (s + 1) i (held x) (heldL (x .form) l) xs pos g)
 overRecords-with (suc k) l w s i (x ∷ xs) pos lt h =
     let a : s + suc k ≡ s + 1 + k = omega arith in
     let b : suc (length xs) - suc (suc k) ≡ length xs - suc k = omega arith in
@@ -159,7 +159,7 @@ module _ (w : List ℕ) (k i old new : ℕ) where
 
 -- The records of the state afterwards.
 pub overRecords-relinked : (w : List ℕ) (k : ℕ) (l : List Bits) (ss : List SetState) → getD w 2 0 ≡ length ss → k < length ss → Records w 0 1 ss
-    → overRecords w 0 1 (setsWith k (setWith (getD ss k noSet) l) ss) ≡ relinked w k (firstNode k 1 ss) (held (getD ss k noSet)) (heldL l)
+    → overRecords w 0 1 (setsWith k (setWith (getD ss k noSet) l) ss) ≡ relinked w k (firstNode k 1 ss) (held (getD ss k noSet)) (heldL (getD ss k noSet .form) l)
 unfolding relinked
 overRecords-relinked w k l ss e lt h =
-    rw (e, ownRoot-is (firstNode k 1 ss) l) (rw (zero-add k) at (overRecords-with k l w 0 1 ss (omega arith) lt h))
+    rw (e, ownRoot-is (getD ss k noSet .form) (firstNode k 1 ss) l) (rw (zero-add k) at (overRecords-with k l w 0 1 ss (omega arith) lt h))

@@ -35,11 +35,11 @@ module _ {w : List ℕ} {S : State} {k : ℕ} {v : Survey} (h : Seen w S k v) (l
   abbrev new : SetState
   new = setWith (setAt S k) l
 
-  used-with : used (withSet S k new .sets) ≡ v .used - v .held + heldL l
+  used-with : used (withSet S k new .sets) ≡ v .used - v .held + heldL (setAt S k .form) l
   unfolding withSet
-  used-with = omega (arith, used-setsWith k new (S .sets) (h .known), used-setsWith k (setWith (setAt S k) []) (S .sets) (h .known), heldL-nil, h .used, h .held)
+  used-with = omega (arith, used-setsWith k new (S .sets) (h .known), used-setsWith k (setWith (setAt S k) []) (S .sets) (h .known), heldL-nil (setAt S k .form), h .used, h .held)
 
-  claimed-with : claimed (withSet S k new .sets) ≡ v .claimed - max (setAt S k .share) (v .held) + max (setAt S k .share) (heldL l)
+  claimed-with : claimed (withSet S k new .sets) ≡ v .claimed - max (setAt S k .share) (v .held) + max (setAt S k .share) (heldL (setAt S k .form) l)
   unfolding withSet
   claimed-with = omega (arith, claimed-setsWith k new (S .sets) (h .known), claimedBut-is k (S .sets) (h .known), h .claimed, h .held)
 
@@ -47,14 +47,14 @@ module _ {w : List ℕ} {S : State} {k : ℕ} {v : Survey} (h : Seen w S k v) (l
   unfolding withSet
   at-with = firstNode-setsWith k 1 new (S .sets) ∙ sym (h .at)
 
-  pub survey-with : surveyWith (setAt S k .share) v (heldL l) ≡ surveyOf (sound (withSet S k new)) k
+  pub survey-with : surveyWith (setAt S k .share) v (heldL (setAt S k .form) l) ≡ surveyOf (sound (withSet S k new)) k
   unfolding surveyOf
   survey-with = rw (used-with, claimed-with, at-with, withSet-at S k new (h .known))
 
 -- What is left by a call that is granted n nodes.
 module _ (a : State → List Rule) (f : State → List Bits) {w u : List ℕ} {k : ℕ} {v : Survey} {n : ℕ} (h : Surveyed w k v)
     (i : (S : State) → decode w ≡ sound S → firstNo (a S) ≡ 0 → isList (width (S .family)) (f S) ≡ true) (c : Relisted w k a f (0, n) u) where
-  of-state : (S : State) → decode w ≡ sound S → relistNo S k (a S) (f S) ≡ 0 → n ≡ heldL (f S) → Surveyed u k (surveyWith (shareIn w k) v n)
+  of-state : (S : State) → decode w ≡ sound S → relistNo S k (a S) (f S) ≡ 0 → n ≡ heldL (setAt S k .form) (f S) → Surveyed u k (surveyWith (shareIn w k) v n)
   of-state S d z e =
       let s = seen-as h S d in
       let T = withSet S k (setWith (setAt S k) (f S)) in
@@ -69,5 +69,5 @@ module _ (a : State → List Rule) (f : State → List Bits) {w u : List ℕ} {k
   pub resurveyed : Surveyed u k (surveyWith (shareIn w k) v n)
   unfolding changeRule relistRules relistSet
   resurveyed =
-      let (S, d, z, e) = answerOn-granted (λ T. changeRules T k (relistRules k a f T)) 0 (λ T. heldL (f T)) w (λ T. w) (decode w) n (c .answer) in
+      let (S, d, z, e) = answerOn-granted (λ T. changeRules T k (relistRules k a f T)) 0 (λ T. heldL (setAt T k .form) (f T)) w (λ T. w) (decode w) n (c .answer) in
       of-state S d z e

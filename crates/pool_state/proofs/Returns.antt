@@ -3,7 +3,7 @@ use mathlib.Core.Path.{_≡_, refl, sym, ap, _∙_}
 use mathlib.Core.Bool.{Bool, true, false, not, cond}
 use mathlib.Core.List.{List, [], _∷_, _++_}
 use mathlib.Core.Logic.{_⊎_, inl, inr}
-use Prim.Native.Nat.{ℕ, _≤_}
+use Prim.Native.Nat.{ℕ, _*_, _≤_}
 use native.Mathlib.Omega.{arith}
 use lib.Dec.{eqb}
 use lib.ListN.{length}
@@ -12,14 +12,14 @@ use Rattle.nets.specs.Bits.{Bits}
 use Rattle.nets.specs.Networks.{isFamily, inRange, refusalOf}
 use Rattle.nets.specs.Refusals.{Rule, firstNo}
 use Rattle.nets.specs.declared.Net.{Net}
-use Rattle.pool_state.specs.Kept.{heldL, encL}
+use Rattle.pool_state.specs.Kept.{heldL}
 use Rattle.pool_state.specs.States.{SetState, State, roomOf}
 use Rattle.pool_state.specs.Decode.{over, sound, decode}
 use Rattle.pool_state.specs.Changes.{setAt, withSet, changeRules, changeNo, changeRule, wordsAfter, Changed, setWith, grantRules, relistRules, relistSet, Relisted, relistNo, netRules, isEmpty}
 use Rattle.pool_state.specs.Steps.{Refuses, Settled}
 use Rattle.pool_state.specs.declared.Survey.{Survey}
 use Rattle.pool_state.proofs.Answered.{owes-refused, owes-granted, owes-seat}
-use Rattle.pool_state.proofs.Seen.{Seen}
+use Rattle.pool_state.proofs.Seen.{Seen, wordsL, strideS}
 use Rattle.pool_state.proofs.Judged.{relistNo-known, grant-within}
 use Rattle.pool_state.proofs.Changed.{withWords, written-has, over-change}
 
@@ -89,9 +89,10 @@ module _ (a : State → List Rule) (f : State → List Bits) where
       pub change-judged : (x ≡ 0 → ⊥) → OwesRelist w k (x, 0) w
       change-judged ne = no judged ne
 
-      pub relist-granted : {n : ℕ} {u y : List ℕ} → x ≡ 0 → heldL (f S) ≡ n → length (encL (f S)) ≡ n → u ≡ withWords w S k v (encL (f S)) → Settled u k (v .at) (v .held) n y → OwesRelist w k (0, n) y
+      pub relist-granted : {n : ℕ} {u y : List ℕ} → x ≡ 0 → heldL (setAt S k .form) (f S) ≡ n → length (wordsL S (f S)) ≡ strideS S * n → u ≡ withWords w S k v (wordsL S (f S)) → Settled u k (v .at) (v .held) n y → OwesRelist w k (0, n) y
       unfolding changeRule wordsAfter relistRules relistSet
       relist-granted {n} {u} {y} q i b p g =
-          let le : length (encL (f S)) ≤ roomOf S k = omega (arith, grant-within S k (f S) (sym j ∙ q) .1) in
-          let o : y ≡ over w (withSet S k (setWith (setAt S k) (f S))) = g .words (f S) (written-has h (f S) p le) b ∙ (rw i at (over-change h (f S) p le)) in
+          let le : n ≤ roomOf S k = omega (arith, i, grant-within S k (f S) (sym j ∙ q) .1) in
+          let (s, t) = written-has h (f S) p b le in
+          let o : y ≡ over w (withSet S k (setWith (setAt S k) (f S))) = g .words (f S) s t ∙ (rw i at (over-change h (f S) p b le)) in
           rw (o, ← i) (owes-granted _ 0 _ w _ (h .decoded) (judged ∙ q))

@@ -2,26 +2,28 @@
 -- its set's list, and those before and behind it, stand where they say. Assumes nothing.
 use mathlib.Core.Path.{_≡_, refl, sym, ap, _∙_}
 use mathlib.Core.Bool.{true, false, false≢true, true≢false}
-use mathlib.Core.List.{List, [], _++_}
-use Prim.Native.Nat.{ℕ, suc, _+_, _-_, _≤_, _<_}
+use mathlib.Core.List.{List, [], _++_, _∷_}
+use Prim.Native.Nat.{ℕ, suc, _+_, _-_, _≤_, _<_, _*_, zero}
 use native.Mathlib.Omega.{arith}
 use lib.ListN.{length, getD, take, drop, length-append}
 use Rattle.nets.specs.Lists.{isList}
 use Rattle.nets.specs.Networks.{width}
 use Rattle.nodes.specs.Words.{Has, place}
-use Rattle.pool_state.specs.Kept.{heldL, encL}
-use Rattle.pool_state.specs.States.{State, held, used, claimed, isState}
-use Rattle.pool_state.specs.Decode.{recordAt, base, leastWords, nodeWords, Decoded, damaged, sound, decode}
-use Rattle.pool_state.specs.Rules.{firstNode, surveyOf}
+use Rattle.pool_state.specs.Kept.{heldL, encL, Form, strideL, spotL}
+use Rattle.pool_state.specs.States.{State, held, used, claimed, isState, SetState, areSets}
+use Rattle.pool_state.specs.Decode.{recordAt, base, leastWords, nodeWords, Decoded, damaged, sound, decode, formIn}
+use Rattle.pool_state.specs.Rules.{firstNode, surveyOf, noSet}
 use Rattle.pool_state.specs.Changes.{setAt, listAt}
-use Rattle.pool_state.specs.Steps.{Refuses, Surveyed, behindAt}
+use Rattle.pool_state.specs.Steps.{Refuses, Surveyed, behindAt, strideIn, spotIn}
 use Rattle.pool_state.specs.declared.Survey.{Survey}
 use Rattle.nodes.proofs.Has.{has-front, has-back, has-at, has-seg}
-use Rattle.pool_state.proofs.Kept.{length-encL, heldL-nil, heldL-none}
-use Rattle.pool_state.proofs.Claims.{isState-claimed, used-claimed, claimedBut-is}
+use Rattle.pool_state.proofs.Kept.{length-encL, heldL-nil, heldL-none, spotL-on, spotL-one}
+use Rattle.pool_state.proofs.Claims.{isState-claimed, used-claimed, claimedBut-is, isState-sets, areSets-form, areSets-head, areSets-tail, areSets-cons}
 use Rattle.pool_state.proofs.Header.{IsHeader, isHeader-header}
 use Rattle.pool_state.proofs.Whole.{HeaderOf}
-use Rattle.pool_state.proofs.Decoded.{decode-header, decode-state, decode-has, decode-used, decode-share, decode-list, decode-parts}
+use Rattle.pool_state.proofs.Decoded.{decode-header, decode-state, decode-has, decode-used, decode-share, decode-list, decode-parts, decode-form}
+use Rattle.pool_state.proofs.Holds.{firstNode-is, length-nodeWords}
+use Rattle.nets.specs.Bits.{Bits}
 
 -- the words hold the state S, which has a set k, and v is what a pass over them finds out
 pub record Seen (w : List ℕ) (S : State) (k : ℕ) (v : Survey) : Type 0 where
@@ -98,13 +100,37 @@ pub record Figures (w : List ℕ) (k : ℕ) (v : Survey) : Type 0 where
 
 -- where the nodes of the set begin; the words of the sets before it, and of those behind it
 abbrev pub placeOf : List ℕ → Survey → ℕ
-placeOf w v = place (base (getD w 2 0)) (v .at)
+placeOf w v = spotIn w (v .at)
 
 abbrev pub before : State → ℕ → List ℕ
-before S k = nodeWords (take k (S .sets))
+before S k = nodeWords (S .family) (take k (S .sets))
 
 abbrev pub behind : State → ℕ → List ℕ
-behind S k = nodeWords (drop (suc k) (S .sets))
+behind S k = nodeWords (S .family) (drop (suc k) (S .sets))
+
+-- the words of a list in a pool, and how many a node takes
+abbrev pub wordsL : State → List Bits → List ℕ
+wordsL S l = encL (S .form) (S .family) l
+
+abbrev pub strideS : State → ℕ
+strideS S = strideL (S .form) (S .family)
+
+-- some of the sets are kept in the form, and their nodes are those before set k, its own, and those behind it
+areSets-take : (F : Form) (f k : ℕ) (xs : List SetState) → areSets F f xs ≡ true → areSets F f (take k xs) ≡ true
+areSets-take F f zero xs e = refl
+areSets-take F f (suc k) [] e = refl
+areSets-take F f (suc k) (x ∷ xs) e = areSets-cons F f x (take k xs) (areSets-form F f x xs e) (areSets-head F f x xs e) (areSets-take F f k xs (areSets-tail F f x xs e))
+
+areSets-drop : (F : Form) (f k : ℕ) (xs : List SetState) → areSets F f xs ≡ true → areSets F f (drop k xs) ≡ true
+areSets-drop F f zero xs e = e
+areSets-drop F f (suc k) [] e = refl
+areSets-drop F f (suc k) (x ∷ xs) e = areSets-drop F f k xs (areSets-tail F f x xs e)
+
+used-parts : (k : ℕ) (xs : List SetState) → k < length xs → used xs ≡ used (take k xs) + held (getD xs k noSet) + used (drop (suc k) xs)
+unfolding used
+used-parts k [] lt = absurd (omega arith)
+used-parts zero (x ∷ xs) lt = omega arith
+used-parts (suc k) (x ∷ xs) lt = omega (arith, used-parts k xs (omega arith))
 
 module _ {w : List ℕ} {S : State} {k : ℕ} {v : Survey} (h : Seen w S k v) where
   pub seen-state : isState S ≡ true
@@ -113,49 +139,74 @@ module _ {w : List ℕ} {S : State} {k : ℕ} {v : Survey} (h : Seen w S k v) wh
   pub seen-header : HeaderOf w S
   seen-header = decode-header w S (h .decoded)
 
-  own-list : isList (width (S .family)) (listAt S k) ≡ true
+  -- places in the words are those of the state's form and family
+  pub seen-form : formIn w ≡ S .form
+  seen-form = seen-header .form
+
+  pub spotIn-is : (i : ℕ) → spotIn w i ≡ spotL (S .form) (S .family) (base (length (S .sets))) i
+  spotIn-is i = rw (seen-form, seen-header .family, seen-header .sets)
+
+  pub strideIn-is : strideIn w ≡ strideS S
+  unfolding strideIn
+  strideIn-is = rw (seen-form, seen-header .family)
+
+  pub own-form : setAt S k .form ≡ S .form
+  own-form = decode-form w S (h .decoded) k (h .known)
+
+  pub own-list : isList (width (S .family)) (listAt S k) ≡ true
   own-list = decode-list w S (h .decoded) k (h .known) .list
 
-  pub own-length : length (encL (listAt S k)) ≡ v .held
-  own-length = length-encL (width (S .family)) (listAt S k) own-list ∙ sym (h .held)
+  pub own-held : v .held ≡ heldL (S .form) (listAt S k)
+  own-held = h .held ∙ ap (λ F. heldL F (listAt S k)) own-form
 
-  pub before-length : v .at ≡ 1 + length (before S k)
-  before-length = h .at ∙ decode-parts w S (h .decoded) k (h .known) .1
+  pub own-length : length (wordsL S (listAt S k)) ≡ strideS S * v .held
+  own-length = length-encL (width (S .family)) (listAt S k) own-list (S .form) (S .family) ∙ ap (λ n. strideS S * n) (sym own-held)
 
-  parts : nodeWords (S .sets) ≡ before S k ++ (encL (listAt S k) ++ behind S k)
-  parts = decode-parts w S (h .decoded) k (h .known) .0
+  pub before-used : v .at ≡ 1 + used (take k (S .sets))
+  before-used = h .at ∙ firstNode-is (S .form) (S .family) k 1 (S .sets) (isState-sets S seen-state) (h .known)
 
-  parts-has : Has w (base (length (S .sets))) (before S k ++ (encL (listAt S k) ++ behind S k))
+  behind-used : v .at + v .held + used (drop (suc k) (S .sets)) ≡ v .used + 1
+  behind-used = omega (arith, before-used, h .used, h .held, used-parts k (S .sets) (h .known))
+
+  pub before-length : placeOf w v ≡ base (length (S .sets)) + length (before S k)
+  before-length =
+      let u = used (take k (S .sets)) in
+      let n : length (before S k) ≡ strideS S * u = length-nodeWords (S .form) (S .family) (take k (S .sets)) (areSets-take (S .form) (S .family) k (S .sets) (isState-sets S seen-state)) in
+      spotIn-is (v .at) ∙ ap (spotL (S .form) (S .family) (base (length (S .sets)))) before-used
+      ∙ sym (spotL-on (S .form) (S .family) (base (length (S .sets))) 1 u (omega arith)) ∙ rw (spotL-one (S .form) (S .family) (base (length (S .sets))), n)
+
+  pub behind-length : length (behind S k) ≡ strideS S * (v .used + 1 - (v .at + v .held))
+  behind-length =
+      let e : used (drop (suc k) (S .sets)) ≡ v .used + 1 - (v .at + v .held) = omega (arith, behind-used) in
+      length-nodeWords (S .form) (S .family) (drop (suc k) (S .sets)) (areSets-drop (S .form) (S .family) (suc k) (S .sets) (isState-sets S seen-state)) ∙ ap (λ n. strideS S * n) e
+
+  parts : nodeWords (S .family) (S .sets) ≡ before S k ++ (wordsL S (listAt S k) ++ behind S k)
+  parts = decode-parts w S (h .decoded) k (h .known) ∙ ap (λ F. before S k ++ (encL F (S .family) (listAt S k) ++ behind S k)) own-form
+
+  parts-has : Has w (base (length (S .sets))) (before S k ++ (wordsL S (listAt S k) ++ behind S k))
   parts-has = rw parts at (decode-has w S (h .decoded))
 
   pub before-has : Has w (base (length (S .sets))) (before S k)
-  before-has = has-front (before S k) (encL (listAt S k) ++ behind S k) parts-has
+  before-has = has-front (before S k) (wordsL S (listAt S k) ++ behind S k) parts-has
 
-  pub own-has : Has w (placeOf w v) (encL (listAt S k))
-  own-has = has-at (omega (arith, h .at, seen-header .sets)) (decode-list w S (h .decoded) k (h .known) .has)
+  pub own-has : Has w (placeOf w v) (wordsL S (listAt S k))
+  own-has = has-at (sym (spotIn-is (v .at) ∙ ap (spotL (S .form) (S .family) (base (length (S .sets)))) (h .at))) (decode-list w S (h .decoded) k (h .known) .has)
 
-  pub behind-length : v .at + v .held + length (behind S k) ≡ v .used + 1
-  behind-length =
-      omega (
-        arith,
-        before-length,
-        own-length,
-        h .used,
-        decode-used w S (h .decoded) .0,
-        ap length parts,
-        length-append (before S k) (encL (listAt S k) ++ behind S k),
-        length-append (encL (listAt S k)) (behind S k),
-      )
+  -- the place behind so many nodes from the set's first on
+  pub spotIn-on : (n : ℕ) → placeOf w v + strideS S * n ≡ spotIn w (v .at + n)
+  spotIn-on n =
+      ap (λ p. p + strideS S * n) (spotIn-is (v .at)) ∙ spotL-on (S .form) (S .family) (base (length (S .sets))) (v .at) n (omega (arith, before-used)) ∙ sym (spotIn-is (v .at + n))
 
-  pub behind-has : Has w (place (base (length (S .sets))) (v .at + v .held)) (behind S k)
-  behind-has = has-at (omega (arith, before-length, own-length)) (has-back (encL (listAt S k)) (behind S k) (has-back (before S k) (encL (listAt S k) ++ behind S k) parts-has))
+  pub behind-has : Has w (spotIn w (v .at + v .held)) (behind S k)
+  behind-has =
+      has-at (ap (λ p. p + length (wordsL S (listAt S k))) (sym before-length) ∙ ap (λ n. placeOf w v + n) own-length ∙ spotIn-on (v .held))
+      (has-back (wordsL S (listAt S k)) (behind S k) (has-back (before S k) (wordsL S (listAt S k) ++ behind S k) parts-has))
 
   -- in words in which they still stand
-  pub behindAt-is : {u : List ℕ} → Has u (place (base (length (S .sets))) (v .at + v .held)) (behind S k) → behindAt u (base (getD w 2 0)) v ≡ behind S k
-  unfolding behindAt
+  pub behindAt-is : {u : List ℕ} → Has u (spotIn w (v .at + v .held)) (behind S k) → behindAt (strideS S) u (base (getD w 2 0)) v ≡ behind S k
+  unfolding behindAt spotL strideIn
   behindAt-is g =
-      let n : v .used + 1 - (v .at + v .held) ≡ length (behind S k) = omega (arith, behind-length) in
-      rw (seen-header .sets, n) (has-seg g)
+      rw (← behind-length) (has-seg (has-at (ap (λ s. base (getD w 2 0) + s * (v .at + v .held - 1)) strideIn-is) g))
 
   pub seen-figures : Figures w k v
   seen-figures =
@@ -167,8 +218,8 @@ module _ {w : List ℕ} {S : State} {k : ℕ} {v : Survey} (h : Seen w S k v) wh
         sets = omega arith;
         nodes = omega arith;
         long = d .long;
-        first = omega (arith, before-length);
-        last = omega (arith, behind-length);
+        first = omega (arith, before-used);
+        last = omega (arith, behind-used);
         used = omega (arith, h .used, h .claimed, used-claimed (S .sets));
         claimed = omega (arith, h .claimed, seen-header .nodes);
         share = omega (arith, h .claimed, decode-share w S (h .decoded) k (h .known));
@@ -177,10 +228,10 @@ module _ {w : List ℕ} {S : State} {k : ℕ} {v : Survey} (h : Seen w S k v) wh
 
   -- a set has no node exactly if its list is empty
   pub seen-empty : v .held ≡ 0 → setAt S k .list ≡ []
-  seen-empty e = heldL-none (listAt S k) (sym (h .held) ∙ e)
+  seen-empty e = heldL-none (S .form) (listAt S k) (sym own-held ∙ e)
 
   pub seen-some : (v .held ≡ 0 → ⊥) → setAt S k .list ≡ [] → ⊥
-  seen-some ne e = ne (h .held ∙ ap heldL e ∙ heldL-nil)
+  seen-some ne e = ne (own-held ∙ ap (heldL (S .form)) e ∙ heldL-nil (S .form))
 
 pub figures : {w : List ℕ} {k : ℕ} {v : Survey} → Surveyed w k v → Figures w k v
 figures h = seen-figures (seen h .1)

@@ -1,6 +1,6 @@
 -- Layout: a turn of each of its loops, whose invariant says that what is still to come completes the whole; the rules of a setup, taken apart; the words that it leaves.
 -- Assumes nothing.
-use mathlib.Core.Bool.{true, false, cond, _&&_, and-false}
+use mathlib.Core.Bool.{true, false, cond, _&&_, _||_, and-false}
 use mathlib.Core.List.{List, [], _∷_}
 use mathlib.Core.Path.{_≡_, refl, sym, ap, _∙_}
 use Prim.Native.Nat.{ℕ, zero, suc, _+_, _-_, _*_, _/_, _%_, _≤_, _<_}
@@ -18,11 +18,11 @@ use Rattle.nodes.specs.Words.{put}
 use Rattle.nodes.specs.Parse.{Room}
 use Rattle.trie_index.specs.Index.{indexT, Rooted}
 use Rattle.pool_state.proofs.Kept.{heldL-nil, encL-nil}
-use Rattle.pool_state.specs.Kept.{heldL, indexL}
-use Rattle.pool_state.specs.States.{indexedOf, isSize}
+use Rattle.pool_state.specs.Kept.{Form, first, formNo, formOf, heldL, indexL}
+use Rattle.pool_state.specs.States.{indexedOf, isSize, isOffered}
 use Rattle.nets.specs.Networks.{isFamily}
-use Rattle.pool_state.specs.Decode.{mark, recordAt, leastWords, overRecords, nodeWords, overSets, tagOf, overIndexes, over}
-use Rattle.pool_state.specs.Rules.{withinLimits, total, sharesFit, Setup, marksFit, marks, wordsOf, isSetup, layoutNo, emptySets, blanks, laid, Laid}
+use Rattle.pool_state.specs.Decode.{mark, recordAt, leastWords, overRecords, nodeWords, overSets, tagOf, overIndexes, over, isForm}
+use Rattle.pool_state.specs.Rules.{withinLimits, total, sharesFit, Setup, marksFit, marks, wordsOf, isFormed, isSetup, layoutNo, emptySets, blanks, laid, Laid}
 use Rattle.nodes.proofs.Put.{put-nil, length-put, set-put, put-behind-at}
 
 -- the total of a share x and others, against n nodes
@@ -90,6 +90,7 @@ module _ {sets nodes : ℕ} {shares limits : List ℕ} {left s : ℕ} (h : Shari
 -- is_setup: the rules that a setup keeps, taken apart
 pub record Kept (words : ℕ) (p : Setup) : Type 0 where
   pub family : isFamily (p .family) ≡ true
+  pub form : isFormed (p .form) (p .indexed) ≡ true
   pub size : isSize (p .sets) (p .nodes) ≡ true
   pub marks : marksFit (p .sets) (p .indexed) ≡ true
   pub room : wordsOf p ≤ words
@@ -101,7 +102,8 @@ pub record Kept (words : ℕ) (p : Setup) : Type 0 where
 pub isSetup-kept : (words : ℕ) (s : Setup) → isSetup words s ≡ true → Kept words s
 unfolding isSetup sharesFit
 isSetup-kept words s e =
-    let p = isFamily (s .family) && isSize (s .sets) (s .nodes) in
+    let o = isFamily (s .family) && isFormed (s .form) (s .indexed) in
+    let p = o && isSize (s .sets) (s .nodes) in
     let m = marksFit (s .sets) (s .indexed) in
     let q = leb (wordsOf s) words in
     let a = eqb (length (s .shares)) (s .sets) in
@@ -114,8 +116,9 @@ isSetup-kept words s e =
     let h = and-left (a && b) (c && d) g in
     let k = and-right (a && b) (c && d) g in
     record {
-      family = and-left (isFamily (s .family)) (isSize (s .sets) (s .nodes)) (and-left p m l);
-      size = and-right (isFamily (s .family)) (isSize (s .sets) (s .nodes)) (and-left p m l);
+      family = and-left (isFamily (s .family)) (isFormed (s .form) (s .indexed)) (and-left o (isSize (s .sets) (s .nodes)) (and-left p m l));
+      form = and-right (isFamily (s .family)) (isFormed (s .form) (s .indexed)) (and-left o (isSize (s .sets) (s .nodes)) (and-left p m l));
+      size = and-right o (isSize (s .sets) (s .nodes)) (and-left p m l);
       marks = and-right p m l;
       room = leb-true (wordsOf s) words (and-right (p && m) q f);
       share = eqb-true (length (s .shares)) (s .sets) (and-left a b h);
@@ -128,12 +131,15 @@ isSetup-kept words s e =
 put-set : (w : List ℕ) (p q v : ℕ) (xs : List ℕ) → q ≡ p + 1 → put (set w p v) q xs ≡ put w p (v ∷ xs)
 put-set w p q v xs e = rw (set-put w p v) (put-behind-at w p q (v ∷ []) xs e)
 
-pub set-header : (w : List ℕ) (a b c d : ℕ) → set (set (set (set w 0 a) 1 b) 2 c) 3 d ≡ put w 0 (a ∷ b ∷ c ∷ d ∷ [])
-set-header w a b c d =
+set-four : (w : List ℕ) (a b c d : ℕ) → set (set (set (set w 0 a) 1 b) 2 c) 3 d ≡ put w 0 (a ∷ b ∷ c ∷ d ∷ [])
+set-four w a b c d =
     set-put (set (set (set w 0 a) 1 b) 2 c) 3 d
     ∙ put-set (set (set w 0 a) 1 b) 2 3 c (d ∷ []) refl
     ∙ put-set (set w 0 a) 1 2 b (c ∷ d ∷ []) refl
     ∙ put-set w 0 1 a (b ∷ c ∷ d ∷ []) refl
+
+pub set-header : (w : List ℕ) (a b c d o : ℕ) → set (set (set (set (set w 0 a) 1 b) 2 c) 3 d) 5 o ≡ put (put w 0 (a ∷ b ∷ c ∷ d ∷ [])) 5 (o ∷ [])
+set-header w a b c d o = set-put _ 5 o ∙ ap (λ u. put u 5 (o ∷ [])) (set-four w a b c d)
 
 set-record : (w : List ℕ) (p x y z : ℕ) → set (set (set (set w p 0) (p + 1) x) (p + 2) y) (p + 3) z ≡ put w p (0 ∷ x ∷ y ∷ z ∷ [])
 set-record w p x y z =
@@ -166,16 +172,16 @@ module _ {n : ℕ} {w₀ w : List ℕ} {i : ℕ} (h : Clearing n w₀ w i) where
 pub record Recording (shares limits w₀ w : List ℕ) (s : ℕ) : Type 0 where
   pub within : s ≤ length shares
   pub long : length w ≡ length w₀
-  pub rest : overRecords w s 1 (emptySets (drop s shares) (drop s limits) 0) ≡ overRecords w₀ 0 1 (emptySets shares limits 0)
+  pub rest : overRecords w s 1 (emptySets first (drop s shares) (drop s limits) 0) ≡ overRecords w₀ 0 1 (emptySets first shares limits 0)
 
 pub records-start : (shares limits w : List ℕ) → Recording shares limits w w 0
 records-start shares limits w = record { within = omega arith; long = refl; rest = refl }
 
 overRecords-empty : (w : List ℕ) (s x y : ℕ) (shares limits : List ℕ) →
-    overRecords (put w (recordAt s) (0 ∷ x ∷ y ∷ 0 ∷ [])) (s + 1) 1 (emptySets shares limits 0) ≡ overRecords w s 1 (emptySets (x ∷ shares) (y ∷ limits) 0)
+    overRecords (put w (recordAt s) (0 ∷ x ∷ y ∷ 0 ∷ [])) (s + 1) 1 (emptySets first shares limits 0) ≡ overRecords w s 1 (emptySets first (x ∷ shares) (y ∷ limits) 0)
 unfolding overRecords
 overRecords-empty w s x y shares limits =
-    ap (λ n. overRecords (put w (recordAt s) (0 ∷ x ∷ y ∷ 0 ∷ [])) (s + 1) (1 + n) (emptySets shares limits 0)) (sym heldL-nil)
+    ap (λ n. overRecords (put w (recordAt s) (0 ∷ x ∷ y ∷ 0 ∷ [])) (s + 1) (1 + n) (emptySets first shares limits 0)) (sym (heldL-nil first))
 
 module _ {shares limits w₀ w : List ℕ} {s : ℕ} (h : Recording shares limits w₀ w s) where
   pub records-turn : length shares ≡ length limits → s < length shares →
@@ -189,21 +195,21 @@ module _ {shares limits w₀ w : List ℕ} {s : ℕ} (h : Recording shares limit
         rw (set-record w (recordAt s) (getD shares s 0) (getD limits s 0) 0) (rw (← add-one s) at r);
   }
 
-  pub records-end : length shares ≤ s → w ≡ overRecords w₀ 0 1 (emptySets shares limits 0)
+  pub records-end : length shares ≤ s → w ≡ overRecords w₀ 0 1 (emptySets first shares limits 0)
   unfolding overRecords
   records-end l = rw (drop-of-length-le shares l) at (h .rest)
 
 -- empty sets: as many as there are shares, no node, and as many of them indexed as the number has marks; their records do not tell which, and their tags and indexes tell nothing else
-pub length-emptySets : (shares limits : List ℕ) (z : ℕ) → length shares ≡ length limits → length (emptySets shares limits z) ≡ length shares
-length-emptySets [] limits z e = refl
-length-emptySets (x ∷ shares) [] z e = absurd (omega arith)
-length-emptySets (x ∷ shares) (y ∷ limits) z e = ap suc (length-emptySets shares limits (z / 2) (omega arith))
+pub length-emptySets : (F : Form) (shares limits : List ℕ) (z : ℕ) → length shares ≡ length limits → length (emptySets F shares limits z) ≡ length shares
+length-emptySets F [] limits z e = refl
+length-emptySets F (x ∷ shares) [] z e = absurd (omega arith)
+length-emptySets F (x ∷ shares) (y ∷ limits) z e = ap suc (length-emptySets F shares limits (z / 2) (omega arith))
 
-nodeWords-emptySets : (shares limits : List ℕ) (z : ℕ) → nodeWords (emptySets shares limits z) ≡ []
+nodeWords-emptySets : (F : Form) (v : ℕ) (shares limits : List ℕ) (z : ℕ) → nodeWords v (emptySets F shares limits z) ≡ []
 unfolding nodeWords
-nodeWords-emptySets [] limits z = refl
-nodeWords-emptySets (x ∷ shares) [] z = refl
-nodeWords-emptySets (x ∷ shares) (y ∷ limits) z = rw encL-nil (nodeWords-emptySets shares limits (z / 2))
+nodeWords-emptySets F v [] limits z = refl
+nodeWords-emptySets F v (x ∷ shares) [] z = refl
+nodeWords-emptySets F v (x ∷ shares) (y ∷ limits) z = rw (encL-nil F v) (nodeWords-emptySets F v shares limits (z / 2))
 
 digit-mod : (z : ℕ) → digit (eqb (z % 2) 1) ≡ z % 2
 digit-mod z = go (z % 2) (omega arith)
@@ -213,24 +219,26 @@ digit-mod z = go (z % 2) (omega arith)
     go (suc zero) l = refl
     go (suc (suc n)) l = absurd (omega arith)
 
-pub indexedOf-emptySets : (shares limits : List ℕ) (z : ℕ) → length shares ≡ length limits → indexedOf (emptySets shares limits z) ≡ marks (length shares) z
+pub indexedOf-emptySets : (F : Form) (shares limits : List ℕ) (z : ℕ) → length shares ≡ length limits → indexedOf (emptySets F shares limits z) ≡ marks (length shares) z
 unfolding indexedOf marks
-indexedOf-emptySets [] limits z e = refl
-indexedOf-emptySets (x ∷ shares) [] z e = absurd (omega arith)
-indexedOf-emptySets (x ∷ shares) (y ∷ limits) z e = rw (digit-mod z, indexedOf-emptySets shares limits (z / 2) (omega arith))
+indexedOf-emptySets F [] limits z e = refl
+indexedOf-emptySets F (x ∷ shares) [] z e = absurd (omega arith)
+indexedOf-emptySets F (x ∷ shares) (y ∷ limits) z e = rw (digit-mod z, indexedOf-emptySets F shares limits (z / 2) (omega arith))
 
-overRecords-marks : (w : List ℕ) (s i : ℕ) (shares limits : List ℕ) (z : ℕ) → overRecords w s i (emptySets shares limits 0) ≡ overRecords w s i (emptySets shares limits z)
+overRecords-marks : (F : Form) (w : List ℕ) (s i : ℕ) (shares limits : List ℕ) (z : ℕ) → overRecords w s i (emptySets first shares limits 0) ≡ overRecords w s i (emptySets F shares limits z)
 unfolding overRecords
-overRecords-marks w s i [] limits z = refl
-overRecords-marks w s i (x ∷ shares) [] z = refl
-overRecords-marks w s i (x ∷ shares) (y ∷ limits) z = overRecords-marks (put w (recordAt s) (0 ∷ x ∷ y ∷ 0 ∷ [])) (s + 1) (i + heldL []) shares limits (z / 2)
+overRecords-marks F w s i [] limits z = refl
+overRecords-marks F w s i (x ∷ shares) [] z = refl
+overRecords-marks F w s i (x ∷ shares) (y ∷ limits) z =
+    let u = put w (recordAt s) (0 ∷ x ∷ y ∷ 0 ∷ []) in
+    ap (λ n. overRecords u (s + 1) (i + n) (emptySets first shares limits 0)) (heldL-nil first ∙ sym (heldL-nil F)) ∙ overRecords-marks F u (s + 1) (i + heldL F []) shares limits (z / 2)
 
-overIndexes-blanks : (w : List ℕ) (m s j : ℕ) (shares limits : List ℕ) (z : ℕ) → length shares ≡ length limits
-    → overIndexes w m s j (blanks (length shares) z) ≡ overIndexes w m s j (emptySets shares limits z)
+overIndexes-blanks : (F : Form) (w : List ℕ) (m s j : ℕ) (shares limits : List ℕ) (z : ℕ) → length shares ≡ length limits
+    → overIndexes w m s j (blanks (length shares) z) ≡ overIndexes w m s j (emptySets F shares limits z)
 unfolding overIndexes
-overIndexes-blanks w m s j [] limits z e = refl
-overIndexes-blanks w m s j (x ∷ shares) [] z e = absurd (omega arith)
-overIndexes-blanks w m s j (x ∷ shares) (y ∷ limits) z e = overIndexes-blanks _ m (s + 1) (j + digit (eqb (z % 2) 1)) shares limits (z / 2) (omega arith)
+overIndexes-blanks F w m s j [] limits z e = refl
+overIndexes-blanks F w m s j (x ∷ shares) [] z e = absurd (omega arith)
+overIndexes-blanks F w m s j (x ∷ shares) (y ∷ limits) z e = overIndexes-blanks F _ m (s + 1) (j + digit (eqb (z % 2) 1)) shares limits (z / 2) (omega arith)
 
 -- The marks: what is left of the number, for the sets that are left, completes the count, and decides whether all are of sets.
 pub record Marking (sets z left x n : ℕ) : Type 0 where
@@ -307,30 +315,40 @@ module _ {at sets z : ℕ} {w₀ w : List ℕ} {s j x : ℕ} (h : Indexing at se
   indexing-end le = let e : sets - s ≡ 0 = omega arith in rw e at (h .rest)
 
 -- layout: the two answers, by the test and what the writes leave
+abbrev pub headed : List ℕ → Setup → List ℕ
+headed w p = put (put w 0 (mark ∷ p .family ∷ p .sets ∷ p .nodes ∷ [])) 5 (p .form ∷ [])
+
 module _ (w : List ℕ) (p : Setup) where
-  laid-is : length (p .shares) ≡ p .sets → length (p .limits) ≡ p .sets →
+  formed-no : isFormed (p .form) (p .indexed) ≡ true → p .form ≡ formNo (formOf (p .form))
+  unfolding isForm isFormed
+  formed-no e =
+      let a = eqb (p .form) (formNo (formOf (p .form))) in
+      eqb-true (p .form) (formNo (formOf (p .form))) (and-left a (isOffered (formOf (p .form))) (and-left (isForm (p .form)) (eqb (p .form) 0 || eqb (p .indexed) 0) e))
+
+  laid-is : isFormed (p .form) (p .indexed) ≡ true → length (p .shares) ≡ p .sets → length (p .limits) ≡ p .sets →
       laid w p
-      ≡ overIndexes (overRecords (put (put w 0 (replicate (wordsOf p) 0)) 0 (mark ∷ p .family ∷ p .sets ∷ p .nodes ∷ [])) 0 1 (emptySets (p .shares) (p .limits) 0))
+      ≡ overIndexes (overRecords (headed (put w 0 (replicate (wordsOf p) 0)) p) 0 1 (emptySets first (p .shares) (p .limits) 0))
       (leastWords (p .sets) (p .nodes) 0) 0 0 (blanks (p .sets) (p .indexed))
   unfolding laid over overSets
-  laid-is e f =
+  laid-is o e f =
       let g = e ∙ sym f in
-      let n : length (emptySets (p .shares) (p .limits) (p .indexed)) ≡ p .sets = length-emptySets (p .shares) (p .limits) (p .indexed) g ∙ e in
+      let F = formOf (p .form) in
+      let n : length (emptySets F (p .shares) (p .limits) (p .indexed)) ≡ p .sets = length-emptySets F (p .shares) (p .limits) (p .indexed) g ∙ e in
       let m = leastWords (p .sets) (p .nodes) 0 in
-      let x = put (put w 0 (replicate (wordsOf p) 0)) 0 (mark ∷ p .family ∷ p .sets ∷ p .nodes ∷ []) in
-      let y = overRecords x 0 1 (emptySets (p .shares) (p .limits) 0) in
-      rw (n, nodeWords-emptySets (p .shares) (p .limits) (p .indexed), put-nil)
-      (ap (λ v. overIndexes v m 0 0 (emptySets (p .shares) (p .limits) (p .indexed))) (sym (overRecords-marks x 0 1 (p .shares) (p .limits) (p .indexed)))
-      ∙ sym (overIndexes-blanks y m 0 0 (p .shares) (p .limits) (p .indexed) g)
+      let x = headed (put w 0 (replicate (wordsOf p) 0)) p in
+      let y = overRecords x 0 1 (emptySets first (p .shares) (p .limits) 0) in
+      rw (n, nodeWords-emptySets F (p .family) (p .shares) (p .limits) (p .indexed), put-nil, ← formed-no o)
+      (ap (λ v. overIndexes v m 0 0 (emptySets F (p .shares) (p .limits) (p .indexed))) (sym (overRecords-marks F x 0 1 (p .shares) (p .limits) (p .indexed)))
+      ∙ sym (overIndexes-blanks F y m 0 0 (p .shares) (p .limits) (p .indexed) g)
       ∙ ap (λ k. overIndexes y m 0 0 (blanks k (p .indexed))) e)
 
   pub layout-granted : isSetup (length w) p ≡ true → (n : ℕ) (u v y z : List ℕ) → n ≡ wordsOf p →
-      u ≡ put w 0 (replicate n 0) → v ≡ put u 0 (mark ∷ p .family ∷ p .sets ∷ p .nodes ∷ []) → y ≡ overRecords v 0 1 (emptySets (p .shares) (p .limits) 0)
+      u ≡ put w 0 (replicate n 0) → v ≡ headed u p → y ≡ overRecords v 0 1 (emptySets first (p .shares) (p .limits) 0)
       → z ≡ overIndexes y (leastWords (p .sets) (p .nodes) 0) 0 0 (blanks (p .sets) (p .indexed)) → Laid w p (0, 0) z
   unfolding layoutNo
   layout-granted h n u v y z e a b c d =
       let k = isSetup-kept (length w) p h in
-      record { answer = rw h; words = rw (h, laid-is (k .share) (k .limit), ← e, ← a, ← b, ← c) d }
+      record { answer = rw h; words = rw (h, laid-is (k .form) (k .share) (k .limit), ← e, ← a, ← b, ← c) d }
 
   pub layout-refused : isSetup (length w) p ≡ false → Laid w p (1, 0) w
   unfolding layoutNo

@@ -1,4 +1,4 @@
--- Words that hold a state (`Whole`): header, records and lists, and the tags and indexes. `decode` gives the state exactly there. Written over words that are long enough a state is
+-- Words that hold a state (`Whole`): header, records and lists, and the tags and indexes. `decode` gives the state exactly there. SetsWritten over words that are long enough a state is
 -- held by them; and where it is held, to write it changes nothing. Assumes nothing.
 use mathlib.Core.Path.{_≡_, refl, sym, ap, _∙_, subst}
 use mathlib.Core.Bool.{Bool, true, false, cond}
@@ -10,10 +10,11 @@ use lib.ListN.{length, getD}
 use Rattle.nodes.specs.Words.{put, Has, place}
 use Rattle.nodes.proofs.Has.{has-at}
 use Rattle.pool_state.specs.States.{SetState, State, held, used, indexedOf, isState}
-use Rattle.pool_state.specs.Decode.{recordAt, base, nodeWords, overSets, overIndexes, leastOf, indexesAt, over, Decoded, damaged, sound, isHeader, areIndexes, whereIndexed, readPool, decode}
+use Rattle.pool_state.specs.Decode.{recordAt, base, nodeWords, overSets, overIndexes, leastOf, indexesAt, over, Decoded, damaged, sound, formIn, isHeader, areIndexes, whereIndexed, readPool, decode}
+use Rattle.pool_state.proofs.Kept.{spotL-one}
 use Rattle.pool_state.proofs.Claims.{isState-sets, isState-claimed, used-claimed}
-use Rattle.pool_state.proofs.Holds.{recordOf, Records, length-nodeWords}
-use Rattle.pool_state.proofs.Encoded.{headerOf, Sound, sound-header, sound-reads, reads-sound, length-overSets, Written, overSets-written, sound-same}
+use Rattle.pool_state.proofs.Holds.{recordOf, Records, nodeWords-few}
+use Rattle.pool_state.proofs.Encoded.{headerOf, Sound, sound-header, sound-reads, reads-sound, length-overSets, SetsWritten, overSets-written, sound-same}
 use Rattle.pool_state.proofs.Indexed.{has-keep, Indexes, areIndexes-count, indexes-count, areIndexes-is, is-areIndexes, indexes-same, length-overIndexes, Beside, getD-overIndexes, overIndexes-has, indexes-tagged, indexed-few}
 
 pub record Whole (w : List ℕ) (S : State) : Type 0 where
@@ -23,6 +24,7 @@ pub record Whole (w : List ℕ) (S : State) : Type 0 where
 -- the header of words is that of the state
 pub record HeaderOf (w : List ℕ) (S : State) : Type 0 where
   pub known : isHeader w ≡ true
+  pub form : formIn w ≡ S .form
   pub family : getD w 1 0 ≡ S .family
   pub sets : getD w 2 0 ≡ length (S .sets)
   pub nodes : getD w 3 0 ≡ S .nodes
@@ -36,7 +38,7 @@ module _ {w : List ℕ} {S : State} (h : Whole w S) where
   pub whole-header : HeaderOf w S
   whole-header =
       let g = sound-header (h .plain) in
-      record { known = g .known; family = g .family; sets = g .sets; nodes = g .nodes; indexed = whole-count; long = rw (← whole-count) (h .plain .long) }
+      record { known = g .known; form = g .form; family = g .family; sets = g .sets; nodes = g .nodes; indexed = whole-count; long = rw (← whole-count) (h .plain .long) }
 
   pub whole-decode : decode w ≡ sound S
   unfolding decode
@@ -85,7 +87,7 @@ over-whole w S e le =
     let g = overIndexes-has u m 0 0 (S .sets) (omega arith) (omega arith) in
     let c = indexes-count v m 0 0 (S .sets) g in
     let l = length-overIndexes u m 0 0 (S .sets) in
-    let r = length-nodeWords (S .family) (S .sets) (isState-sets S e) in
+    let r = nodeWords-few (S .form) (S .family) (S .sets) (isState-sets S e) in
     let few = used-claimed (S .sets) in
     let all = isState-claimed S e in
     let at : (k : ℕ) → Beside 0 (length (S .sets)) k → k < m + 256 * 0 → getD v k 0 ≡ getD u k 0 = getD-overIndexes u m 0 0 (S .sets) in
@@ -95,11 +97,12 @@ over-whole w S e le =
         few = omega (arith, indexed-few (S .sets));
         long = omega arith;
         header = has-keep l (λ k lt. at (0 + k) (omega arith, λ t a b. omega arith) (omega arith)) (h .header);
+        form = has-keep l (λ k lt. at (5 + k) (omega arith, λ t a b. omega arith) (omega arith)) (h .form);
         holds = record {
           rules = isState-sets S e;
           records = records-keep v u 0 1 (S .sets) l (λ t a x y z. at (recordAt t + a) (omega arith, λ i b d. omega arith) (omega arith)) (h .records);
           tags = indexes-tagged v m 0 0 (S .sets) g;
-          nodes = has-at (omega arith) (has-keep l (λ k lt. at (base (length (S .sets)) + k) (omega arith, λ t a b. omega arith) (omega arith)) (h .nodes));
+          nodes = has-at (sym (spotL-one (S .form) (S .family) _)) (has-keep l (λ k lt. at (base (length (S .sets)) + k) (omega arith, λ t a b. omega arith) (omega arith)) (h .nodes));
           within = omega arith;
         };
       };

@@ -1,6 +1,6 @@
 -- A state with another set in the place of one: what stays, the sums of nodes and claims, in which only that set's terms differ, and when it is a state again (`Fits`).
 -- A set with another list is one of them. Assumes nothing.
-use mathlib.Core.Path.{_≡_, refl, ap}
+use mathlib.Core.Path.{_≡_, refl, ap, _∙_}
 use mathlib.Core.Bool.{true, _&&_}
 use mathlib.Core.List.{List, [], _∷_}
 use Prim.Native.Nat.{ℕ, zero, suc, _+_, _≤_, _<_}
@@ -12,11 +12,12 @@ use Rattle.nets.specs.Bits.{Bits}
 use Rattle.nets.specs.Lists.{isList}
 use Rattle.nets.specs.Networks.{width}
 use Rattle.nets.proofs.Strings.{and-left, and-right}
-use Rattle.pool_state.specs.States.{SetState, State, held, claim, used, claimed, indexedOf, roomOf, admits, isSet, areSets, isState}
+use Rattle.pool_state.specs.States.{SetState, State, held, claim, used, claimed, indexedOf, roomOf, admits, isSet, areSets, isState, indexable}
 use Rattle.pool_state.specs.Decode.{leastOf}
 use Rattle.pool_state.specs.Rules.{noSet}
 use Rattle.pool_state.specs.Changes.{setAt, listAt, setsWith, withSet, fits, setWith}
-use Rattle.pool_state.proofs.Claims.{isState-family, isState-size, isState-sets, isState-claimed, areSets-head, areSets-tail, claimedBut-is}
+use Rattle.pool_state.proofs.Claims.{isState-family, isState-size, isState-sets, isState-claimed, areSets-head, areSets-tail, claimedBut-is, isState-offered, areSets-form, areSets-cons, indexable-at, form-at}
+use Rattle.pool_state.specs.Kept.{Form}
 
 -- Sets.
 pub length-setsWith : (k : ℕ) (x : SetState) (ss : List SetState) → length (setsWith k x ss) ≡ length ss
@@ -48,20 +49,21 @@ claimed-setsWith k x [] lt = absurd (omega arith)
 claimed-setsWith zero x (s ∷ ss) lt = omega arith
 claimed-setsWith (suc k) x (s ∷ ss) lt = omega (arith, claimed-setsWith k x ss (omega arith))
 
-areSets-setsWith : (f k : ℕ) (x : SetState) (ss : List SetState) → areSets f ss ≡ true → isSet f x ≡ true → areSets f (setsWith k x ss) ≡ true
-areSets-setsWith f k x [] e i = refl
-areSets-setsWith f zero x (s ∷ ss) e i = rw i (areSets-tail f s ss e)
-areSets-setsWith f (suc k) x (s ∷ ss) e i = rw (areSets-head f s ss e) (areSets-setsWith f k x ss (areSets-tail f s ss e) i)
+areSets-setsWith : (F : Form) (f k : ℕ) (x : SetState) (ss : List SetState) → areSets F f ss ≡ true → x .form ≡ F → isSet f x ≡ true → areSets F f (setsWith k x ss) ≡ true
+areSets-setsWith F f k x [] e q i = refl
+areSets-setsWith F f zero x (s ∷ ss) e q i = areSets-cons F f x ss q i (areSets-tail F f s ss e)
+areSets-setsWith F f (suc k) x (s ∷ ss) e q i =
+    areSets-cons F f s (setsWith k x ss) (areSets-form F f s ss e) (areSets-head F f s ss e) (areSets-setsWith F f k x ss (areSets-tail F f s ss e) q i)
 
--- the same share, limit and marks; another list leaves them
+-- the same share, limit, marks and form; another list leaves them
 abbrev pub SamePlan : SetState → SetState → Type 0
-SamePlan x y = (x .share ≡ y .share) × (x .limit ≡ y .limit) × (x .public ≡ y .public) × (x .indexed ≡ y .indexed)
+SamePlan x y = (x .share ≡ y .share) × (x .limit ≡ y .limit) × (x .public ≡ y .public) × (x .indexed ≡ y .indexed) × (x .form ≡ y .form)
 
 setsWith-plan : (k j : ℕ) (l : List Bits) (ss : List SetState) → SamePlan (getD (setsWith k (setWith (getD ss k noSet) l) ss) j noSet) (getD ss j noSet)
-setsWith-plan k j l [] = (refl, refl, refl, refl)
-setsWith-plan zero zero l (s ∷ ss) = (refl, refl, refl, refl)
-setsWith-plan zero (suc j) l (s ∷ ss) = (refl, refl, refl, refl)
-setsWith-plan (suc k) zero l (s ∷ ss) = (refl, refl, refl, refl)
+setsWith-plan k j l [] = (refl, refl, refl, refl, refl)
+setsWith-plan zero zero l (s ∷ ss) = (refl, refl, refl, refl, refl)
+setsWith-plan zero (suc j) l (s ∷ ss) = (refl, refl, refl, refl, refl)
+setsWith-plan (suc k) zero l (s ∷ ss) = (refl, refl, refl, refl, refl)
 setsWith-plan (suc k) (suc j) l (s ∷ ss) = setsWith-plan k j l ss
 
 indexedOf-setsWith : (k : ℕ) (x : SetState) (ss : List SetState) → x .indexed ≡ getD ss k noSet .indexed → indexedOf (setsWith k x ss) ≡ indexedOf ss
@@ -135,16 +137,21 @@ module _ (S : State) (k : ℕ) (e : isState S ≡ true) (lt : k < length (S .set
 
   -- What fits leaves a state again.
   module _ (x : SetState) where
-    pub isState-withSet : isList (width (S .family)) (x .list) ≡ true → Fits S k x → isState (withSet S k x) ≡ true
+    -- it is indexed where the set is, and kept in the same form
+    indexable-as : x .form ≡ setAt S k .form → x .indexed ≡ setAt S k .indexed → indexable x ≡ true
+    indexable-as q m = rw (q, m) (indexable-at S k e)
+
+    pub isState-withSet : x .form ≡ setAt S k .form → x .indexed ≡ setAt S k .indexed → isList (width (S .family)) (x .list) ≡ true → Fits S k x → isState (withSet S k x) ≡ true
     unfolding isState withSet
-    isState-withSet i f =
+    isState-withSet q m i f =
         let c : claimed (setsWith k x (S .sets)) ≤ S .nodes =
         omega (arith, claimed-setsWith k x (S .sets) lt, claimedBut-is k (S .sets) lt, isState-claimed S e, f .room) in
-        let s : isSet (S .family) x ≡ true = rw (i, le-leb (x .share) (x .limit) (f .share), le-leb (held x) (x .limit) (f .held)) (f .public) in
+        let s : isSet (S .family) x ≡ true = rw (i, indexable-as q m, le-leb (x .share) (x .limit) (f .share), le-leb (held x) (x .limit) (f .held)) (f .public) in
         rw (
           isState-family S e,
+          isState-offered S e,
           length-setsWith k x (S .sets),
           isState-size S e,
-          areSets-setsWith (S .family) k x (S .sets) (isState-sets S e) s,
+          areSets-setsWith (S .form) (S .family) k x (S .sets) (isState-sets S e) (q ∙ form-at (S .form) (S .family) k (S .sets) lt (isState-sets S e)) s,
         )
         (le-leb _ _ c)

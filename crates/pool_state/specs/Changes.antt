@@ -51,7 +51,7 @@ setsWith zero x (s ∷ ss) = x ∷ ss
 setsWith (suc k) x (s ∷ ss) = s ∷ setsWith k x ss
 
 unfoldable pub withSet : State → ℕ → SetState → State
-withSet S k x = record { family = S .family; nodes = S .nodes; sets = setsWith k x (S .sets) }
+withSet S k x = record { family = S .family; form = S .form; nodes = S .nodes; sets = setsWith k x (S .sets) }
 
 unfoldable pub fits : State → ℕ → SetState → Bool
 fits S k x = leb (x .share) (x .limit) && (leb (held x) (x .limit) && (admits (S .family) x (x .list) && leb (claim x) (roomOf S k)))
@@ -75,7 +75,7 @@ pub record Changed (w : List ℕ) (k : ℕ) (rs : State → List Rule) (f : Stat
 
 -- another share and limit
 abbrev pub planned : SetState → ℕ → ℕ → SetState
-planned s x y = record { share = x; limit = y; public = s .public; indexed = s .indexed; list = s .list }
+planned s x y = record { share = x; limit = y; public = s .public; indexed = s .indexed; form = s .form; list = s .list }
 
 unfoldable pub planRules : ℕ → ℕ → ℕ → State → List Rule
 planRules k x y S = (not (fits S k (planned (setAt S k) x y)), BadShare) ∷ []
@@ -93,7 +93,7 @@ occupied S k = (not (isEmpty (listAt S k)), Occupied)
 
 -- public-only from now on
 abbrev pub marked : SetState → SetState
-marked s = record { share = s .share; limit = s .limit; public = true; indexed = s .indexed; list = s .list }
+marked s = record { share = s .share; limit = s .limit; public = true; indexed = s .indexed; form = s .form; list = s .list }
 
 unfoldable pub markRules : ℕ → State → List Rule
 markRules k S = occupied S k ∷ []
@@ -103,11 +103,12 @@ Marked w k r v = Changed w k (markRules k) (λ S. marked (setAt S k)) r v
 
 -- another list
 abbrev pub setWith : SetState → List Bits → SetState
-setWith s l = record { share = s .share; limit = s .limit; public = s .public; indexed = s .indexed; list = l }
+setWith s l = record { share = s .share; limit = s .limit; public = s .public; indexed = s .indexed; form = s .form; list = l }
 
 abbrev pub grantRules : State → ℕ → List Bits → List Rule
 grantRules S k l =
-    (not (admits (S .family) (setAt S k) l), NotPublic) ∷ (ltb (setAt S k .limit) (heldL l), OverLimit) ∷ (ltb (roomOf S k) (heldL l), NoRoom) ∷ []
+    (not (admits (S .family) (setAt S k) l), NotPublic) ∷ (ltb (setAt S k .limit) (heldL (setAt S k .form) l), OverLimit)
+    ∷ (ltb (roomOf S k) (heldL (setAt S k .form) l), NoRoom) ∷ []
 
 unfoldable pub relistRules : ℕ → (State → List Rule) → (State → List Bits) → State → List Rule
 relistRules k a f S = a S ++ grantRules S k (f S)

@@ -1,6 +1,7 @@
--- Words and states. Words 0 to 4 of a pool are a mark, the family, the sets, the nodes, and how many sets are indexed. The record of set s stands at 64 + 8 s: the number of its
+-- Words and states. Words 0 to 5 of a pool are a mark, the family, the sets, the nodes, how many sets are indexed, and the form. The record of set s stands at 64 + 8 s: the number of its
 -- root (0: the list is empty), its share, its limit, 1 where it is public-only, else 0, and its tag: 0, or where it is indexed one more than how many indexed sets stand before it.
--- The nodes stand from 64 + 8 sets on, node i in one word: the lists of the sets one behind the other. Behind the words for them stand the indexes, 256 words each.
+-- The nodes stand from 64 + 8 sets on, each in one word in the first form, in two or five in the second: the lists of the sets one behind the other. Behind the words for them stand the
+-- indexes, 256 words each.
 --
 --   overSets w S, overIndexes w m s j xs     the words w with the header, records and lists of S written over them; with tags and indexes, from set s and index j on, the first at m
 --   over w S                                 both
@@ -12,11 +13,11 @@ use Prim.Native.Nat.{ℕ, zero, suc, _+_, _*_}
 use lib.Dec.{eqb, leb}
 use lib.ListN.{length, getD}
 use Rattle.nets.specs.Bits.{Bits, digit}
-use Rattle.nets.specs.Networks.{isFamily, width}
+use Rattle.nets.specs.Networks.{isFamily}
 use Rattle.nodes.specs.Words.{put}
 use Rattle.trie_index.specs.Index.{isAt}
-use Rattle.pool_state.specs.Kept.{heldL, encL, indexL, ReadList, badList, okList, readL}
-use Rattle.pool_state.specs.States.{SetState, State, held, claimed, indexedOf, keepsRules, isSize}
+use Rattle.pool_state.specs.Kept.{Form, formNo, formOf, heldL, encL, indexL, ReadList, badList, okList, readL}
+use Rattle.pool_state.specs.States.{SetState, State, held, claimed, indexedOf, keepsRules, isSize, isOffered}
 
 abbrev pub mark : ℕ
 mark = 1296126540
@@ -41,13 +42,13 @@ unfoldable pub overRecords : List ℕ → ℕ → ℕ → List SetState → List
 overRecords w s i [] = w
 overRecords w s i (x ∷ xs) = overRecords (put w (recordAt s) (rootAt i (x .list) ∷ x .share ∷ x .limit ∷ digit (x .public) ∷ [])) (s + 1) (i + held x) xs
 
-unfoldable pub nodeWords : List SetState → List ℕ
-nodeWords [] = []
-nodeWords (x ∷ xs) = encL (x .list) ++ nodeWords xs
+unfoldable pub nodeWords : ℕ → List SetState → List ℕ
+nodeWords v [] = []
+nodeWords v (x ∷ xs) = encL (x .form) v (x .list) ++ nodeWords v xs
 
 unfoldable pub overSets : List ℕ → State → List ℕ
 overSets w S =
-    put (overRecords (put w 0 (mark ∷ S .family ∷ length (S .sets) ∷ S .nodes ∷ [])) 0 1 (S .sets)) (base (length (S .sets))) (nodeWords (S .sets))
+    put (overRecords (put (put w 0 (mark ∷ S .family ∷ length (S .sets) ∷ S .nodes ∷ [])) 5 (formNo (S .form) ∷ [])) 0 1 (S .sets)) (base (length (S .sets))) (nodeWords (S .family) (S .sets))
 
 -- the tag of a set with j indexed sets before it, and the words of its index
 abbrev pub tagOf : Bool → ℕ → ℕ
@@ -79,14 +80,21 @@ pub data ReadSets : Type 0 where
   badSets : ReadSets
   okSets : List SetState → ReadSets
 
+-- the form of a pool, and whether the word is that of one that is offered
+abbrev pub formIn : List ℕ → Form
+formIn w = formOf (getD w 5 0)
+
+unfoldable pub isForm : ℕ → Bool
+isForm x = eqb x (formNo (formOf x)) && isOffered (formOf x)
+
 unfoldable pub isHeader : List ℕ → Bool
 isHeader w =
-    (eqb (getD w 0 0) mark && isFamily (getD w 1 0))
+    (eqb (getD w 0 0) mark && (isFamily (getD w 1 0) && isForm (getD w 5 0)))
     && (isSize (getD w 2 0) (getD w 3 0) && (leb (getD w 4 0) (getD w 2 0) && leb (leastWords (getD w 2 0) (getD w 3 0) (getD w 4 0)) (length w)))
 
--- the list of set s, where the next number that is not placed is i, and the nodes of a set begin there or nowhere
+-- the list of set s, of the family v, where the next number that is not placed is i, and the nodes of a set begin there or nowhere
 unfoldable pub readSet : List ℕ → ℕ → ℕ → ℕ → ℕ → ℕ → ReadList
-readSet w b n f s i = cond (eqb (getD w (recordAt s) 0) 0) (okList []) (cond (eqb (getD w (recordAt s) 0) i) (readL w b n f i) badList)
+readSet w b n v s i = cond (eqb (getD w (recordAt s) 0) 0) (okList []) (cond (eqb (getD w (recordAt s) 0) i) (readL (formIn w) v w b n i) badList)
 
 abbrev pub setOf : List ℕ → ℕ → List Bits → SetState
 setOf w s l =
@@ -95,6 +103,7 @@ setOf w s l =
       limit = getD w (recordAt s + 2) 0;
       public = eqb (getD w (recordAt s + 3) 0) 1;
       indexed = not (eqb (getD w (recordAt s + 4) 0) 0);
+      form = formIn w;
       list = l;
     }
 
@@ -111,14 +120,14 @@ setBefore c x (okSets xs) = cond c (okSets (x ∷ xs)) badSets
 unfoldable pub readSets : List ℕ → ℕ → ℕ → ℕ → ℕ → ℕ → ℕ → ReadSets
 readSets w b n f zero s i = okSets []
 readSets w b n f (suc m) s i =
-    elim (readSet w b n (suc (width f)) s i) [
+    elim (readSet w b n f s i) [
       | badList ↦ badSets
-      | okList l ↦ setBefore (isRight w f s l) (setOf w s l) (readSets w b n f m (s + 1) (i + heldL l))
+      | okList l ↦ setBefore (isRight w f s l) (setOf w s l) (readSets w b n f m (s + 1) (i + heldL (formIn w) l))
     ]
 
 abbrev pub judged : List ℕ → ReadSets → Decoded
 judged w badSets = damaged
-judged w (okSets xs) = cond (leb (claimed xs) (getD w 3 0)) (sound (record { family = getD w 1 0; nodes = getD w 3 0; sets = xs })) damaged
+judged w (okSets xs) = cond (leb (claimed xs) (getD w 3 0)) (sound (record { family = getD w 1 0; form = formIn w; nodes = getD w 3 0; sets = xs })) damaged
 
 unfoldable pub readPool : List ℕ → Decoded
 readPool w = cond (isHeader w) (judged w (readSets w (base (getD w 2 0)) (getD w 3 0) (getD w 1 0) (getD w 2 0) 0 1)) damaged

@@ -9,7 +9,7 @@
 --   surveyOf            what one pass over a pool finds out for the calls on set k
 --   seatAt S k, seatOf w v      the seat of its trie, behind the sets before it; by the words and what a pass found
 --   seatedRule          the survey and the seat of set k, or the refusal of every call on it
-use mathlib.Core.Bool.{Bool, true, false, cond, _&&_}
+use mathlib.Core.Bool.{Bool, true, false, cond, _&&_, _||_}
 use mathlib.Core.List.{List, [], _∷_}
 use mathlib.Core.Path.{_≡_}
 use Prim.Native.Nat.{ℕ, zero, suc, _+_, _/_, _%_}
@@ -18,10 +18,11 @@ use lib.ListN.{length, getD, replicate}
 use Rattle.nets.specs.Refusals.{number, answered, Rule, firstNo}
 use Rattle.nets.specs.declared.Refusal.the-variants.{NoSet, ShortBuffer}
 use Rattle.nodes.specs.Words.{put}
+use Rattle.pool_state.specs.Kept.{Form, first, formOf}
 use Rattle.pool_state.specs.States.{SetState, State, held, claimed, used, freeOf, isSize}
 use Rattle.nets.specs.Networks.{isFamily}
 use Rattle.nodes.specs.declared.seats.Seat.{Seat}
-use Rattle.pool_state.specs.Decode.{Decoded, damaged, sound, leastWords, recordAt, base, over}
+use Rattle.pool_state.specs.Decode.{Decoded, damaged, sound, leastWords, recordAt, base, over, isForm}
 use Rattle.pool_state.specs.declared.Answer.{Answer}
 use Rattle.pool_state.specs.declared.Answer.the-variants as answer
 use Rattle.pool_state.specs.declared.Report.{Report}
@@ -83,14 +84,15 @@ sharesFit sets nodes shares limits = eqb (length shares) sets && eqb (length lim
 -- what layout is asked for
 pub record Setup : Type 0 where
   pub family : ℕ
+  pub form : ℕ
   pub sets : ℕ
   pub nodes : ℕ
   pub shares : List ℕ
   pub limits : List ℕ
   pub indexed : ℕ
 
-abbrev pub setup : ℕ → ℕ → ℕ → List ℕ → List ℕ → ℕ → Setup
-setup f m n xs ys x = record { family = f; sets = m; nodes = n; shares = xs; limits = ys; indexed = x }
+abbrev pub setup : ℕ → ℕ → ℕ → ℕ → List ℕ → List ℕ → ℕ → Setup
+setup f o m n xs ys x = record { family = f; form = o; sets = m; nodes = n; shares = xs; limits = ys; indexed = x }
 
 -- the sets that are to be indexed, as a number whose bit s stands for set s: whether m sets have all of them, and how many they are
 unfoldable pub marksFit : ℕ → ℕ → Bool
@@ -104,28 +106,32 @@ marks (suc m) x = x % 2 + marks m (x / 2)
 abbrev pub wordsOf : Setup → ℕ
 wordsOf p = leastWords (p .sets) (p .nodes) (marks (p .sets) (p .indexed))
 
+-- the form is offered, and in the second no set is to be indexed
+unfoldable pub isFormed : ℕ → ℕ → Bool
+isFormed o x = isForm o && (eqb o 0 || eqb x 0)
+
 -- it keeps the rules, and so many words are enough
 unfoldable pub isSetup : ℕ → Setup → Bool
 isSetup words p =
-    isFamily (p .family) && isSize (p .sets) (p .nodes) && marksFit (p .sets) (p .indexed) && leb (wordsOf p) words
+    isFamily (p .family) && isFormed (p .form) (p .indexed) && isSize (p .sets) (p .nodes) && marksFit (p .sets) (p .indexed) && leb (wordsOf p) words
     && sharesFit (p .sets) (p .nodes) (p .shares) (p .limits)
 
 unfoldable pub layoutNo : List ℕ → Setup → ℕ
 layoutNo w p = cond (isSetup (length w) p) 0 1
 
--- sets without a network, none of them public-only, and indexed by the bits of a number
-abbrev pub emptySets : List ℕ → List ℕ → ℕ → List SetState
-emptySets [] limits z = []
-emptySets (x ∷ shares) [] z = []
-emptySets (x ∷ shares) (y ∷ limits) z = record { share = x; limit = y; public = false; indexed = eqb (z % 2) 1; list = [] } ∷ emptySets shares limits (z / 2)
+-- sets without a network, in the form F, none of them public-only, and indexed by the bits of a number
+abbrev pub emptySets : Form → List ℕ → List ℕ → ℕ → List SetState
+emptySets F [] limits z = []
+emptySets F (x ∷ shares) [] z = []
+emptySets F (x ∷ shares) (y ∷ limits) z = record { share = x; limit = y; public = false; indexed = eqb (z % 2) 1; form = F; list = [] } ∷ emptySets F shares limits (z / 2)
 
--- the same without shares and limits
+-- the same without form, shares and limits
 abbrev pub blanks : ℕ → ℕ → List SetState
 blanks zero z = []
-blanks (suc n) z = record { share = 0; limit = 0; public = false; indexed = eqb (z % 2) 1; list = [] } ∷ blanks n (z / 2)
+blanks (suc n) z = record { share = 0; limit = 0; public = false; indexed = eqb (z % 2) 1; form = first; list = [] } ∷ blanks n (z / 2)
 
 abbrev pub emptyState : Setup → State
-emptyState p = record { family = p .family; nodes = p .nodes; sets = emptySets (p .shares) (p .limits) (p .indexed) }
+emptyState p = record { family = p .family; form = formOf (p .form); nodes = p .nodes; sets = emptySets (formOf (p .form)) (p .shares) (p .limits) (p .indexed) }
 
 -- the smallest buffer is cleared, and every set is empty
 unfoldable pub laid : List ℕ → Setup → List ℕ
@@ -151,7 +157,7 @@ tagIn w k = getD w (recordAt k + 4) 0
 
 -- a report on set k: 2 where the pool is damaged, 3 where there is no such set
 abbrev pub noSet : SetState
-noSet = record { share = 0; limit = 0; public = false; indexed = false; list = [] }
+noSet = record { share = 0; limit = 0; public = false; indexed = false; form = first; list = [] }
 
 abbrev pub onSet : {A : Type 0} → Decoded → ℕ → A → (State → SetState → A) → ℕ × A
 onSet d k z f = answerOn d (λ S. unknown S k ∷ []) z (λ S. f S (getD (S .sets) k noSet))

@@ -24,6 +24,7 @@ use Rattle.pool_state.specs.declared.Answer.the-variants as answer
 use Rattle.pool_state.proofs.Filled.{Filled, fill-refused, fill-short, fill-granted}
 use Rattle.pool_state.proofs.OnTries.{trieAt}
 use Rattle.listing.proofs.Seats.{Sits}
+use Rattle.listing.proofs.ByForm.{held-deep}
 use Rattle.trie_ranges.specs.Opening.{rangesT, Ranged}
 use Rattle.rangelist.specs.Calls.{rangesAt, rangesRules, rangesRule, rowsAfter, Ranges}
 
@@ -44,7 +45,7 @@ ranges-refused {w} {v} {k} x e = ranged (fill-refused (decode w) k (length v) _ 
 
 module _ {w : List ℕ} {k : ℕ} {S : State} {s : Seat} (h : Sits w k S s) where
   pub sits-isList : isList (width (S .family)) (listAt S k) ≡ true
-  sits-isList = rw (← h .family) (rw (h .list) at (isList-listOf (width (s .family)) (trieAt S k) (h .holds .deep)))
+  sits-isList = rw (← h .family) (rw (h .list) at (isList-listOf (width (s .family)) (trieAt S k) (held-deep (h .holds))))
 
   -- the ranges of the trie are those of the list
   ranges-are : rangesT (s .family) (trieAt S k) ≡ rangesAt S k

@@ -41,7 +41,7 @@ module _ (S : State) (k x y : ℕ) where
       go false q = absurd (number-some BadShare q)
 
   pub plan-keeps : isState S ≡ true → Keeps S k (planRules k x y S) (planned (setAt S k) x y)
-  plan-keeps e lt z = (isList-listAt S k e, fits-is S k (planned (setAt S k) x y) (rules-fit z), refl)
+  plan-keeps e lt z = (isList-listAt S k e, fits-is S k (planned (setAt S k) x y) (rules-fit z), refl, refl)
 
   -- it is granted exactly then, and else gets 13
   pub replan-exactly : isState S ≡ true → k < length (S .sets) → changeNo S k (planRules k x y S) ≡ cond (mayPlan S k x y) 0 13

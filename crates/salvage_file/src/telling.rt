@@ -7,7 +7,7 @@ fn says(n: u32, what: &[u8]) -> bool {
 }
 
 // Whether it was written.
-fn written(c: Counts) -> bool {
+fn says_counts(c: Counts) -> bool {
     if !(says(c.read, b" entries read, ") && says(c.trimmed, b" trimmed, ")) {
         return false;
     }
@@ -19,7 +19,7 @@ fn written(c: Counts) -> bool {
 }
 
 pub fn tell(c: Counts) {
-    if !written(c) {
+    if !says_counts(c) {
         tool_files::say_failed(b"salvage", b"standard output");
     }
 }

@@ -20,7 +20,7 @@ fn differs(holder: Holder, net: Net) -> bool {
 }
 
 // Whether it was written.
-fn written(c: Compared) -> bool {
+fn says_answer(c: Compared) -> bool {
     match c {
         Compared::Differs(holder, net) => differs(holder, net),
         Compared::Longer => says(
@@ -37,7 +37,7 @@ fn written(c: Compared) -> bool {
 }
 
 pub fn tell(c: Compared) {
-    if !written(c) {
+    if !says_answer(c) {
         tool_files::say_failed(b"same", b"standard output");
     }
 }

@@ -22,7 +22,7 @@ fn family_of(bytes: &[u8]) -> u8 {
 // Lays the pool out for the file, and gives its set the list of it. The family, or 0 where it is refused.
 fn load(pool: &mut [u32], bytes: &[u8]) -> u8 {
     let family = family_of(bytes);
-    pool::layout(pool, family, 1, NODES, &[NODES], &[NODES], 0);
+    pool::layout(pool, family, 0, 1, NODES, &[NODES], &[NODES], 0);
     let loaded = setfile::load(pool, 0, bytes);
     match loaded {
         Answer::Granted(_) => family,

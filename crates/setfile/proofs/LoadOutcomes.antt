@@ -92,20 +92,20 @@ module _ {w v : List ℕ} {k : ℕ} {r : ℕ × ℕ} (d : List ℕ) (h : Loaded 
             pub load-public : admits (S .family) (setAt S k) l ≡ false → (r ≡ (14, 0)) × (v ≡ w)
             load-public m = judged NotPublic (rw m)
 
-            pub load-limit : admits (S .family) (setAt S k) l ≡ true → setAt S k .limit < heldL l → (r ≡ (9, 0)) × (v ≡ w)
-            load-limit m more = judged OverLimit (rw (m, lt-ltb (setAt S k .limit) (heldL l) more))
+            pub load-limit : admits (S .family) (setAt S k) l ≡ true → setAt S k .limit < heldL (setAt S k .form) l → (r ≡ (9, 0)) × (v ≡ w)
+            load-limit m more = judged OverLimit (rw (m, lt-ltb (setAt S k .limit) (heldL (setAt S k .form) l) more))
 
-            module _ (clear : admits (S .family) (setAt S k) l ≡ true) (low : heldL l ≤ setAt S k .limit) where
-              pub load-room : roomOf S k < heldL l → (r ≡ (10, 0)) × (v ≡ w)
-              load-room more = judged NoRoom (rw (clear, le-ltb (setAt S k .limit) (heldL l) low, lt-ltb (roomOf S k) (heldL l) more))
+            module _ (clear : admits (S .family) (setAt S k) l ≡ true) (low : heldL (setAt S k .form) l ≤ setAt S k .limit) where
+              pub load-room : roomOf S k < heldL (setAt S k .form) l → (r ≡ (10, 0)) × (v ≡ w)
+              load-room more = judged NoRoom (rw (clear, le-ltb (setAt S k .limit) (heldL (setAt S k .form) l) low, lt-ltb (roomOf S k) (heldL (setAt S k .form) l) more))
 
-              module _ (fits : heldL l ≤ roomOf S k) where
+              module _ (fits : heldL (setAt S k .form) l ≤ roomOf S k) where
                 granted : relistNo S k (loadRules (readFile d) k S) (fileList (readFile d)) ≡ 0
                 granted =
                     relistNo-known S k (loadRules (readFile d) k S) (fileList (readFile d)) lt
-                    ∙ rw (right, i, clear, le-ltb (setAt S k .limit) (heldL l) low, le-ltb (roomOf S k) (heldL l) fits)
+                    ∙ rw (right, i, clear, le-ltb (setAt S k .limit) (heldL (setAt S k .form) l) low, le-ltb (roomOf S k) (heldL (setAt S k .form) l) fits)
 
-                pub load-list : (r ≡ (0, heldL l)) × (decode v ≡ sound (withSet S k (setWith (setAt S k) l)))
+                pub load-list : (r ≡ (0, heldL (setAt S k .form) l)) × (decode v ≡ sound (withSet S k (setWith (setAt S k) l)))
                 unfolding changeRule answerOn relistRules relistSet
                 load-list =
                     let list = fileList (readFile d) in (
@@ -116,5 +116,5 @@ module _ {w v : List ℕ} {k : ℕ} {r : ℕ × ℕ} (d : List ℕ) (h : Loaded 
 -- What save wrote of a set loads as the list of that set, into any empty set that may have it.
 pub save-load : {w x u : List ℕ} {k : ℕ} {q : Answer} → Saved w k x q u → (S : State) → decode w ≡ sound S → k < length (S .sets) → length (fileAt S k) ≤ length x
     → {z v : List ℕ} {j : ℕ} {r : ℕ × ℕ} → Loaded z j (take (length (fileAt S k)) u) r v → (T : State) → decode z ≡ sound T → j < length (T .sets) → S .family ≡ T .family → listAt T j ≡ []
-    → admits (T .family) (setAt T j) (listAt S k) ≡ true → heldL (listAt S k) ≤ setAt T j .limit → heldL (listAt S k) ≤ roomOf T j → (r ≡ (0, heldL (listAt S k))) × (decode v ≡ sound (withSet T j (setWith (setAt T j) (listAt S k))))
+    → admits (T .family) (setAt T j) (listAt S k) ≡ true → heldL (setAt T j .form) (listAt S k) ≤ setAt T j .limit → heldL (setAt T j .form) (listAt S k) ≤ roomOf T j → (r ≡ (0, heldL (setAt T j .form) (listAt S k))) × (decode v ≡ sound (withSet T j (setWith (setAt T j) (listAt S k))))
 save-load {u = u} {k = k} g S e lt le h T f lj own empty clear low fits = load-list (take (length (fileAt S k)) u) h T f lj (save-reads g S e lt le) own empty clear low fits

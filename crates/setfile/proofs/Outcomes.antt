@@ -16,7 +16,6 @@ use Rattle.pool_state.specs.declared.Answer.{Answer}
 use Rattle.pool_state.specs.declared.Answer.the-variants as answer
 use Rattle.pool_state.proofs.Claims.{isState-family, isSet-list}
 use Rattle.pool_state.proofs.Filled.{filled-one, filled-damaged, filled-noset, filled-short, filled-whole}
-use Rattle.pool_state.proofs.OnTries.{set-listOf}
 use Rattle.pool_state.proofs.Decoded.{decode-state, decode-set}
 use Rattle.setfile_format.specs.Files.{file, readFile}
 use Rattle.setfile_format.proofs.Written.{readFile-fileOf}
@@ -31,7 +30,7 @@ pub readFile-fileAt : (w : List ℕ) (S : State) → decode w ≡ sound S → (k
 readFile-fileAt w S d k lt =
     let e = decode-set w S d k lt .rules in
     let v = S .family in
-    readFile-fileOf (S .family) (listAt S k) (isState-family S (decode-state w S d)) (isSet-list v (setAt S k) e) (decode-few w S d k lt (set-listOf v (setAt S k) e))
+    readFile-fileOf (S .family) (listAt S k) (isState-family S (decode-state w S d)) (isSet-list v (setAt S k) e) (decode-few w S d k lt)
 
 pub take-put : (v xs : List ℕ) → length xs ≤ length v → take (length xs) (put v 0 xs) ≡ xs
 unfolding put

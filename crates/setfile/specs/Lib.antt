@@ -1,4 +1,5 @@
 -- The calls on set files; then what the inner functions cite.
 pub mod Calls
 pub mod Loading
+pub mod SaveSteps
 pub mod LoadSteps

@@ -1,4 +1,5 @@
 // Set files: a set into bytes, and bytes into a set. Each call checks the pool in one pass.
+use listing::seated::tally;
 use loading::Loadable;
 use loading::ask;
 use loading::is_admitted;
@@ -10,15 +11,15 @@ use pool_check::seats::seat_of;
 use pool_state::Answer;
 use pool_state::Seated;
 use pool_state::Verdict;
+use saving::write_seated;
 use setfile_entries::reading::file_bytes;
-use setfile_write::saving::write_file;
 use trie_list::lengths::starts;
-use trie_list::lengths::tally;
 ghost use Rattle.pool_state.specs.Rules.{answerAs};
 ghost use Rattle.setfile.specs.Calls.{Saved};
 ghost use Rattle.setfile.specs.Loading.{Loaded};
 
 mod loading;
+mod saving;
 
 // Writes the file of a set, and answers how many bytes it has. Bytes past it keep what they had, and a refusal writes nothing.
 pub fn save(pool: &[u32], set: u32, out: &mut [u8]) -> Answer
@@ -28,13 +29,13 @@ pub fn save(pool: &[u32], set: u32, out: &mut [u8]) -> Answer
     match seated {
         Seated::Refused(no) => Answer::Refused(no),
         Seated::At(_, s) => {
-            let mut next = tally(pool, s.base, s.first, s.end);
+            let mut next = tally(pool, s);
             let n = starts(&mut next);
             let size = file_bytes(s.family, n);
             if out.len() < size {
                 return Answer::Refused(Refusal::ShortBuffer);
             }
-            write_file(pool, s.base, s.first, s.end, s.family, n, &mut next, out);
+            write_seated(pool, s, n, &mut next, out);
             Answer::Granted(size as u32)
         }
     }

@@ -43,7 +43,7 @@ pub lastOf-none : (q p : Bits) → lastOf q (below p none) ≡ q
 unfolding lastOf
 lastOf-none q p = rw (below-none p)
 
-leads-last : (p m : Bits) (l : List Bits) → leads p m ≡ true → leads p (lastOf m (map (λ q. p ++ q) l)) ≡ true
+pub leads-last : (p m : Bits) (l : List Bits) → leads p m ≡ true → leads p (lastOf m (map (λ q. p ++ q) l)) ≡ true
 unfolding lastOf
 leads-last p m [] h = h
 leads-last p m (k ∷ l) h = leads-last p (p ++ k) l (leads-append p k)

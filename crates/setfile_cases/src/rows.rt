@@ -87,7 +87,7 @@ fn saves(t: Tally, pool: &[u32], row: &[u8], must: &[u8], bytes: &[u8]) -> Tally
 fn breaks(t: Tally, family: u8, row: &[u8], must: &[u8], bytes: &[u8]) -> Tally {
     let no = number_of(must);
     let mut pool = [0u32; WORDS];
-    let a = pool::layout(&mut pool, family, 2, 140, &[0, 0], &[140, 140], 0);
+    let a = pool::layout(&mut pool, family, 0, 2, 140, &[0, 0], &[140, 140], 0);
     let t = tell(t, row, must, grants(a, 0));
     let was = pool;
     let a = setfile::load(&mut pool, 0, bytes);

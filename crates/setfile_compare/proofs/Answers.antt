@@ -2,31 +2,21 @@
 use mathlib.Core.List.{List}
 use mathlib.Core.Path.{_≡_, refl}
 use Prim.Native.Nat.{ℕ}
-use native.Mathlib.Omega.{arith}
 use borrow.Author.Tests.{eq-eqb, ne-eqb}
 use Rattle.nets.specs.Bits.{Bits}
 use Rattle.nets.specs.declared.Refusal.the-variants.{BadFile, WrongFamily}
 use Rattle.setfile_format.specs.Files.{File, broken, file}
-use Rattle.setfile_order.specs.Flow.{checkedOf}
-use Rattle.setfile_order.specs.declared.Checked.the-variants as checked
 use Rattle.setfile_compare.specs.declared.Compared.the-variants as compare
 use Rattle.setfile_compare.specs.Comparing.{Values, comparedAs, verdict, compareRules, compared}
 
--- what `check` answers of a file
-pub checked-file : (x : File) (f n : ℕ) → checked.File f n ≡ checkedOf x → (l : List Bits) × (x ≡ file f l)
-checked-file broken f n e = let z : _≡_ {A = ℕ} 0 1 = cc in absurd (omega arith)
-checked-file (file g l) f n e = (l, cc)
-
-pub refuse-first : (x y : File) → checked.Broken ≡ checkedOf x → comparedAs (compare.Refused BadFile) ≡ compared x y
+pub refuse-first : (x y : File) → x ≡ broken → comparedAs (compare.Refused BadFile) ≡ compared x y
 unfolding compared compareRules
-refuse-first broken y e = refl
-refuse-first (file f l) y e = let z : _≡_ {A = ℕ} 0 1 = cc in absurd (omega arith)
+refuse-first x y e = rw e
 
-pub refuse-second : (x y : File) → checked.Broken ≡ checkedOf y → comparedAs (compare.Refused BadFile) ≡ compared x y
+pub refuse-second : (x y : File) → y ≡ broken → comparedAs (compare.Refused BadFile) ≡ compared x y
 unfolding compared compareRules
-refuse-second broken broken e = refl
-refuse-second (file f l) broken e = refl
-refuse-second x (file g m) e = let z : _≡_ {A = ℕ} 0 1 = cc in absurd (omega arith)
+refuse-second broken y e = refl
+refuse-second (file f l) y e = rw e
 
 module _ (x y : File) (f g : ℕ) (l m : List Bits) (h : x ≡ file f l) (k : y ≡ file g m) where
   pub refuse-family : (f ≡ g → ⊥) → comparedAs (compare.Refused WrongFamily) ≡ compared x y

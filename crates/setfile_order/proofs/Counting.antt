@@ -17,7 +17,7 @@ use Rattle.address_order.specs.Streams.{inAddressOrder, shared, loose, moreNode
 use Rattle.setfile_format.proofs.RoundTrip.{length-networksIn}
 use Rattle.setfile_format.proofs.Reading.{readFile-headless, readFile-unordered, readFile-inside, readFile-list, readFile-nodes, nodes-few}
 use Rattle.address_order.proofs.Streams.{shared-leads, shared-le-right, length-order}
-use Rattle.setfile_order.specs.Flow.{checkedOf, surveyed, headAs, Flow}
+use Rattle.setfile_order.specs.Flow.{checkedAs, checkRule, surveyed, headAs, Flow}
 use Rattle.setfile_order.specs.declared.Head.{Head}
 use Rattle.setfile_order.specs.declared.Checked.the-variants as checked
 
@@ -42,7 +42,7 @@ net-len : (n : Net) (f : ℕ) (q : Bits) → n ≡ netFrom f q → n .len ≡ le
 unfolding netFrom
 net-len n f q e = ap (λ (x : Net). x .len) e
 
-pub survey-none : (d : List ℕ) (f n : ℕ) → n ≡ 0 → checked.File f 0 ≡ surveyed f (allOf d f n)
+pub survey-none : (d : List ℕ) (f n : ℕ) → n ≡ 0 → checkedAs (checked.File f 0) ≡ surveyed f (allOf d f n)
 unfolding surveyed networksIn inAddressOrder loose pathNodes
 survey-none d f n e = rw e
 
@@ -69,11 +69,11 @@ module _ {d : List ℕ} {f n : ℕ} {c : List ℕ} {h : Head} {k v : ℕ} (s : S
   survey-requires = (s .q, s .ms, s .flow, s .net)
 
   -- the last head: all is counted
-  pub survey-end : n ≤ k → checked.File f v ≡ surveyed f (allOf d f n)
+  pub survey-end : n ≤ k → checkedAs (checked.File f v) ≡ surveyed f (allOf d f n)
   unfolding surveyed loose moreNodes
   survey-end l = go (s .ms) refl
     where
-      go : (ms : List Bits) → s .ms ≡ ms → checked.File f v ≡ cond (loose (allOf d f n)) (checked.File f (pathNodes (allOf d f n))) checked.Broken
+      go : (ms : List Bits) → s .ms ≡ ms → checkedAs (checked.File f v) ≡ cond (loose (allOf d f n)) (checkedAs (checked.File f (pathNodes (allOf d f n)))) (checkedAs checked.Broken)
       go [] x =
           let a : loose (allOf d f n) ≡ true = sym (rw x at (s .apart)) in
           let b : pathNodes (allOf d f n) ≡ v = omega (arith, rw x at (s .nodes)) in
@@ -105,7 +105,7 @@ module _ {d : List ℕ} {f n : ℕ} {c : List ℕ} {h : Head} {k v : ℕ} (s : S
     unfolding loose
     inside b e = sym (rw (next .is) at (s .apart)) ∙ ap (λ z. not z && loose (next .m ∷ next .ms)) (shared-leads (s .q) (next .m) ∙ e)
 
-    pub survey-inside : x .deep ≡ h .net .len + 1 → checked.Broken ≡ surveyed f (allOf d f n)
+    pub survey-inside : x .deep ≡ h .net .len + 1 → checkedAs checked.Broken ≡ surveyed f (allOf d f n)
     unfolding surveyed
     survey-inside e = rw (inside true (eq-eqb (shared (s .q) (next .m)) (length (s .q)) (omega (arith, next .deep, net-len (h .net) f (s .q) (s .net)))))
 
@@ -132,18 +132,20 @@ module _ {d : List ℕ} {f n : ℕ} {c : List ℕ} {h : Head} {k v : ℕ} (s : S
 
 -- What `check` answers, test by test.
 module _ (d : List ℕ) where
-  pub check-headless : isFileHeader d ≡ false → checked.Broken ≡ checkedOf (readFile d)
+  pub check-headless : isFileHeader d ≡ false → checkedAs checked.Broken ≡ checkRule (readFile d)
+  unfolding checkRule
   check-headless e = rw (readFile-headless d e)
 
-  pub check-unordered : (areClean (headNumber d 0) d 0 (headNumber d 1) && ascending (networksIn (headNumber d 0) d 0 (headNumber d 1))) ≡ false → checked.Broken ≡ checkedOf (readFile d)
+  pub check-unordered : (areClean (headNumber d 0) d 0 (headNumber d 1) && ascending (networksIn (headNumber d 0) d 0 (headNumber d 1))) ≡ false → checkedAs checked.Broken ≡ checkRule (readFile d)
+  unfolding checkRule
   check-unordered e = rw (readFile-unordered d e)
 
   pub check-survey : isFileHeader d ≡ true → (areClean (headNumber d 0) d 0 (headNumber d 1) && ascending (networksIn (headNumber d 0) d 0 (headNumber d 1))) ≡ true
-      → surveyed (headNumber d 0) (allOf d (headNumber d 0) (headNumber d 1)) ≡ checkedOf (readFile d)
-  unfolding surveyed
+      → surveyed (headNumber d 0) (allOf d (headNumber d 0) (headNumber d 1)) ≡ checkRule (readFile d)
+  unfolding surveyed checkRule
   check-survey h o = go (loose (allOf d (headNumber d 0) (headNumber d 1))) refl
     where
       go : (b : Bool) → loose (allOf d (headNumber d 0) (headNumber d 1)) ≡ b
-          → cond b (checked.File (headNumber d 0) (pathNodes (allOf d (headNumber d 0) (headNumber d 1)))) checked.Broken ≡ checkedOf (readFile d)
+          → cond b (checkedAs (checked.File (headNumber d 0) (pathNodes (allOf d (headNumber d 0) (headNumber d 1))))) (checkedAs checked.Broken) ≡ checkRule (readFile d)
       go true e = rw (readFile-list d h o e, readFile-nodes d h o e)
       go false e = rw (readFile-inside d e)

@@ -1,8 +1,8 @@
 -- The networks of a file in address order, by one cursor for each length that the file has.
 --
---   checkedOf x      what `check` answers of what a file reads as: its family and the nodes of its list, or that it is broken
+--   checkRule x      what `check` answers of what a file reads as, by number and values: its family and the nodes of its list, or that it is broken
 --   headAs f q ms    the first of the networks ms, behind the network q: deep is one more than the leading bits that it shares with q, or 0 where there is none
---   surveyed f ms    what `survey` answers of the networks ms in address order: their nodes, unless one lies inside another
+--   surveyed f ms    what `survey` answers of the networks ms in address order, the same way: their nodes, unless one lies inside another
 --   Flow d f c ms    the cursors c have the networks ms of the file d of the family f still to give, in this order: the lanes have them, and stand in the order of their next ones
 --   Behind d f c last q ms   so, and last is the network q, behind which they come
 use mathlib.Core.Bool.{true, cond}
@@ -13,7 +13,9 @@ use lib.ListN.{length}
 use Rattle.nets.specs.Bits.{Bits}
 use Rattle.nets.specs.Lists.{nodesL}
 use Rattle.nets.specs.Networks.{width, netFrom, noNet}
+use Rattle.nets.specs.Refusals.{number}
 use Rattle.nets.specs.declared.Net.{Net}
+use Rattle.nets.specs.declared.Refusal.the-variants.{BadFile}
 use Rattle.setfile_format.specs.Files.{File, broken, file}
 use Rattle.address_order.specs.Streams.{shared, rising, loose, pathNodes}
 use Rattle.setfile_lanes.specs.Lanes.{laneAt, lanesOf, Live, Sorted, Entries, Lanes}
@@ -21,16 +23,21 @@ use Rattle.setfile_order.specs.declared.Head.{Head}
 use Rattle.setfile_order.specs.declared.Checked.{Checked}
 use Rattle.setfile_order.specs.declared.Checked.the-variants as checked
 
-abbrev pub checkedOf : File → Checked
-checkedOf broken = checked.Broken
-checkedOf (file f l) = checked.File f (nodesL l)
+-- the number and the values of an answer: of a broken file the refusal's number, and zeros
+abbrev pub checkedAs : Checked → ℕ × (ℕ × ℕ)
+checkedAs (checked.File f n) = (0, (f, n))
+checkedAs checked.Broken = (number BadFile, (0, 0))
+
+unfoldable pub checkRule : File → ℕ × (ℕ × ℕ)
+checkRule (file f l) = (0, (f, nodesL l))
+checkRule broken = (number BadFile, (0, 0))
 
 unfoldable pub headAs : ℕ → Bits → List Bits → Head
 headAs f q [] = record { deep = 0; net = noNet }
 headAs f q (m ∷ ms) = record { deep = suc (shared q m); net = netFrom f m }
 
-unfoldable pub surveyed : ℕ → List Bits → Checked
-surveyed f ms = cond (loose ms) (checked.File f (pathNodes ms)) checked.Broken
+unfoldable pub surveyed : ℕ → List Bits → ℕ × (ℕ × ℕ)
+surveyed f ms = cond (loose ms) (0, (f, pathNodes ms)) (number BadFile, (0, 0))
 
 pub record Flow (d : List ℕ) (f : ℕ) (c : List ℕ) (ms : List Bits) : Type 0 where
   pub n : ℕ

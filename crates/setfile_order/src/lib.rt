@@ -2,7 +2,7 @@
 ghost use mathlib.Core.Path.{_≡_};
 ghost use Rattle.setfile_format.specs.Files.{networksIn, readFile};
 ghost use Rattle.address_order.specs.Streams.{inAddressOrder};
-ghost use Rattle.setfile_order.specs.Flow.{checkedOf, surveyed};
+ghost use Rattle.setfile_order.specs.Flow.{checkedAs, checkRule, surveyed};
 ghost use Rattle.setfile_lanes.specs.Lanes.{Ordered};
 use nets::Net;
 use setfile_entries::reading;
@@ -26,7 +26,7 @@ pub enum Checked {
 // The nodes of the networks, unless one lies inside another: in address order it then lies inside the one before it.
 fn survey(bytes: &[u8], family: u8, n: usize) -> Checked
     requires { ⌜ Ordered (now bytes) family n ⌝ }
-    ensures { λ r. ⌜ r ≡ surveyed family (inAddressOrder (networksIn family (now (bytes .entry)) 0 n)) ⌝ }
+    ensures { λ r. ⌜ checkedAs r ≡ surveyed family (inAddressOrder (networksIn family (now (bytes .entry)) 0 n)) ⌝ }
 {
     if n == 0 {
         return Checked::File(family, 0);
@@ -49,7 +49,7 @@ fn survey(bytes: &[u8], family: u8, n: usize) -> Checked
 
 // Whether the bytes are a set file: its family, and the nodes of its list.
 pub fn check(bytes: &[u8]) -> Checked
-    ensures { λ r. ⌜ r ≡ checkedOf (readFile (now (bytes .entry))) ⌝ }
+    ensures { λ r. ⌜ checkedAs r ≡ checkRule (readFile (now (bytes .entry))) ⌝ }
 {
     if !reading::is_header(bytes) {
         return Checked::Broken;

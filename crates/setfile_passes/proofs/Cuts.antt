@@ -16,7 +16,7 @@ use Rattle.nodes.proofs.Tries.{length-enc, size-node}
 use Rattle.nodes.proofs.Segments.{none-is}
 use Rattle.trie_paths.specs.Spans.{snoc}
 use Rattle.trie_pour.specs.Pour.{flatT, pourT, shadow, cutT}
-use Rattle.trie_pour.specs.Parts.{standing, Into, Written, Room, Keeps, Closing}
+use Rattle.trie_pour.specs.Parts.{standing, Into, TrieWritten, Room, Keeps, Closing}
 use Rattle.trie_pour.proofs.Pour.{shadow-left, cut-nothing, cut-flat, cut-halves, cut-size}
 use Rattle.trie_pour.proofs.Parts.{words, child-left, child-right, segment-put}
 use Rattle.setfile_order.specs.declared.Head.{Head}
@@ -68,13 +68,13 @@ module _ {w : List ℕ} {b i e o : ℕ} {d c : List ℕ} {s : Below} {q p : Bits
   pub cut-keeps : Keeps w b i e o t
   cut-keeps = record { part = standing (g .here); room = cut-room t (omega arith) }
 
-  pub cut-kept : s .some ≡ false → {v : List ℕ} {r : ℕ} (x : Bool) → Written w v b o r t → Written w v b o r (cutT x u t)
+  pub cut-kept : s .some ≡ false → {v : List ℕ} {r : ℕ} (x : Bool) → TrieWritten w v b o r t → TrieWritten w v b o r (cutT x u t)
   cut-kept h x k = rw (at-nothing (g .at) h, cut-nothing x t) k
 
   pub shade-room : (y : Bool) (v : Trie) → flatT y ≡ shadow t v → Room w b o (size (flatT y))
   shade-room y v h = rw h (cut-room (shadow t v) (shadow-left t v))
 
-  pub shade-done : (y : Bool) (v : Trie) → flatT y ≡ shadow t v → {x : List ℕ} {r : ℕ} → Written w x b o r (flatT y) → Written w x b o r (shadow t v)
+  pub shade-done : (y : Bool) (v : Trie) → flatT y ≡ shadow t v → {x : List ℕ} {r : ℕ} → TrieWritten w x b o r (flatT y) → TrieWritten w x b o r (shadow t v)
   shade-done y v h k = rw h at k
 
   module _ (h : s .some ≡ true) (y : Bool) (k : y ≡ isLeaf u) (m : ℕ) (n : Into i y t m) where
@@ -112,7 +112,7 @@ module _ {w : List ℕ} {b i e o : ℕ} {d c : List ℕ} {s : Below} {q p : Bits
   pub cut-left : (f : Below) → Halved s f → Cuts w b (i + 1) m (o + 1) d c f q (snoc p false) (g .part .l) (later p (g .part .r) ms) l
   cut-left f k = record { here = left; one = omega arith; behind = omega (arith, g .cuts .behind); at = at-first (g .part) f k; few = few-halves .0 }
 
-  module _ (x : Bool) {w₁ : List ℕ} {k : ℕ} (a : Written w w₁ b (o + 1) k (cutT x (g .part .l) l)) where
+  module _ (x : Bool) {w₁ : List ℕ} {k : ℕ} (a : TrieWritten w w₁ b (o + 1) k (cutT x (g .part .l) l)) where
     abbrev first : Trie
     first = cutT x (g .part .l) l
 
@@ -126,7 +126,7 @@ module _ {w : List ℕ} {b i e o : ℕ} {d c : List ℕ} {s : Below} {q p : Bits
       pub cut-right : (y : Below) → Seconded s h y → Cuts w₁ b m e k d c′ y (onto q p (g .part .l)) (snoc p true) (g .part .r) ms r
       cut-right y v = record { here = stays; one = omega (arith, a .end); behind = ends; at = at-second (g .part) f same j y v; few = few-halves .1 }
 
-    module _ {w₂ : List ℕ} {z : ℕ} (j : Written w₁ w₂ b k z (cutT x (g .part .r) r)) where
+    module _ {w₂ : List ℕ} {z : ℕ} (j : TrieWritten w₁ w₂ b k z (cutT x (g .part .r) r)) where
       abbrev second : Trie
       second = cutT x (g .part .r) r
 
@@ -144,5 +144,5 @@ module _ {w : List ℕ} {b i e o : ℕ} {d c : List ℕ} {s : Below} {q p : Bits
         room = rw (← cut-is) (room-of same-length (cut-room (g .cuts) (cutT x u t) (cut-size x u t)));
       }
 
-      pub cut-done : {w₃ : List ℕ} {y : ℕ} → Written w w₃ b o y (glue false first second) → Written w w₃ b o y (cutT x u t)
+      pub cut-done : {w₃ : List ℕ} {y : ℕ} → TrieWritten w w₃ b o y (glue false first second) → TrieWritten w w₃ b o y (cutT x u t)
       cut-done k = rw cut-is k

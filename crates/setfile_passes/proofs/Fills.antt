@@ -12,7 +12,7 @@ use Rattle.nets.proofs.Numbers.{width-le}
 use Rattle.nodes.specs.Words.{place, enc}
 use Rattle.nodes.proofs.Put.{length-put}
 use Rattle.trie_pour.specs.Pour.{flatT, pourT, cutT}
-use Rattle.trie_pour.specs.Parts.{Written, Room, Keeps, Closing}
+use Rattle.trie_pour.specs.Parts.{TrieWritten, Room, Keeps, Closing}
 use Rattle.trie_pour.proofs.Pour.{cut-grows, cut-inner}
 use Rattle.trie_pour.proofs.Parts.{part-stands, part-put, glue-left, glue-right}
 use Rattle.setfile_below.specs.declared.Below.{Below}
@@ -31,7 +31,7 @@ module _ {w : List ℕ} {b i e o : ℕ} {x : Bool} {u t : Trie} (g : Fills w b i
   pub fill-room : pourT x u t ≡ flatT x → Room w b o (size (flatT x))
   fill-room h = rw (ap size h) at (g .room)
 
-pub fill-as : {w v : List ℕ} {b o r : ℕ} {y z : Trie} → y ≡ z → Written w v b o r z → Written w v b o r y
+pub fill-as : {w v : List ℕ} {b o r : ℕ} {y z : Trie} → y ≡ z → TrieWritten w v b o r z → TrieWritten w v b o r y
 fill-as h k = rw h k
 
 -- The halves.
@@ -114,7 +114,7 @@ module _ {w : List ℕ} {b i e o : ℕ} {x : Bool} {d c : List ℕ} {s : Below} 
     cut = λ h. inner (omega (arith, n .split .order)) .left;
   }
 
-  module _ (short : levels u ≤ 129) {w₁ : List ℕ} {k : ℕ} (v : Written w w₁ b (o + 1) k (one n)) where
+  module _ (short : levels u ≤ 129) {w₁ : List ℕ} {k : ℕ} (v : TrieWritten w w₁ b (o + 1) k (one n)) where
     low-right : (y : ℕ) → size (one n) ≡ y → k + levels r < 2147483648
     low-right zero h = omega (arith, v .end, g .low, levels-node l r (n .part .is))
     low-right (suc y) h =
@@ -139,7 +139,7 @@ module _ {w : List ℕ} {b i e o : ℕ} {x : Bool} {d c : List ℕ} {s : Below} 
       cut = λ h. inner (omega (arith, n .split .order)) .right;
     }
 
-    module _ {w₂ : List ℕ} {y : ℕ} (j : Written w₁ w₂ b k y (two n)) where
+    module _ {w₂ : List ℕ} {y : ℕ} (j : TrieWritten w₁ w₂ b k y (two n)) where
       pub fill-closing : Closing w w₂ b o k y (one n) (two n)
       fill-closing = record {
         wrote = rw (j .wrote, v .wrote);

@@ -15,8 +15,8 @@ use setfile_lanes::lanes::CURSORS;
 use setfile_order::Head;
 use trie_pour::Turn;
 use trie_pour::flat_size;
+use trie_pour::glued_size;
 use trie_pour::nodes_of;
-use trie_pour::over;
 use trie_pour::step;
 
 // How many nodes, and the head behind what was read.
@@ -63,7 +63,7 @@ pub fn count(
             let g = second(s, h);
             let r = count(w, b, m, z, into, bytes, cursors, g);
             let behind = r.head;
-            let nodes = over(l.nodes + r.nodes);
+            let nodes = glued_size(l.nodes + r.nodes);
             Counted {
                 nodes,
                 head: behind,

@@ -5,7 +5,7 @@ ghost use Prim.Native.Nat.{_+_};
 ghost use Rattle.nets.specs.Bits.{Bits};
 ghost use Rattle.nets.specs.Tries.{Trie, size};
 ghost use Rattle.trie_pour.specs.Pour.{flatT, pourT, shadow, cutT};
-ghost use Rattle.trie_pour.specs.Parts.{Written};
+ghost use Rattle.trie_pour.specs.Parts.{TrieWritten};
 ghost use Rattle.setfile_below.specs.Stream.{below, lastOf, Comes};
 ghost use Rattle.setfile_passes.specs.Passing.{Cuts};
 use crate::counting::count;
@@ -51,7 +51,7 @@ fn shade(
     requires { ⌜ ((q : Bits) × (p : Bits) × (u : Trie) × (ms : List Bits) × (t : Trie) × Cuts (now w) b i e o (now bytes) (now cursors) s q p u ms t) ⌝ }
     ensures { λ r. ⌜ ((q p : Bits) (u : Trie) (ms : List Bits) (t : Trie)
         → Cuts (now (w .entry)) b i e o (now (bytes .entry)) (now (cursors .entry)) s q p u ms t
-        → Written (now (w .entry)) (now (w .exit)) b o (r .end) (shadow t (pourT into u t))
+        → TrieWritten (now (w .entry)) (now (w .exit)) b o (r .end) (shadow t (pourT into u t))
         × Comes (now (bytes .entry)) (s .family) (now (cursors .exit)) (r .head) (lastOf q (below p u)) ms) ⌝ }
 {
     let c = count(w, b, i, e, into, bytes, cursors, s);
@@ -75,7 +75,7 @@ pub fn cut(
     requires { ⌜ ((q : Bits) × (p : Bits) × (u : Trie) × (ms : List Bits) × (t : Trie) × Cuts (now w) b i e o (now bytes) (now cursors) s q p u ms t) ⌝ }
     ensures { λ r. ⌜ ((q p : Bits) (u : Trie) (ms : List Bits) (t : Trie)
         → Cuts (now (w .entry)) b i e o (now (bytes .entry)) (now (cursors .entry)) s q p u ms t
-        → Written (now (w .entry)) (now (w .exit)) b o (r .end) (cutT into u t)
+        → TrieWritten (now (w .entry)) (now (w .exit)) b o (r .end) (cutT into u t)
         × Comes (now (bytes .entry)) (s .family) (now (cursors .exit)) (r .head) (lastOf q (below p u)) ms) ⌝ }
 {
     let head = s.head;

@@ -4,7 +4,7 @@ ghost use mathlib.Core.List.{List};
 ghost use Rattle.nets.specs.Bits.{Bits};
 ghost use Rattle.nets.specs.Tries.{Trie};
 ghost use Rattle.trie_pour.specs.Pour.{pourT};
-ghost use Rattle.trie_pour.specs.Parts.{Written};
+ghost use Rattle.trie_pour.specs.Parts.{TrieWritten};
 ghost use Rattle.setfile_below.specs.Stream.{below, lastOf, Comes, At};
 ghost use Rattle.setfile_passes.specs.Passing.{Fills};
 use crate::cutting::Poured;
@@ -36,7 +36,7 @@ pub fn fill(
         × At (now bytes) (now cursors) s q p u ms × Fills (now w) b i e o into u t) ⌝ }
     ensures { λ r. ⌜ ((q p : Bits) (u : Trie) (ms : List Bits) (t : Trie) → At (now (bytes .entry)) (now (cursors .entry)) s q p u ms
         → Fills (now (w .entry)) b i e o into u t
-        → Written (now (w .entry)) (now (w .exit)) b o (r .end) (pourT into u t)
+        → TrieWritten (now (w .entry)) (now (w .exit)) b o (r .end) (pourT into u t)
         × Comes (now (bytes .entry)) (s .family) (now (cursors .exit)) (r .head) (lastOf q (below p u)) ms) ⌝ }
 {
     let head = s.head;

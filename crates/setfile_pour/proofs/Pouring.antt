@@ -21,7 +21,7 @@ use Rattle.setfile_format.proofs.RoundTrip.{readFile-is}
 use Rattle.setfile_format.proofs.Reading.{nodes-few}
 use Rattle.setfile_build.proofs.Filling.{file-size}
 use Rattle.trie_pour.specs.Pour.{pourT, cutT}
-use Rattle.trie_pour.specs.Parts.{standing, Written, Keeps}
+use Rattle.trie_pour.specs.Parts.{standing, TrieWritten, Keeps}
 use Rattle.trie_pour.proofs.Pour.{cut-size, cut-pour-size, pour-cut}
 use Rattle.trie_pour.proofs.Parts.{words}
 use Rattle.setfile_below.specs.declared.Below.{Below}
@@ -66,7 +66,7 @@ module _ {w : List ℕ} {b i e : ℕ} {d : List ℕ} {f : ℕ} {l : List Bits} {
 
 -- One pass behind the other.
 module _ {w : List ℕ} {b i e g : ℕ} {d : List ℕ} {f : ℕ} {x : Bool} {l : List Bits} {t : Trie} (p : Pours w b i e g d f x l t) {w₁ : List ℕ} {m : ℕ}
-    (k : Written w w₁ b i m (cutT x (trieOf l) t)) where
+    (k : TrieWritten w w₁ b i m (cutT x (trieOf l) t)) where
   abbrev rest : Trie
   rest = cutT x (trieOf l) t
 
@@ -114,7 +114,7 @@ module _ {w : List ℕ} {b i e g : ℕ} {d : List ℕ} {f : ℕ} {x : Bool} {l :
     }
 
     -- and then behind the place of the result
-    module _ {w₂ : List ℕ} {r : ℕ} (h : Written w₁ w₂ b a r rest) where
+    module _ {w₂ : List ℕ} {r : ℕ} (h : TrieWritten w₁ w₂ b a r rest) where
       long₂ : length w₂ ≡ length w
       long₂ = rw (h .wrote) (length-put w₁ (place b a) (enc rest)) ∙ long₁
 

@@ -5,7 +5,7 @@ ghost use Rattle.nets.specs.Bits.{Bits};
 ghost use Rattle.nets.specs.Tries.{Trie, size, trieOf};
 ghost use Rattle.nodes.specs.Words.{put, place, enc};
 ghost use Rattle.trie_pour.specs.Pour.{pourT, cutT};
-ghost use Rattle.trie_pour.specs.Parts.{Written};
+ghost use Rattle.trie_pour.specs.Parts.{TrieWritten};
 ghost use Rattle.setfile_pour.specs.Pouring.{Sources, Pours, Writes};
 use setfile_below::begin;
 use setfile_lanes::lanes::CURSORS;
@@ -37,7 +37,7 @@ pub fn poured_size(
 fn trim(w: &mut [u32], b: usize, i: usize, e: usize, bytes: &[u8], family: u8, into: bool) -> usize
     requires { ⌜ ((l : List Bits) × (t : Trie) × Sources (now w) b i e (now bytes) family l t) ⌝ }
     ensures { λ r. ⌜ ((l : List Bits) (t : Trie) → Sources (now (w .entry)) b i e (now (bytes .entry)) family l t
-        → Written (now (w .entry)) (now (w .exit)) b i r (cutT into (trieOf l) t)) ⌝ }
+        → TrieWritten (now (w .entry)) (now (w .exit)) b i r (cutT into (trieOf l) t)) ⌝ }
 {
     let mut cursors = [0u64; CURSORS];
     let s = begin(bytes, family, &mut cursors);

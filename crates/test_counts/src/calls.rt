@@ -125,6 +125,7 @@ fn lay(pool: &mut [u32], row: &[u8]) -> Answer {
     pool::layout(
         pool,
         family,
+        0,
         sets,
         taken(row, 3),
         &shares[0..n],

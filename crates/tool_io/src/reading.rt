@@ -66,7 +66,7 @@ pub fn read_lines(fd: i32, pool: &mut [u32], nodes: u32) -> Lines {
     let mut head = [0u8; HEAD];
     let n = io::read_full(fd, &mut head);
     let family = family(&head[..n]);
-    pool::layout(pool, family, 1, nodes, &[nodes], &[nodes], 0);
+    pool::layout(pool, family, 0, 1, nodes, &[nodes], &[nodes], 0);
     let input = add_lines(fd, pool, &head[..n]);
     Lines { family, input }
 }

@@ -16,7 +16,7 @@ use trie_emit::emitting::Emitted;
 use trie_spans::answering::above;
 use trie_spans::answering::answer_of;
 use trie_spans::answering::nodes_of;
-use trie_spans::answering::over;
+use trie_spans::answering::over_halves;
 use trie_spans::extents::end_from;
 use trie_spans::extents::kind;
 use trie_spans::spreading::alone;
@@ -104,7 +104,7 @@ fn combine(
     let k = steps::middle(q / 2, c, ec);
     let l = combine(w, b, op, a + 1, m, c + 1, k, o + 1, fuel - 1);
     let r = combine(w, b, op, m, ea, k, ec, o + 1 + l, fuel - 1);
-    over(w, b, op != 3, o, l, r)
+    over_halves(w, b, op != 3, o, l, r)
 }
 
 // Writes what the operation makes of the tries that the numbers a and c mean, from node o on: as trie_emit does, and faster.

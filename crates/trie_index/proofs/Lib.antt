@@ -1,4 +1,4 @@
--- Why the index is right: rows of numbers, the way of a walk through eight bits, and the loops over the 256 words.
+-- Why the index is right: rows of numbers, where the walks of the strings of at most eight bits stand, and the loops over their words.
 pub mod Fill
 pub mod Ways
 pub mod Words

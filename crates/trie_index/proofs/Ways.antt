@@ -1,154 +1,219 @@
--- The way of a walk through eight bits: what it has still to go decides its word; the eight bits of a byte. Assumes nothing.
+-- The words of the strings of at most eight bits, level by level: where the walk of a string stands decides its word, and those of the two strings with a bit
+-- more. Assumes nothing.
+--
+--   Under w b root s x       x is the word of the node where the walk with the word s stands, 0 where it stands at none
+--   onwardOf s x k           the walk's word after a bit more, with the child on the bit's side k nodes on
+--   Toward c l r k           k is the distance from a node to its child on the side c, of its children l and r
+--   At w b n i t             the trie t, which has a node, stands at node i of n
+--   Seen w b n root d r s u  the walk with the word s stands at the trie u, d bits down and r nodes behind the root
+--   Spot w b n root t j s    the same of the walk through t of the string with the key j; how it goes on is a matter of u alone
 use mathlib.Core.Bool.{Bool, true, false, cond}
-use mathlib.Core.List.{List, [], _∷_}
-use mathlib.Core.Path.{_≡_, refl, ap, sym, _∙_, subst}
-use Prim.Native.Nat.{ℕ, zero, suc, _+_, _-_, _*_, _/_, _%_, _≤_, _<_, _^_}
-use native.Mathlib.Nat.{add-zero, mul-assoc}
+use mathlib.Core.List.{List, [], _∷_, _++_, append-assoc, append-nil}
+use mathlib.Core.Path.{_≡_, refl, ap, sym, _∙_}
+use Prim.Native.Nat.{ℕ, suc, _+_, _*_, _/_, _%_, _≤_, _<_, _^_}
+use native.Mathlib.Nat.{add-zero, add-assoc, pow-suc}
+use native.Mathlib.Numerals.{add-one}
+use native.Mathlib.Decide.{decLt}
 use native.Mathlib.Omega.{arith}
 use lib.Dec.{eqb}
-use lib.ListN.{take}
-use lib.Pow.{shl-shr}
-use borrow.Author.Tests.{eq-eqb, ne-eqb}
-use Rattle.nets.specs.Bits.{Bits, bits}
-use Rattle.nets.specs.Networks.{value, bitsLeft}
+use lib.ListN.{length, length-append}
+use lib.Pow.{pow-mono}
+use borrow.Author.Tests.{eq-eqb, ne-eqb, eqb-true, eqb-false}
+use Rattle.nets.specs.Bits.{Bits, bits, digit, val}
 use Rattle.nets.specs.Tries.{Trie, none, node, size, bare, side}
-use Rattle.nets.specs.declared.PrefixBits.{PrefixBits}
-use Rattle.nets.proofs.Numbers.{take-bits}
-use Rattle.nodes.specs.Parse.{Stands}
+use Rattle.nets.proofs.Levels.{side-same}
+use Rattle.nets.proofs.Numbers.{length-bits, val-bits}
+use Rattle.nets.proofs.Order.{key, key-one}
 use Rattle.nodes.specs.Words.{Has, link0, link1, word, enc, place, wordAt}
 use Rattle.nodes.proofs.Has.{has-at}
-use Rattle.nodes.proofs.Tries.{some, size-node, word-first, word-second, word-leaf, Split, apart}
+use Rattle.nodes.proofs.Tries.{size-node, word-first, word-second, word-leaf, apart}
 use Rattle.trie_index.specs.Index.{nodeAt, absentAt, standing, Rooted}
 
--- a trie with a node stands at node i of n
-pub record At (w : List ℕ) (b n i : ℕ) (t : Trie) : Type 0 where
-  pub one : 1 ≤ i
-  pub within : i + size t ≤ suc n
-  pub has : Has w (place b i) (enc t)
-  pub node : t ≡ none → ⊥
+-- What a turn of the code reads and makes.
+abbrev pub Under : List ℕ → ℕ → ℕ → ℕ → ℕ → Type 0
+Under w b root s x = (s % 32 < 16 → x ≡ wordAt w b (root + s / 32)) × (16 ≤ s % 32 → x ≡ 0)
 
-at-in : {w : List ℕ} {b n i : ℕ} (t : Trie) → At w b n i t → i ≤ n
-unfolding size
-at-in none h = absurd (h .node refl)
-at-in (node l r) h = omega (arith, h .within)
+abbrev pub onwardOf : ℕ → ℕ → ℕ → ℕ
+onwardOf s x k = cond (eqb x 0) s (cond (eqb k 0) (17 + s % 32) (s + 32 * k + 1))
 
-pub at-stands : {w : List ℕ} {b n f i : ℕ} {t : Trie} → 1 ≤ i → Stands w b n f i t → (t ≡ none → ⊥) → At w b n i t
-at-stands one s ne = record { one = one; within = s .within; has = s .has; node = ne }
+-- A bit more behind a string: its number and its key.
+length-last : (p : Bits) (b : Bool) → length (p ++ (b ∷ [])) ≡ suc (length p)
+length-last p b = omega (arith, length-append p (b ∷ []))
 
--- The child on the side of a bit: by the distance to it, and where there is none.
+pub val-last : (p : Bits) (b : Bool) → val (p ++ (b ∷ [])) ≡ val p + val p + digit b
+val-last [] false = refl
+val-last [] true = refl
+val-last (false ∷ p) b = omega (arith, val-last p b)
+val-last (true ∷ p) b = omega (arith, val-last p b, pow-suc 2 (length p), ap (λ k. 2 ^ k) (length-last p b))
+
+key-last : (p : Bits) (b : Bool) → key (p ++ (b ∷ [])) ≡ 2 * key p + digit b
+key-last p b = omega (arith, val-last p b, pow-suc 2 (length p), ap (λ k. 2 ^ k) (length-last p b))
+
+-- The child on the side of a bit.
 abbrev step : Bool → Trie → ℕ
 step c l = side c 1 (1 + size l)
 
-toward-none : (c : Bool) (l r : Trie) → side c (word l r % 2) (word l r / 2) ≡ 0 → side c l r ≡ none
+step-some : (c : Bool) (l : Trie) → step c l ≡ 0 → ⊥
+step-some false l e = omega arith
+step-some true l e = omega arith
+
+data Toward (c : Bool) (l r : Trie) (k : ℕ) : Type 0 where
+  nothing : k ≡ 0 → side c l r ≡ none → Toward c l r k
+  child : (x y : Trie) → k ≡ step c l → side c l r ≡ node x y → Toward c l r k
+
+toward : (c : Bool) (l r : Trie) → Toward c l r (side c (word l r % 2) (word l r / 2))
 unfolding link0 link1
-toward-none false none r e = refl
-toward-none false (node x y) r e = absurd (omega (arith, word-first (node x y) r))
-toward-none true l none e = refl
-toward-none true l (node x y) e = absurd (omega (arith, word-second l (node x y)))
+toward false none r = nothing (word-first none r) refl
+toward false (node x y) r = child x y (word-first (node x y) r) refl
+toward true l none = nothing (word-second l none) refl
+toward true l (node x y) = child x y (word-second l (node x y)) refl
 
-toward-some : (c : Bool) (l r : Trie) → (side c (word l r % 2) (word l r / 2) ≡ 0 → ⊥) → (side c (word l r % 2) (word l r / 2) ≡ step c l) × (side c l r ≡ none → ⊥)
-unfolding link0 link1
-toward-some false none r ne = absurd (ne (word-first none r))
-toward-some false (node x y) r ne = (word-first (node x y) r, some x y)
-toward-some true l none ne = absurd (ne (word-second l none))
-toward-some true l (node x y) ne = (word-second l (node x y), some x y)
+record At (w : List ℕ) (b n i : ℕ) (t : Trie) : Type 0 where
+  one : 1 ≤ i
+  within : i + size t ≤ suc n
+  has : Has w (place b i) (enc t)
 
-module _ {w : List ℕ} {b n i : ℕ} {l r : Trie} (h : At w b n i (node l r)) where
-  split : Split w b i l r
-  split = apart l r (h .one) (h .has)
+at-child : {w : List ℕ} {b n i : ℕ} {l r : Trie} (c : Bool) → At w b n i (node l r) → At w b n (i + step c l) (side c l r)
+at-child {l} {r} false h = record { one = omega arith; within = omega (arith, size-node l r); has = apart l r (h .one) (h .has) .left }
+at-child {l} {r} true h = record { one = omega arith; within = omega (arith, size-node l r); has = has-at (omega arith) (apart l r (h .one) (h .has) .right) }
 
-  at-child : (c : Bool) → (side c l r ≡ none → ⊥) → At w b n (i + step c l) (side c l r)
-  at-child false ne = record { one = omega arith; within = omega (arith, h .within, size-node l r); has = split .left; node = ne }
-  at-child true ne = record { one = omega arith; within = omega (arith, h .within, size-node l r); has = has-at (omega arith) (split .right); node = ne }
-
--- The word of a walk.
-standing-none : (p : Bits) (d r : ℕ) → standing p d r none ≡ absentAt d
+-- A walk that has come to an absence or to a leaf stays, and at an inner node it goes on.
+standing-none : (c : Bool) (q : Bits) (d r : ℕ) → standing (c ∷ q) d r none ≡ standing q d r none
 unfolding standing
-standing-none [] d r = refl
-standing-none (b ∷ p) d r = refl
+standing-none c [] d r = refl
+standing-none c (b ∷ q) d r = refl
 
-standing-bare : (p : Bits) (d n : ℕ) (l r : Trie) → bare l r ≡ true → standing p d n (node l r) ≡ nodeAt d n
+standing-leaf : (c : Bool) (q : Bits) (d n : ℕ) (l r : Trie) → bare l r ≡ true → standing (c ∷ q) d n (node l r) ≡ standing q d n (node l r)
 unfolding standing
-standing-bare [] d n l r e = refl
-standing-bare (c ∷ p) d n l r e = rw e
-
-standing-end : (l r : Trie) (d n : ℕ) → standing [] d n (node l r) ≡ nodeAt d n
-unfolding standing
-standing-end l r d n = refl
+standing-leaf c [] d n l r e = rw e
+standing-leaf c (b ∷ q) d n l r e = rw e
 
 standing-on : (c : Bool) (p : Bits) (d n : ℕ) (l r : Trie) → bare l r ≡ false → standing (c ∷ p) d n (node l r) ≡ standing p (d + 1) (n + step c l) (side c l r)
 unfolding standing
 standing-on c p d n l r e = rw e
 
--- at a trie with a node: by its word x, by the bits, and by the distance on the side of the next bit
-module _ {w : List ℕ} {b n i : ℕ} (p : Bits) (d m : ℕ) where
-  word-leafs : (t : Trie) → At w b n i t → wordAt w b i ≡ 0 → standing p d m t ≡ nodeAt d m
-  word-leafs none h e = absurd (h .node refl)
-  word-leafs (node l r) h e = standing-bare p d m l r (sym (word-leaf l r) ∙ eq-eqb (word l r) 0 (sym (split h .root) ∙ e))
+data Seen (w : List ℕ) (b n root d r s : ℕ) : Trie → Type 0 where
+  absent : s ≡ absentAt d → Seen w b n root d r s none
+  there : (x y : Trie) → s ≡ nodeAt d r → At w b n (root + r) (node x y) → Seen w b n root d r s (node x y)
 
-  word-ends : (t : Trie) → At w b n i t → p ≡ [] → standing p d m t ≡ nodeAt d m
-  word-ends none h e = absurd (h .node refl)
-  word-ends (node l r) h e = rw e (standing-end l r d m)
+seen-word : {w : List ℕ} {b n root d r s : ℕ} {u : Trie} → Seen w b n root d r s u → s ≡ standing [] d r u
+unfolding standing
+seen-word (absent e) = e
+seen-word (there x y e a) = e
 
-  module _ (c : Bool) (q : Bits) (z : p ≡ c ∷ q) where
-    inner : (l r : Trie) → At w b n i (node l r) → (wordAt w b i ≡ 0 → ⊥) → standing p d m (node l r) ≡ standing q (d + 1) (m + step c l) (side c l r)
-    inner l r h ne = rw z (standing-on c q d m l r (sym (word-leaf l r) ∙ ne-eqb (word l r) 0 (λ e. ne (split h .root ∙ e))))
+seen-small : {w : List ℕ} {b n root d r s : ℕ} {u : Trie} → d < 8 → n ≤ 4194304 → Seen w b n root d r s u → s < 4294967295
+seen-small l few (absent e) = omega arith
+seen-small l few (there x y e a) = omega (arith, size-node x y)
 
-    word-absent : (t : Trie) → At w b n i t → (wordAt w b i ≡ 0 → ⊥) → side c (wordAt w b i % 2) (wordAt w b i / 2) ≡ 0 → standing p d m t ≡ absentAt (d + 1)
-    word-absent none h ne e = absurd (h .node refl)
-    word-absent (node l r) h ne e = inner l r h ne ∙ rw (toward-none c l r (rw (split h .root) at e)) (standing-none q (d + 1) (m + step c l))
+seen-in : {w : List ℕ} {b n root d r s : ℕ} {u : Trie} → d < 8 → s % 32 < 16 → Seen w b n root d r s u → (1 ≤ root + s / 32) × (root + s / 32 ≤ n)
+seen-in l lt (absent e) = absurd (omega arith)
+seen-in l lt (there x y e a) = omega (arith, size-node x y)
 
-    word-on : (t : Trie) (k : ℕ) → At w b n i t → (wordAt w b i ≡ 0 → ⊥) → k ≡ side c (wordAt w b i % 2) (wordAt w b i / 2) → (k ≡ 0 → ⊥)
-        → (x : Trie) × At w b n (i + k) x × (standing p d m t ≡ standing q (d + 1) (m + k) x)
-    word-on none k h ne o e = absurd (h .node refl)
-    word-on (node l r) k h ne o e =
-        let u : k ≡ side c (word l r % 2) (word l r / 2) = o ∙ ap (λ x. side c (x % 2) (x / 2)) (split h .root) in
-        let f = toward-some c l r (λ z. e (u ∙ z)) in
-        let g : k ≡ step c l = u ∙ f .0 in
-        (side c l r, subst (λ z. At w b n (i + z) (side c l r)) (sym g) (at-child h c (f .1)), inner l r h ne ∙ ap (λ z. standing q (d + 1) (m + z) (side c l r)) (sym g))
+seen-root : {w : List ℕ} {b n root : ℕ} (t : Trie) → Rooted w b n root t → Seen w b n root 0 0 (cond (eqb root 0) 16 0) t
+seen-root {w} {b} {n} {root} t h = go (eqb root 0) refl t h
+  where
+    go : (z : Bool) → eqb root 0 ≡ z → (t : Trie) → Rooted w b n root t → Seen w b n root 0 0 (cond z 16 0) t
+    go true e t h = rw (h .empty (eqb-true root 0 e)) (absent refl)
+    go false e none h = absurd (h .some (eqb-false root 0 e) .2 refl)
+    go false e (node x y) h =
+        let (f, s, ne) = h .some (eqb-false root 0 e) in
+        there x y refl (rw (add-zero root) (record { one = omega (arith, eqb-false root 0 e); within = s .within; has = s .has }))
 
--- A walk that set out at node first for the bits q has come to node i, d bits down, with the bits p still to go: whatever trie stands there, what is below node i decides.
-pub record Way (w : List ℕ) (b n first : ℕ) (q : Bits) (i d : ℕ) (p : Bits) : Type 0 where
-  pub from : first ≤ i
-  pub part : (t : Trie) → At w b n first t → (x : Trie) × At w b n i x × (standing p d (i - first) x ≡ standing q 0 0 t)
+pub record Spot (w : List ℕ) (b n root : ℕ) (t : Trie) (j s : ℕ) : Type 0 where
+  p : Bits
+  d : ℕ
+  r : ℕ
+  u : Trie
+  key-is : key p ≡ j
+  deep : 2 ^ d ≤ j
+  on : (q : Bits) → standing (p ++ q) 0 0 t ≡ standing q d r u
+  seen : Seen w b n root d r s u
 
-pub way-start : (w : List ℕ) (b n first d : ℕ) (q : Bits) → d ≡ 0 → Way w b n first q first d q
-way-start w b n first d q e = record { from = omega arith; part = λ t h. (t, h, let z : first - first ≡ 0 = omega arith in rw (z, e)) }
+-- Before the first bit, and after eight.
+pub spot-start : {w : List ℕ} {b n root : ℕ} {t : Trie} → Rooted w b n root t → Spot w b n root t 1 (cond (eqb root 0) 16 0)
+spot-start {t} h = record { p = []; d = 0; r = 0; u = t; key-is = refl; deep = omega arith; on = λ q. refl; seen = seen-root t h }
 
-module _ {w : List ℕ} {b n first : ℕ} {q : Bits} {i d : ℕ} {p : Bits} (h : Way w b n first q i d p) where
-  pub way-in : ((f : ℕ) × (t : Trie) × Stands w b n f first t × (t ≡ none → ⊥)) → 1 ≤ first → (1 ≤ i) × (i ≤ n)
-  way-in (f, t, s, ne) one = let (x, a, z) = h .part t (at-stands one s ne) in (a .one, at-in x a)
+pub spot-byte : {w : List ℕ} {b n root : ℕ} {t : Trie} {v s : ℕ} → v < 256 → Spot w b n root t (256 + v) s → s ≡ standing (bits 8 v) 0 0 t
+spot-byte {t} {v} lt h =
+    let e : key (h .p) ≡ key (bits 8 v) = omega (arith, h .key-is, ap (λ m. 2 ^ m) (length-bits 8 v), val-bits 8 v) in
+    seen-word (h .seen) ∙ sym (h .on []) ∙ rw (append-nil (h .p), key-one (h .p) (bits 8 v) e)
 
-  pub way-leaf : 1 ≤ first → wordAt w b i ≡ 0 → (f : ℕ) (t : Trie) → Stands w b n f first t → (t ≡ none → ⊥) → 32 * (i - first) + d ≡ standing q 0 0 t
-  way-leaf one e f t s ne = let (x, a, z) = h .part t (at-stands one s ne) in sym (word-leafs p d (i - first) x a e) ∙ z
+module _ {w : List ℕ} {b n root : ℕ} {t : Trie} {j s : ℕ} (h : Spot w b n root t j s) (low : j < 256) where
+  shallow : h .d < 8
+  shallow = go (decLt (h .d) 8)
+    where
+      go : Dec (h .d < 8) → h .d < 8
+      go (yes l) = l
+      go (no l) = absurd (omega (arith, h .deep, let g : 8 ≤ h .d = omega arith in pow-mono g))
 
-  pub way-end : 1 ≤ first → p ≡ [] → (f : ℕ) (t : Trie) → Stands w b n f first t → (t ≡ none → ⊥) → 32 * (i - first) + d ≡ standing q 0 0 t
-  way-end one e f t s ne = let (x, a, z) = h .part t (at-stands one s ne) in sym (word-ends p d (i - first) x a e) ∙ z
+  pub spot-in : s % 32 < 16 → (1 ≤ root + s / 32) × (root + s / 32 ≤ n)
+  spot-in lt = seen-in shallow lt (h .seen)
 
-  module _ (ne : wordAt w b i ≡ 0 → ⊥) (c : Bool) (later : Bits) (e : p ≡ c ∷ later) {m : ℕ} (o : m ≡ side c (wordAt w b i % 2) (wordAt w b i / 2)) where
-    pub way-absent : 1 ≤ first → m ≡ 0 → (f : ℕ) (t : Trie) → Stands w b n f first t → (t ≡ none → ⊥) → 17 + d ≡ standing q 0 0 t
-    way-absent one k f t s some =
-        let (x, a, z) = h .part t (at-stands one s some) in
-        let y : 17 + d ≡ absentAt (d + 1) = omega arith in
-        y ∙ sym (word-absent p d (i - first) c later e x a ne (sym o ∙ k)) ∙ z
+  -- A bit c more, by the word x of the node where the walk stands and the distance k on the side of c.
+  module _ {x : ℕ} (x-is : Under w b root s x) (c : Bool) {k : ℕ} (k-is : k ≡ side c (x % 2) (x / 2)) where
+    abbrev after : ℕ
+    after = onwardOf s x k
 
-    pub way-on : (deep : ℕ) → (m ≡ 0 → ⊥) → deep ≡ d + 1 → Way w b n first q (i + m) deep later
-    way-on deep k up = record {
-      from = omega (arith, h .from);
-      part = λ t g.
-          let (x, a, z) = h .part t g in
-          let (y, s, r) = word-on p d (i - first) c later e x m a ne o k in
-          let u : i + m - first ≡ i - first + m = omega (arith, h .from) in
-          (y, s, ap (λ j. standing later j (i + m - first) y) up ∙ ap (λ j. standing later (d + 1) j y) u ∙ sym r ∙ z);
+    -- what follows the bit c is a matter of v
+    abbrev Ahead : ℕ → ℕ → Trie → Type 0
+    Ahead d r v = (q : Bits) → standing (h .p ++ (c ∷ q)) 0 0 t ≡ standing q d r v
+
+    -- the sum that the code makes is small, and the string with c behind it has its word
+    abbrev Next : Type 0
+    Next = (n ≤ 4194304 → s + 32 * k < 4294967295) × Spot w b n root t (2 * j + digit c) after
+
+    spot : (d r : ℕ) (v : Trie) → 2 ^ d ≤ 2 * j → Ahead d r v → Seen w b n root d r after v → Spot w b n root t (2 * j + digit c) after
+    spot d r v deep on seen = record {
+      p = h .p ++ (c ∷ []);
+      d = d;
+      r = r;
+      u = v;
+      key-is = key-last (h .p) c ∙ ap (λ m. 2 * m + digit c) (h .key-is);
+      deep = omega arith;
+      on = λ q. ap (λ z. standing z 0 0 t) (append-assoc (h .p) (c ∷ []) q) ∙ on q;
+      seen = seen;
     }
 
--- Without a root every word is that of an absence at the root.
-pub rooted-none : {w : List ℕ} {b n r : ℕ} (q : Bits) → r ≡ 0 → (t : Trie) → Rooted w b n r t → 16 ≡ standing q 0 0 t
-rooted-none q e t h = rw (h .empty e) (sym (standing-none q 0 0))
+    stays : {u : Trie} → x ≡ 0 → Ahead (h .d) (h .r) u → Seen w b n root (h .d) (h .r) s u → Next
+    stays {u} z on seen =
+        let o : k ≡ 0 = k-is ∙ ap (λ y. side c (y % 2) (y / 2)) z ∙ side-same c 0 in
+        (λ few. omega (arith, seen-small shallow few seen), spot (h .d) (h .r) u (omega (arith, h .deep)) on (rw (eq-eqb x 0 z) seen))
 
--- The eight bits of a byte, from the highest of 128 on.
-pub byte-bits : (v : ℕ) → bitsLeft (record { hi = v * 72057594037927936; lo = 0; len = 8 }) ≡ bits 8 v
-unfolding bitsLeft
-byte-bits v =
-    let e : v * 72057594037927936 * 2 ^ 64 + 0 ≡ v * 2 ^ 120 = add-zero (v * 72057594037927936 * 2 ^ 64) ∙ mul-assoc v 72057594037927936 (2 ^ 64) in
-    rw e (take-bits 8 120 (v * 2 ^ 120) ∙ ap (bits 8) (shl-shr v 120))
+    module _ {l m : Trie} (e : s ≡ nodeAt (h .d) (h .r)) (a : At w b n (root + h .r) (node l m)) where
+      goes : (x ≡ 0 → ⊥) → Ahead (h .d + 1) (h .r + step c l) (side c l m) → Toward c l m k → Next
+      goes ne on = go
+        where
+          deeper : (v : Trie) → side c l m ≡ v → Seen w b n root (h .d + 1) (h .r + step c l) after v → Spot w b n root t (2 * j + digit c) after
+          deeper v z = spot (h .d + 1) (h .r + step c l) v (omega (arith, h .deep, pow-suc 2 (h .d), ap (λ i. 2 ^ i) (add-one (h .d)))) (λ q. rw z at (on q))
+
+          go : Toward c l m k → Next
+          go (nothing o z) = (
+            λ few. omega (arith, shallow, size-node l m),
+            deeper none z (rw (ne-eqb x 0 ne, eq-eqb k 0 o) (absent (omega (arith, shallow)))),
+          )
+          go (child f g o z) =
+              let y : At w b n (root + (h .r + step c l)) (node f g) = rw (← add-assoc root (h .r) (step c l), ← z) (at-child c a) in (
+                λ few. omega (arith, shallow, size-node f g),
+                deeper (node f g) z (rw (ne-eqb x 0 ne, ne-eqb k 0 (λ i. step-some c l (sym o ∙ i))) (there f g (omega (arith, shallow)) y)),
+              )
+
+      word-is : x ≡ word l m
+      word-is =
+          let i : s / 32 ≡ h .r = omega (arith, shallow) in
+          x-is .0 (omega (arith, shallow)) ∙ ap (λ y. wordAt w b (root + y)) i ∙ apart l m (a .one) (a .has) .root
+
+      next : ((q : Bits) → standing (h .p ++ q) 0 0 t ≡ standing q (h .d) (h .r) (node l m)) → Next
+      next on = go (bare l m) refl
+        where
+          go : (z : Bool) → bare l m ≡ z → Next
+          go true z = stays (word-is ∙ eqb-true (word l m) 0 (word-leaf l m ∙ z)) (λ q. on (c ∷ q) ∙ standing-leaf c q (h .d) (h .r) l m z) (there l m e a)
+          go false z =
+              goes (λ y. eqb-false (word l m) 0 (word-leaf l m ∙ z) (sym word-is ∙ y)) (λ q. on (c ∷ q) ∙ standing-on c q (h .d) (h .r) l m z)
+              (rw (k-is, word-is) (toward c l m))
+
+    pub spot-on : Next
+    spot-on = go (h .on) (h .seen)
+      where
+        go : {u : Trie} → ((q : Bits) → standing (h .p ++ q) 0 0 t ≡ standing q (h .d) (h .r) u) → Seen w b n root (h .d) (h .r) s u → Next
+        go on (absent e) = stays (x-is .1 (omega (arith, shallow))) (λ q. on (c ∷ q) ∙ standing-none c q (h .d) (h .r)) (absent e)
+        go on (there l m e a) = next e a on

@@ -1,19 +1,21 @@
 // The index of a trie by its first eight bits: where a walk stands after them. Its 256 words stand behind the nodes; numbers in it are relative to the trie's root.
-use nets::NextBit;
-use nets::PrefixBits;
 use nodes::reading::word_at;
 ghost use mathlib.Core.Path.{_≡_};
-ghost use Prim.Native.Nat.{ℕ, _+_, _/_, _%_, _≤_, _<_};
-ghost use lib.ListN.{length};
+ghost use mathlib.Core.Bool.{cond};
+ghost use Prim.Native.Nat.{ℕ, _+_, _*_, _/_, _%_, _≤_, _<_};
+ghost use lib.Dec.{eqb};
+ghost use lib.ListN.{length, getD};
 ghost use Rattle.nets.specs.Bits.{bits};
-ghost use Rattle.nets.specs.Networks.{bitsLeft};
-ghost use Rattle.nets.specs.Tries.{Trie, none, side};
-ghost use Rattle.nodes.specs.Parse.{Room, Stands};
-ghost use Rattle.nodes.specs.Words.{put};
+ghost use Rattle.nets.specs.Tries.{Trie, side};
+ghost use Rattle.nodes.specs.Parse.{Room};
+ghost use Rattle.nodes.specs.Words.{put, wordAt};
 ghost use Rattle.trie_index.specs.Index.{standing, indexT, isAt, Rooted};
 
 // The words of an index.
 pub const INDEX: usize = 256;
+
+// The keys of the strings of at most eight bits are below it.
+const KEYS: usize = 512;
 
 // The distance to the child on the side of the bit, by the word x of a node: 0 where it has none.
 pub fn turn(bit: bool, x: u32) -> u32
@@ -25,58 +27,59 @@ pub fn turn(bit: bool, x: u32) -> u32
     x % 2
 }
 
-// The eight bits of a byte.
-fn byte_bits(v: usize) -> PrefixBits
-    requires { ⌜ v < 256 ⌝ }
-    ensures { λ r. ⌜ (r .len ≡ 8) × (bitsLeft r ≡ bits 8 v) ⌝ }
-{
-    PrefixBits {
-        hi: (v as u64) * 72057594037927936,
-        lo: 0,
-        len: 8,
-    }
-}
-
-// Where a walk down from node `first` stands after these bits.
-fn stand(w: &[u32], b: usize, n: u32, first: u32, s: PrefixBits) -> u32
-    requires { ⌜ Room (now w) b n × (1 ≤ first) × (s .len ≤ 8) ⌝ }
-    requires { ⌜ ((f : ℕ) × (t : Trie) × Stands (now w) b n f first t × (t ≡ none → ⊥)) ⌝ }
-    ensures { λ r. ⌜ ((f : ℕ) (t : Trie) → Stands (now (w .entry)) b n f first t → (t ≡ none → ⊥) → r ≡ standing (bitsLeft s) 0 0 t) ⌝ }
-{
-    let mut i = first;
-    let mut left = s;
-    loop {
-        let d = (s.len - left.len) as u32;
-        let here = 32 * (i - first) + d;
-        let x = word_at(w, b, n, i);
-        if x == 0 {
-            return here;
-        }
-        let next = left.next();
-        match next {
-            NextBit::End => return here,
-            NextBit::Bit(bit, later) => {
-                let c = turn(bit, x);
-                if c == 0 {
-                    return 17 + d;
-                }
-                i += c;
-                left = later;
-            }
-        }
-    }
-}
-
-// The word of a byte in the index of the trie whose root has the number `root`.
-fn word_of(w: &[u32], b: usize, n: u32, root: u32, v: usize) -> u32
-    requires { ⌜ Room (now w) b n × (v < 256) ⌝ }
-    requires { ⌜ ((t : Trie) × Rooted (now w) b n root t) ⌝ }
-    ensures { λ r. ⌜ ((t : Trie) → Rooted (now (w .entry)) b n root t → r ≡ standing (bits 8 v) 0 0 t) ⌝ }
+// The word of a walk before its first bit.
+fn begin(root: u32) -> u32
+    ensures { λ r. ⌜ r ≡ cond (eqb root 0) 16 0 ⌝ }
 {
     if root == 0 {
         return 16;
     }
-    stand(w, b, n, root, byte_bits(v))
+    0
+}
+
+// The word of the node where a walk stands, by the word s of the walk: 0 where it stands at none.
+fn under(w: &[u32], b: usize, n: u32, root: u32, s: u32) -> u32
+    requires { ⌜ Room (now w) b n × (s % 32 < 16 → (1 ≤ root + s / 32) × (root + s / 32 ≤ n)) ⌝ }
+    ensures { λ r. ⌜ (s % 32 < 16 → r ≡ wordAt (now (w .entry)) b (root + s / 32)) × (16 ≤ s % 32 → r ≡ 0) ⌝ }
+{
+    if s % 32 < 16 {
+        return word_at(w, b, n, root + s / 32);
+    }
+    0
+}
+
+// The word of a walk after a bit more, by its word s before, the word x of the node where it stands, and the distance c to the child on the bit's side: at a
+// leaf and at an absence it stays.
+fn onward(s: u32, x: u32, c: u32) -> u32
+    requires { ⌜ s + 32 * c < 4294967295 ⌝ }
+    ensures { λ r. ⌜ r ≡ cond (eqb x 0) s (cond (eqb c 0) (17 + s % 32) (s + 32 * c + 1)) ⌝ }
+{
+    if x == 0 {
+        return s;
+    }
+    if c == 0 {
+        return 17 + s % 32;
+    }
+    s + 32 * c + 1
+}
+
+// The words of the strings of at most eight bits, in one pass over the levels. A string's word stands at its key, the number whose binary digits are a one and
+// then the string: those of the two strings with a bit more stand at twice that and at the next.
+fn top_words(w: &[u32], b: usize, n: u32, root: u32) -> [u32; KEYS]
+    requires { ⌜ Room (now w) b n × ((t : Trie) × Rooted (now w) b n root t) ⌝ }
+    ensures { λ r. ⌜ ((t : Trie) → Rooted (now (w .entry)) b n root t → (v : ℕ) → v < 256 → getD r (256 + v) 0 ≡ standing (bits 8 v) 0 0 t) ⌝ }
+{
+    let mut words = [0u32; KEYS];
+    words[1] = begin(root);
+    let mut k: usize = 1;
+    while k < INDEX {
+        let s = words[k];
+        let x = under(w, b, n, root, s);
+        words[2 * k] = onward(s, x, turn(false, x));
+        words[2 * k + 1] = onward(s, x, turn(true, x));
+        k += 1;
+    }
+    words
 }
 
 // The words from place p on are the index of the trie whose root has the number `root`.
@@ -85,9 +88,10 @@ pub fn is_index(w: &[u32], b: usize, n: u32, root: u32, p: usize) -> bool
     requires { ⌜ ((t : Trie) × Rooted (now w) b n root t) ⌝ }
     ensures { λ r. ⌜ ((t : Trie) → Rooted (now (w .entry)) b n root t → r ≡ isAt (now (w .entry)) p (indexT t)) ⌝ }
 {
+    let words = top_words(w, b, n, root);
     let mut v: usize = 0;
     while v < INDEX {
-        if w[p + v] != word_of(w, b, n, root, v) {
+        if w[p + v] != words[INDEX + v] {
             return false;
         }
         v += 1;
@@ -101,9 +105,10 @@ pub fn write_index(w: &mut [u32], b: usize, n: u32, root: u32, p: usize)
     requires { ⌜ ((t : Trie) × Rooted (now w) b n root t) ⌝ }
     ensures { λ _. ⌜ ((t : Trie) → Rooted (now (w .entry)) b n root t → now (w .exit) ≡ put (now (w .entry)) p (indexT t)) ⌝ }
 {
+    let words = top_words(w, b, n, root);
     let mut v: usize = 0;
     while v < INDEX {
-        w[p + v] = word_of(w, b, n, root, v);
+        w[p + v] = words[INDEX + v];
         v += 1;
     }
 }

@@ -1,6 +1,6 @@
 -- The part of what a number means inside a network: down, bit by bit; and that the number of the part tells whether the network is overlapped. Assumes
 -- nothing.
-use mathlib.Core.Bool.{Bool, true, false, not}
+use mathlib.Core.Bool.{Bool, true, false}
 use mathlib.Core.List.{List, [], _∷_}
 use mathlib.Core.Path.{_≡_, refl, ap, sym, _∙_}
 use Prim.Native.Nat.{ℕ, _≤_}
@@ -28,7 +28,7 @@ means-zero i t nothing = refl
 means-zero i t everything = refl
 means-zero i t (standing h) = ne-eqb i 0 (λ e. omega (arith, h .one))
 
-none-is : (t : Trie) → isNone t ≡ true → t ≡ none
+pub none-is : (t : Trie) → isNone t ≡ true → t ≡ none
 none-is none e = refl
 none-is (node l r) e = absurd (let z : _≡_ {A = ℕ} 0 1 = cc in omega arith)
 

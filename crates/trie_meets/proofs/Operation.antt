@@ -41,7 +41,32 @@ unfolding answer
 answer-full o none e = let z : _≡_ {A = ℕ} 0 1 = cc in absurd (omega arith)
 answer-full o (node l r) e = refl
 
--- One step of the operation.
+-- One step of the operation: where the kinds do not settle it, it leaves something where it does of one of the halves.
+abbrev pub halfLeaves : ℕ → ℕ → Trie → Trie → Bool → Bool
+halfLeaves op fuel t u d = not (isNone (opOn op (fuel - 1) (half d t) (half d u)))
+
+module _ (op fuel : ℕ) (t u : Trie) (turn : 1 ≤ fuel) (mixes : verdict (opOf op) (kindOf t) (kindOf u) ≡ mixed) where
+  step : not (isNone (opOn op fuel t u)) ≡ (halfLeaves op fuel t u false || halfLeaves op fuel t u true)
+  step = go fuel turn
+    where
+      either : (x y : Bool) → not (x && y) ≡ (not x || not y)
+      either true y = refl
+      either false y = refl
+
+      go : (k : ℕ) → 1 ≤ k → not (isNone (opOn op k t u)) ≡ (halfLeaves op k t u false || halfLeaves op k t u true)
+      go zero h = absurd (omega arith)
+      go (suc k) h =
+          let p : suc k - 1 ≡ k = omega arith in
+          let x = opHalf (joined op) (opOf op) k t u in
+          rw (p, opT-mixed (joined op) (opOf op) k t u mixes)
+          (ap not (isNone-glue (joined op) (x false) (x true)) ∙ either (isNone (x false)) (isNone (x true)))
+
+  pub step-first : (r : Bool) → r ≡ halfLeaves op fuel t u false → r ≡ true → true ≡ not (isNone (opOn op fuel t u))
+  step-first r e k = sym (step ∙ rw (← e, k))
+
+  pub step-second : (r x : Bool) → r ≡ halfLeaves op fuel t u false → r ≡ false → x ≡ halfLeaves op fuel t u true → x ≡ not (isNone (opOn op fuel t u))
+  step-second r x e k h = h ∙ sym (step ∙ rw (← e, k))
+
 module _ {w : List ℕ} {b a c fuel : ℕ} {t u : Trie} (s : Inputs w b a c 0 0 fuel t u) (op v : ℕ) (told : v ≡ rank (verdict (opOf op) (kindOf t) (kindOf u))) where
   pub leaves-none : v ≡ 0 → false ≡ not (isNone (opOn op fuel t u))
   leaves-none e = rw (answer-empty 0 (opOn op fuel t u) (op-none s op v told e .answers))
@@ -66,35 +91,23 @@ module _ {w : List ℕ} {b a c fuel : ℕ} {t u : Trie} (s : Inputs w b a c 0 0 
           few = omega (arith, s .few);
         }
 
-    abbrev part : Bool → Bool
-    part d = not (isNone (opOn op (fuel - 1) (half d t) (half d u)))
+    pub leaves-first : (r : Bool) → r ≡ halfLeaves op fuel t u false → r ≡ true → true ≡ not (isNone (opOn op fuel t u))
+    leaves-first = step-first op fuel t u (s .turn) mixes
 
-    step : not (isNone (opOn op fuel t u)) ≡ (part false || part true)
-    step = go fuel (s .turn)
-      where
-        either : (x y : Bool) → not (x && y) ≡ (not x || not y)
-        either true y = refl
-        either false y = refl
-
-        go : (k : ℕ) → 1 ≤ k → not (isNone (opOn op k t u)) ≡ (not (isNone (opOn op (k - 1) (half false t) (half false u))) || not (isNone (opOn op (k - 1) (half true t) (half true u))))
-        go zero h = absurd (omega arith)
-        go (suc k) h =
-            let p : suc k - 1 ≡ k = omega arith in
-            let x = opHalf (joined op) (opOf op) k t u in
-            rw (p, opT-mixed (joined op) (opOf op) k t u mixes) (ap not (isNone-glue (joined op) (x false) (x true)) ∙ either (isNone (x false)) (isNone (x true)))
-
-    pub leaves-first : (r : Bool) → r ≡ part false → r ≡ true → true ≡ not (isNone (opOn op fuel t u))
-    leaves-first r e k = sym (step ∙ rw (← e, k))
-
-    pub leaves-second : (r x : Bool) → r ≡ part false → r ≡ false → x ≡ part true → x ≡ not (isNone (opOn op fuel t u))
-    leaves-second r x e k h = h ∙ sym (step ∙ rw (← e, k))
+    pub leaves-second : (r x : Bool) → r ≡ halfLeaves op fuel t u false → r ≡ false → x ≡ halfLeaves op fuel t u true → x ≡ not (isNone (opOn op fuel t u))
+    leaves-second = step-second op fuel t u (s .turn) mixes
 
 -- The parts of the sources inside the network q.
-levels-down : (q : Bits) (t : Trie) (k : ℕ) → length q < k → levels t ≤ k → levels (down q t) ≤ k - length q
+pub levels-down : (q : Bits) (t : Trie) (k : ℕ) → length q < k → levels t ≤ k → levels (down q t) ≤ k - length q
 unfolding down
 levels-down [] t k h g = omega arith
 levels-down (b ∷ q) t zero h g = absurd (omega arith)
 levels-down (b ∷ q) t (suc k) h g = let i = levels-down q (half b t) k (omega arith) (levels-half b t k g (omega arith)) in omega arith
+
+-- what the operation leaves of them is the part of what it leaves
+pub meets-down : (op fuel : ℕ) (t u : Trie) (q : Bits) (n : ℕ) → n ≡ length q → n < fuel → (r : Bool)
+    → r ≡ not (isNone (opOn op (fuel - n) (down q t) (down q u))) → r ≡ overlapsOne (listOf (opOn op fuel t u)) q
+meets-down op fuel t u q n en h r e = e ∙ sym (overlapsOne-listOf (opOn op fuel t u) q ∙ rw (down-op (opOf op) (joined op) q fuel t u (omega arith), en))
 
 module _ {w : List ℕ} {b a c fuel : ℕ} {t u : Trie} (s : Inputs w b a c 0 0 fuel t u) (q : Bits) (n : ℕ) (en : n ≡ length q) (h : n < fuel) where
   pub down-inputs : (x y : ℕ) → Means w b 0 0 x (down q t) → Means w b 0 0 y (down q u) → Inputs w b x y 0 0 (fuel - n) (down q t) (down q u)
@@ -106,10 +119,6 @@ module _ {w : List ℕ} {b a c fuel : ℕ} {t u : Trie} (s : Inputs w b a c 0 0 
     turn = omega arith;
     few = omega (arith, s .few);
   }
-
-  pub meets-down : (op : ℕ) (r : Bool) → r ≡ not (isNone (opOn op (fuel - n) (down q t) (down q u))) → r ≡ overlapsOne (listOf (opOn op fuel t u)) q
-  meets-down op r e =
-      e ∙ sym (overlapsOne-listOf (opOn op fuel t u) q ∙ rw (down-op (opOf op) (joined op) q fuel t u (omega arith), en))
 
 -- The inner networks are no longer than the width.
 within-at : (w : ℕ) (l : List Bits) (i : ℕ) → within w l ≡ true → length (getD l i []) ≤ w

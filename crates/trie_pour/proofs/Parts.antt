@@ -19,7 +19,7 @@ use Rattle.nodes.proofs.Views.{view-none, view-leaf, view-inner}
 use Rattle.trie_emit.proofs.Answers.{by-glue}
 use Rattle.trie_pour.specs.declared.Turn.the-variants.{Settled, Halves}
 use Rattle.trie_pour.specs.Pour.{flatT, isAll, isFlat}
-use Rattle.trie_pour.specs.Parts.{Part, whole, standing, Split, Says, Into, Written, Room, Keeps, Closing}
+use Rattle.trie_pour.specs.Parts.{Part, whole, standing, Split, Says, Into, TrieWritten, Room, Keeps, Closing}
 
 -- A trie by itself, without what stands behind it.
 pub narrow : {w : List ℕ} {b i e u : ℕ} {t : Trie} {rest : List ℕ} → Segment w b i e u t rest → Segment w b i e e t []
@@ -122,11 +122,11 @@ module _ (i : ℕ) (t : Trie) where
   into-inner m v = let k = view-inner i m t v in record { flat = λ e. absurd (omega (arith, k .middle)); inner = λ n. (refl, k) }
 
 -- Writing.
-pub flat-full : {w v : List ℕ} {b o : ℕ} → v ≡ put w (place b o) (0 ∷ []) → Written w v b o (o + 1) leaf
+pub flat-full : {w v : List ℕ} {b o : ℕ} → v ≡ put w (place b o) (0 ∷ []) → TrieWritten w v b o (o + 1) leaf
 unfolding size
 flat-full e = record { wrote = rw enc-leaf e; end = omega arith }
 
-pub flat-none : (w : List ℕ) (b o : ℕ) → Written w w b o o none
+pub flat-none : (w : List ℕ) (b o : ℕ) → TrieWritten w w b o o none
 unfolding enc size
 flat-none w b o = record { wrote = sym (put-nil w (place b o)); end = omega arith }
 
@@ -139,17 +139,17 @@ module _ {w : List ℕ} {b i e o : ℕ} {t : Trie} (k : Keeps w b i e o t) where
   pub keep-room : i ≡ 0 → Room w b o (size leaf)
   keep-room n = rw (part-whole t (k .part) n .0) at (k .room)
 
-  pub keep-whole : i ≡ 0 → {v : List ℕ} {r : ℕ} → Written w v b o r leaf → Written w v b o r t
+  pub keep-whole : i ≡ 0 → {v : List ℕ} {r : ℕ} → TrieWritten w v b o r leaf → TrieWritten w v b o r t
   keep-whole n h = rw (part-whole t (k .part) n .0) h
 
   module _ (n : i ≡ 0 → ⊥) where
     abbrev stands : Segment w b i e e t []
     stands = part-stands t (k .part) n
 
-    pub keep-none : i ≡ e → Written w w b o o t
+    pub keep-none : i ≡ e → TrieWritten w w b o o t
     keep-none q = rw (none-is t (omega (arith, stands .end))) (flat-none w b o)
 
-    pub keep-same : i ≡ o → Written w w b o e t
+    pub keep-same : i ≡ o → TrieWritten w w b o e t
     keep-same q = record { wrote = rw (← q) (sym (has-same (words stands))); end = rw (← q) (stands .end) }
 
     pub keep-fits : (i ≡ e → ⊥) → (1 ≤ i) × (i ≤ e) × (e < 1073741824) × (place b i + (e - i) ≤ length w) × (1 ≤ o) × (place b o + (e - i) ≤ length w) × (o + (e - i) < 1073741824) × (b < 1073741824)
@@ -162,7 +162,7 @@ module _ {w : List ℕ} {b i e o : ℕ} {t : Trie} (k : Keeps w b i e o t) where
         let i1 = g .one in
         (i1, omega arith, g .few, omega (arith, length-enc t), o1, omega arith, omega arith, g .low)
 
-    pub keep-moved : {v : List ℕ} → v ≡ put w (b + (o - 1)) (take (e - i) (drop (b + (i - 1)) w)) → Written w v b o (o + (e - i)) t
+    pub keep-moved : {v : List ℕ} → v ≡ put w (b + (o - 1)) (take (e - i) (drop (b + (i - 1)) w)) → TrieWritten w v b o (o + (e - i)) t
     keep-moved h =
         let g = stands in
         let s : e - i ≡ length (enc t) = omega (arith, g .end, length-enc t) in
@@ -174,7 +174,7 @@ unfolding size
 glue-node = by-glue (λ l r t. (size l + size r ≡ 0 → ⊥) → t ≡ node l r) false (λ n. absurd (n refl)) (λ h n. absurd (false≢true h)) (λ l r e n. refl)
 
 module _ {v w : List ℕ} {b o m e : ℕ} {l r : Trie} (k : Closing v w b o m e l r) where
-  pub close-none : e ≡ o + 1 → Written v w b o o (glue false l r)
+  pub close-none : e ≡ o + 1 → TrieWritten v w b o o (glue false l r)
   unfolding enc
   close-none q =
       let a = none-is l (omega (arith, k .middle, k .end)) in
@@ -195,7 +195,7 @@ module _ {v w : List ℕ} {b o m e : ℕ} {l r : Trie} (k : Closing v w b o m e 
         let s = whole-size in
         (one, (omega (arith, k .middle), (omega (arith, k .middle), omega arith)))
 
-    pub close-node : {u : List ℕ} → u ≡ put w (place b o) (linked o m e ∷ []) → Written v u b o e (glue false l r)
+    pub close-node : {u : List ℕ} → u ≡ put w (place b o) (linked o m e ∷ []) → TrieWritten v u b o e (glue false l r)
     unfolding enc
     close-node h =
         let one = k .room .one in

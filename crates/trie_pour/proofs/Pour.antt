@@ -150,11 +150,11 @@ cut-leaf false s h = go (isNone (pourT false s leaf)) refl
     go true e = pour-none s ∙ sym (nothing (pourT false s leaf) e)
     go false e = refl
 
-cut-all : (x : Bool) (s t : Trie) → isNone s ≡ false → isFlat t ≡ true → pourT x s (shadow t (pourT x s t)) ≡ pourT x s t
+pub cut-all : (x : Bool) (s t : Trie) → isNone s ≡ false → isFlat t ≡ true → pourT x s (shadow t (pourT x s t)) ≡ pourT x s t
 cut-all x s t h = by-kind (λ t. isFlat t ≡ true → pourT x s (shadow t (pourT x s t)) ≡ pourT x s t) (λ e. refl) (λ e. cut-leaf x s h) (λ l r e f. absurd (false≢true (sym e ∙ f))) t
 
 -- with what is left of the halves
-cut-glue : (x : Bool) (l r c d : Trie) → bare l r ≡ false → pourT x (node l r) (glue false c d) ≡ glue false (pourT x l c) (pourT x r d)
+pub cut-glue : (x : Bool) (l r c d : Trie) → bare l r ≡ false → pourT x (node l r) (glue false c d) ≡ glue false (pourT x l c) (pourT x r d)
 cut-glue x l r c d h = by-glue (λ c d t. pourT x (node l r) t ≡ glue false (pourT x l c) (pourT x r d)) false (nothing x) (λ e. absurd (false≢true e))
     (λ c d e. pour-halves x l r (node c d) h (all x c d e) ∙ rw e) c d
   where

@@ -1,9 +1,9 @@
 -- A trie that is gone through, and what is written of another.
 --
---   Part w b i e t          the numbers i and e mean the trie t: it stands from node i up to node e, or it is full and both are 0
---   Says w b i e x y t r    r is what is found of t, where networks come into it (x) or go out of it, and the path itself is one of them (y)
---   Written w v b o e t     v is w with t written from node o on, up to node e
---   Keeps, Closing          what moving a part, and the node over two halves that are written, ask
+--   Part w b i e t           the numbers i and e mean the trie t: it stands from node i up to node e, or it is full and both are 0
+--   Says w b i e x y t r     r is what is found of t, where networks come into it (x) or go out of it, and the path itself is one of them (y)
+--   TrieWritten w v b o e t  v is w with t written from node o on, up to node e
+--   Keeps, Closing           what moving a part, and the node over two halves that are written, ask
 use mathlib.Core.Path.{_≡_}
 use mathlib.Core.Bool.{Bool, true, false, _||_}
 use mathlib.Core.List.{List, []}
@@ -37,7 +37,7 @@ pub record Into (i : ℕ) (y : Bool) (t : Trie) (r : ℕ) : Type 0 where
   pub flat : r ≡ 0 → (y || isFlat t) ≡ true
   pub inner : (r ≡ 0 → ⊥) → (y ≡ false) × Branch i r t
 
-pub record Written (w v : List ℕ) (b o e : ℕ) (t : Trie) : Type 0 where
+pub record TrieWritten (w v : List ℕ) (b o e : ℕ) (t : Trie) : Type 0 where
   pub wrote : v ≡ put w (place b o) (enc t)
   pub end : e ≡ o + size t
 

@@ -7,7 +7,7 @@ ghost use Prim.Native.Nat.{ℕ, _+_, _<_};
 ghost use Rattle.nets.specs.Tries.{Trie, size, glue};
 ghost use Rattle.nodes.specs.Segments.{Segment};
 ghost use Rattle.trie_pour.specs.Pour.{flatT};
-ghost use Rattle.trie_pour.specs.Parts.{Part, Says, Into, Written, Room, Keeps, Closing};
+ghost use Rattle.trie_pour.specs.Parts.{Part, Says, Into, TrieWritten, Room, Keeps, Closing};
 use nodes::steps;
 use nodes::steps::View;
 use nodes::writing;
@@ -88,7 +88,7 @@ pub fn flat_size(full: bool) -> usize
 }
 
 // The nodes over n nodes of two halves: none where they are empty.
-pub fn over(n: usize) -> usize
+pub fn glued_size(n: usize) -> usize
     requires { ⌜ n < 9223372036854775808 ⌝ }
     ensures { λ x. ⌜ ((l r : Trie) → n ≡ size l + size r → x ≡ size (glue false l r)) ⌝ }
 {
@@ -101,7 +101,7 @@ pub fn over(n: usize) -> usize
 // Writes a full trie at node o, or nothing; answers where it ends.
 pub fn flat(w: &mut [u32], b: usize, o: usize, full: bool) -> usize
     requires { ⌜ Room (now w) b o (size (flatT full)) ⌝ }
-    ensures { λ r. ⌜ Written (now (w .entry)) (now (w .exit)) b o r (flatT full) ⌝ }
+    ensures { λ r. ⌜ TrieWritten (now (w .entry)) (now (w .exit)) b o r (flatT full) ⌝ }
 {
     if full {
         writing::store(w, b, o, 0);
@@ -113,7 +113,7 @@ pub fn flat(w: &mut [u32], b: usize, o: usize, full: bool) -> usize
 // Moves the trie from node i up to node e to node o; answers where it ends there.
 pub fn keep(w: &mut [u32], b: usize, i: usize, e: usize, o: usize) -> usize
     requires { ⌜ ((t : Trie) × Keeps (now w) b i e o t) ⌝ }
-    ensures { λ r. ⌜ ((t : Trie) → Keeps (now (w .entry)) b i e o t → Written (now (w .entry)) (now (w .exit)) b o r t) ⌝ }
+    ensures { λ r. ⌜ ((t : Trie) → Keeps (now (w .entry)) b i e o t → TrieWritten (now (w .entry)) (now (w .exit)) b o r t) ⌝ }
 {
     if i == 0 {
         return flat(w, b, o, true);
@@ -131,7 +131,7 @@ pub fn keep(w: &mut [u32], b: usize, i: usize, e: usize, o: usize) -> usize
 // Writes node o over its halves, of which the first ends at m and the second at e; nothing where both are empty. Answers where it ends.
 pub fn close(w: &mut [u32], b: usize, o: usize, m: usize, e: usize) -> usize
     requires { ⌜ ((v : List ℕ) × (l : Trie) × (r : Trie) × Closing v (now w) b o m e l r) ⌝ }
-    ensures { λ x. ⌜ ((v : List ℕ) (l r : Trie) → Closing v (now (w .entry)) b o m e l r → Written v (now (w .exit)) b o x (glue false l r)) ⌝ }
+    ensures { λ x. ⌜ ((v : List ℕ) (l r : Trie) → Closing v (now (w .entry)) b o m e l r → TrieWritten v (now (w .exit)) b o x (glue false l r)) ⌝ }
 {
     if e == o + 1 {
         return o;

@@ -45,7 +45,7 @@ fn put_address(rows: &mut [u64], m: usize, hi: u64, lo: u64)
 }
 
 // Takes the next member: the open range now ends with it, or it opens the next one.
-fn take(at: Open, x: Net, rows: &mut [u64]) -> Open
+pub fn take(at: Open, x: Net, rows: &mut [u64]) -> Open
     requires { ⌜ (at .n < 1073741824) × (goesOn at (value (x .hi) (x .lo)) ≡ true → 1 ≤ at .n) ⌝ }
     requires { ⌜ ((f : ℕ) × (p : Bits) × (x ≡ netFrom f p) × (length p ≤ width f)) ⌝ }
     ensures { λ r. ⌜ ((f : ℕ) (p : Bits) → x ≡ netFrom f p → length p ≤ width f → Takes f p at (now (rows .entry)) r (now (rows .exit))) ⌝ }

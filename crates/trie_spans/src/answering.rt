@@ -79,7 +79,7 @@ pub fn above_nodes(n: usize) -> usize
 }
 
 // Writes node o over its halves, of l and of r nodes.
-pub fn over(w: &mut [u32], b: usize, joined: bool, o: usize, l: usize, r: usize) -> usize
+pub fn over_halves(w: &mut [u32], b: usize, joined: bool, o: usize, l: usize, r: usize) -> usize
     requires { ⌜ ((v : List ℕ) × (t : Trie) × (u : Trie) × Halves v (now w) b joined o l r t u) ⌝ }
     ensures { λ n. ⌜ ((v : List ℕ) (t u : Trie) → Halves v (now (w .entry)) b joined o l r t u → Writes v (now (w .exit)) b o n (glue joined t u)) ⌝ }
 {

@@ -5,7 +5,7 @@ ghost use Rattle.trie_blocks.specs.Joins.{Apart};
 ghost use Rattle.trie_emit.specs.Combine.{joined, opOn, Gap};
 ghost use Rattle.trie_spans.specs.Extents.{Extents, Writes, tidy};
 use crate::answering::block;
-use crate::answering::over;
+use crate::answering::over_halves;
 use crate::extents::kind;
 use nodes::steps;
 use trie_blocks::joining::join_from;
@@ -29,7 +29,7 @@ fn spread(w: &mut [u32], b: usize, i: usize, e: usize, o: usize, next: usize, fu
     let l = spread(w, b, i + 1, m, o + 1, next, fuel - 1);
     let p = join_from(w, b, m, e, next);
     let r = spread(w, b, m, e, o + 1 + l, p, fuel - 1);
-    over(w, b, true, o, l, r)
+    over_halves(w, b, true, o, l, r)
 }
 
 // Writes the trie from node i up to node e from node o on, its halves joined but for operation 3.

@@ -8,6 +8,7 @@ use lib.ListN.{length}
 use Rattle.nets.specs.Bits.{Bits}
 use Rattle.nets.specs.Tries.{Trie, none, size, levels, listOf}
 use Rattle.nodes.specs.Words.{enc}
+use Rattle.nets.specs.Lists as lists
 use Rattle.nets.specs.Lists.{member, keep, past, isPast, Found, found, missing, nextL}
 use Rattle.nets.specs.Networks.{isFamily, width, netFrom, refusalOf, startOf, noBits, prefixAs}
 use Rattle.nets.specs.Refusals.{answered}
@@ -45,7 +46,7 @@ module _ (s : Spot) (right : Right s) (b : s .begun ≡ true) (p : Prefix) (g : 
   pub place-never : {X : Type 0} (r : Refusal) → p ≡ prefix.Refused r → X
   place-never r e = absurd (number-some r (sym (prefix-refused (s .net) p r g e) ∙ right b))
 
--- The returns of `go_on`, in the same seat.
+-- The returns of `arrive`, and of `go_on`, in the same seat.
 pub seat-gone : (l : List Bits) (s : Spot) → goneOn l s .seat ≡ s .seat
 unfolding goneOn
 seat-gone l s = go (nextL l (placeIn s))
@@ -54,22 +55,19 @@ seat-gone l s = go (nextL l (placeIn s))
     go (found p) = refl
     go missing = refl
 
-module _ (l : List Bits) (s : Spot) (p : Place) (q : placeOf p ≡ placeIn s) (x : Next) (e : x ≡ nextAs (s .seat .family) (nextL l (placeOf p))) where
-  pub gone-network : (n : Net) → x ≡ Network n → record { seat = s .seat; begun = true; more = true; net = n } ≡ goneOn l s
-  unfolding goneOn
-  gone-network n h = rw (← q) (go (nextL l (placeOf p)) (sym e ∙ h))
-    where
-      go : (y : Found) → nextAs (s .seat .family) y ≡ Network n → record { seat = s .seat; begun = true; more = true; net = n } ≡ landed s y
-      go (found z) k = let m : netFrom (s .seat .family) z ≡ n = cc in rw m
-      go missing k = let z : _≡_ {A = ℕ} 0 1 = cc in absurd (omega arith)
+module _ (s : Spot) (x : Next) where
+  pub arrive-network : (n : Net) → x ≡ Network n → (y : Found) → x ≡ nextAs (s .seat .family) y → record { seat = s .seat; begun = true; more = true; net = n } ≡ landed s y
+  arrive-network n h (found z) e = let m : netFrom (s .seat .family) z ≡ n = cc in rw m
+  arrive-network n h missing e = let z : _≡_ {A = ℕ} 0 1 = cc in absurd (omega arith)
 
-  pub gone-end : x ≡ End → record { seat = s .seat; begun = s .begun; more = false; net = s .net } ≡ goneOn l s
-  unfolding goneOn
-  gone-end h = rw (← q) (go (nextL l (placeOf p)) (sym e ∙ h))
-    where
-      go : (y : Found) → nextAs (s .seat .family) y ≡ End → record { seat = s .seat; begun = s .begun; more = false; net = s .net } ≡ landed s y
-      go (found z) k = let z : _≡_ {A = ℕ} 0 1 = cc in absurd (omega arith)
-      go missing k = refl
+  pub arrive-end : x ≡ End → (y : Found) → x ≡ nextAs (s .seat .family) y → record { seat = s .seat; begun = s .begun; more = false; net = s .net } ≡ landed s y
+  arrive-end h (found z) e = let z : _≡_ {A = ℕ} 0 1 = cc in absurd (omega arith)
+  arrive-end h missing e = refl
+
+pub gone-on : (l : List Bits) (s r : Spot) (x : Next) (p : lists.Place) → p ≡ placeIn s → x ≡ nextAs (s .seat .family) (nextL l p)
+    → ((y : Found) → x ≡ nextAs (s .seat .family) y → r ≡ landed s y) → r ≡ goneOn l s
+unfolding goneOn
+gone-on l s r x p q e h = rw (← q) (h (nextL l p) e)
 
 -- Nothing stands nowhere.
 pub stands-nowhere : (w : List ℕ) → StandsIn w nowhere none

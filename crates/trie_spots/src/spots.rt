@@ -1,9 +1,10 @@
 // How far one has come who goes through a set.
 ghost use mathlib.Core.Path.{_≡_};
 ghost use Prim.Native.Nat.{_≤_};
+ghost use Rattle.nets.specs.Lists.{Found};
 ghost use Rattle.nets.specs.Tries.{Trie, listOf};
-ghost use Rattle.trie_next.specs.Following.{placeOf, lenOf};
-ghost use Rattle.trie_spots.specs.Spots.{nowhere, beforeAll, placeIn, Right, StandsIn, goneOn, Goes};
+ghost use Rattle.trie_next.specs.Following.{placeOf, lenOf, nextAs};
+ghost use Rattle.trie_spots.specs.Spots.{nowhere, beforeAll, placeIn, Right, StandsIn, landed, goneOn, Goes};
 use nets::IPV4;
 use nets::Net;
 use nets::Prefix;
@@ -65,15 +66,12 @@ fn place_in(s: Spot) -> Place
     }
 }
 
-// At the next network, or behind the last.
-pub fn go_on(pool: &[u32], s: Spot) -> Spot
-    requires { ⌜ Goes (now pool) s ⌝ }
-    ensures { λ r. ⌜ ((t : Trie) → StandsIn (now (pool .entry)) (s .seat) t → r ≡ goneOn (listOf t) s) ⌝ }
+// At the network that was found behind the spot, or behind the last.
+pub fn arrive(s: Spot, x: Next) -> Spot
+    ensures { λ r. ⌜ ((y : Found) → x ≡ nextAs (s .seat .family) y → r ≡ landed s y) ⌝ }
 {
     let seat = s.seat;
     let last = s.net;
-    let place = place_in(s);
-    let x = next_after(pool, seat.base, seat.first, seat.end, seat.family, place);
     match x {
         Next::Network(net) => Spot {
             seat,
@@ -88,4 +86,15 @@ pub fn go_on(pool: &[u32], s: Spot) -> Spot
             net: last,
         },
     }
+}
+
+// At the next network, or behind the last.
+pub fn go_on(pool: &[u32], s: Spot) -> Spot
+    requires { ⌜ Goes (now pool) s ⌝ }
+    ensures { λ r. ⌜ ((t : Trie) → StandsIn (now (pool .entry)) (s .seat) t → r ≡ goneOn (listOf t) s) ⌝ }
+{
+    let seat = s.seat;
+    let place = place_in(s);
+    let x = next_after(pool, seat.base, seat.first, seat.end, seat.family, place);
+    arrive(s, x)
 }

@@ -19,12 +19,13 @@ use Rattle.pool_state.proofs.Decoded.{decode-state}
 use Rattle.pool_state.proofs.OnTries.{trieAt}
 use Rattle.pool_state.specs.Steps.{Refuses}
 use Rattle.nodes.specs.declared.seats.Seat.{Seat}
-use Rattle.trie_paths.proofs.Reading.{spans-small}
-use Rattle.trie_paths.proofs.Counting.{listOf-size}
+use Rattle.listing.specs.Seated.{HeldIn, GoesIn}
+use Rattle.listing.proofs.ByForm.{held-deep, held-few, held-nowhere}
 use Rattle.listing.proofs.Seats.{Sits, sits-at}
-use Rattle.trie_spots.specs.Spots.{nowhere, beforeAll, goneOn, Right, StandsIn, Goes}
+use Rattle.kept_spots.proofs.Onward.{right-gone}
+use Rattle.trie_spots.specs.Spots.{nowhere, beforeAll, goneOn}
 use Rattle.trie_spots.specs.declared.spots.Spot.{Spot}
-use Rattle.trie_spots.proofs.Onward.{stands-nowhere, seat-gone, Lists, lists-trie, ahead, ahead-all, gone-more, gone-last, right-gone}
+use Rattle.trie_spots.proofs.Onward.{seat-gone, Lists, lists-trie, ahead, ahead-all, gone-more, gone-last}
 use Rattle.walk.specs.Walks.{walkNo, listIn, seatIn, beginIn, walkStart, walkOn, Walking, pass, through}
 use Rattle.walk.specs.declared.walking.Walk.{Walk}
 
@@ -41,7 +42,7 @@ begins-at {k = k} {S = S} h = rw (h .decoded, lt-leb (length (S .sets)) k (h .kn
 -- What stands in the seat of a set: the trie of its list.
 pub record Held (w : List ℕ) (k : ℕ) : Type 0 where
   pub trie : Trie
-  pub stands : StandsIn w (seatIn (decode w) k) trie
+  pub holds : HeldIn w (seatIn (decode w) k) trie
   pub list : listOf trie ≡ listIn (decode w) k
   pub family : isFamily (seatIn (decode w) k .family) ≡ true
 
@@ -50,12 +51,12 @@ unfolding listOf levels seatIn listIn
 holds w k = go (decode w) refl
   where
     nothing : seatIn (decode w) k ≡ nowhere → listIn (decode w) k ≡ [] → Held w k
-    nothing e f = record { trie = none; stands = rw e (stands-nowhere w); list = sym f; family = rw e }
+    nothing e f = record { trie = none; holds = rw e (held-nowhere w); list = sym f; family = rw e }
 
     by : (S : State) → decode w ≡ sound S → (b : Bool) → leb (length (S .sets)) k ≡ b → Held w k
     by S d false e =
         let h = sits-at w S k d (leb-false (length (S .sets)) k e) in
-        record { trie = trieAt S k; stands = rw (d, e) (h .holds); list = rw (d, e) (h .list); family = rw (d, e) (isState-family S (decode-state w S d)) }
+        record { trie = trieAt S k; holds = rw (d, e) (h .holds); list = rw (d, e) (h .list); family = rw (d, e) (isState-family S (decode-state w S d)) }
     by S d true e = nothing (rw (d, e)) (rw (d, e))
 
     go : (x : Decoded) → decode w ≡ x → Held w k
@@ -63,12 +64,12 @@ holds w k = go (decode w) refl
     go (sound S) d = by S d (leb (length (S .sets)) k) refl
 
 pub lists : (w : List ℕ) (k : ℕ) → Lists (seatIn (decode w) k .family) (listIn (decode w) k)
-lists w k = let h = holds w k in rw (h .list) at (lists-trie (seatIn (decode w) k .family) (h .trie) (h .stands .deep) (h .family))
+lists w k = let h = holds w k in rw (h .list) at (lists-trie (seatIn (decode w) k .family) (h .trie) (held-deep (h .holds)) (h .family))
 
 pub list-small : (w : List ℕ) (k : ℕ) → length (listIn (decode w) k) < 1073741824
 list-small w k =
     let h = holds w k in
-    omega (arith, ap length (h .list), listOf-size (h .trie), h .stands .stands .is .end, spans-small (h .stands .stands))
+    omega (arith, ap length (h .list), held-few (h .holds))
 
 -- A walk that was made can take a step, and then another.
 abbrev pub words : Walk → List ℕ
@@ -79,17 +80,17 @@ listOn w = listIn (decode (words w)) (w .set)
 
 -- what `go_on` says of the spot r that it goes on to
 abbrev pub Told : Walk → Spot → Type 0
-Told w r = (t : Trie) → StandsIn (words w) (w .spot .seat) t → r ≡ goneOn (listOf t) (w .spot)
+Told w r = (t : Trie) → HeldIn (words w) (w .spot .seat) t → r ≡ goneOn (listOf t) (w .spot)
 
 module _ (w : Walk) (h : Walking w) where
-  stands : StandsIn (words w) (w .spot .seat) (holds (words w) (w .set) .trie)
-  stands = rw (h .seat) (holds (words w) (w .set) .stands)
+  held : HeldIn (words w) (w .spot .seat) (holds (words w) (w .set) .trie)
+  held = rw (h .seat) (holds (words w) (w .set) .holds)
 
-  pub goes : Goes (words w) (w .spot)
-  goes = record { trie = holds (words w) (w .set) .trie; stands = stands; right = h .right }
+  pub goes : GoesIn (words w) (w .spot)
+  goes = record { trie = holds (words w) (w .set) .trie; holds = held; family = rw (h .seat) (holds (words w) (w .set) .family); right = h .right }
 
   pub stepped : (r : Spot) → Told w r → r ≡ walkOn w .spot
-  stepped r f = f (holds (words w) (w .set) .trie) stands ∙ ap (λ l. goneOn l (w .spot)) (holds (words w) (w .set) .list)
+  stepped r f = f (holds (words w) (w .set) .trie) held ∙ ap (λ l. goneOn l (w .spot)) (holds (words w) (w .set) .list)
 
   on-lists : Lists (w .spot .seat .family) (listOn w)
   on-lists = rw (h .seat) (lists (words w) (w .set))
@@ -102,11 +103,10 @@ pub record Past (w : Walk) : Type 0 where
   pub bits : Bits
   pub net : walkOn w .spot .net ≡ netFrom (w .spot .seat .family) bits
   pub taken : ahead (listOn w) (w .spot) ≡ bits ∷ ahead (listOn w) (walkOn w .spot)
-  pub right : Right (walkOn w .spot)
 
 module _ (w : Walk) (h : Walking w) where
   pub on-more : walkOn w .spot .more ≡ true → Past w
-  on-more m = let a = gone-more (listOn w) (w .spot) (on-lists w h) (walkOn w .spot) refl m in record { bits = a .bits; net = a .net; taken = a .taken; right = λ _. a .right }
+  on-more m = let a = gone-more (listOn w) (w .spot) (on-lists w h) (walkOn w .spot) refl m in record { bits = a .bits; net = a .net; taken = a .taken }
 
   pub on-end : walkOn w .spot .more ≡ false → ahead (listOn w) (w .spot) ≡ []
   on-end m = gone-last (listOn w) (w .spot) (on-lists w h) (walkOn w .spot) refl m

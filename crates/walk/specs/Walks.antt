@@ -21,7 +21,8 @@ use Rattle.pool_state.specs.Decode.{Decoded, damaged, sound, decode}
 use Rattle.pool_state.specs.Changes.{listAt}
 use Rattle.pool_state.specs.Rules.{unknown, seatAt}
 use Rattle.nodes.specs.declared.seats.Seat.{Seat}
-use Rattle.trie_spots.specs.Spots.{nowhere, beforeAll, goneOn, Right}
+use Rattle.trie_spots.specs.Spots.{nowhere, beforeAll, goneOn}
+use Rattle.kept_spots.specs.Onward.{KeptRight}
 use Rattle.walk.specs.declared.beginning.Stage.{Stage}
 use Rattle.walk.specs.declared.walking.Walk.{Walk}
 
@@ -48,7 +49,7 @@ walkOn w = record { pool = w .pool; spot = goneOn (listIn (decode (now (w .pool)
 
 pub record Walking (w : Walk) : Type 0 where
   pub seat : w .spot .seat ≡ seatIn (decode (now (w .pool))) (w .set)
-  pub right : Right (w .spot)
+  pub right : KeptRight (w .spot)
 
 abbrev pub pass : Bool → Net → List Net → List Net
 pass true n l = n ∷ l

@@ -1,8 +1,8 @@
 // A walk that was made, and its steps. Each asks in its contract that it was: then a trie stands where it is to read one.
 ghost use mathlib.Core.Path.{_≡_};
 ghost use Rattle.walk.specs.Walks.{Walking, walkOn};
+use listing::seated::go_on;
 use trie_spots::spots::Spot;
-use trie_spots::spots::go_on;
 
 // The pool, how far the walk has come, the set, and the number of the table: 0, or 2 or 3 where there is nothing to walk through. While `spot.more` says so it is at the network `spot.net`.
 pub struct Walk<'a> {

@@ -1,27 +1,18 @@
 -- `simplify` meets its contract, each return by the tests and the steps on the way to it. Assumes nothing.
 use denote.Ref.{now}
-use mathlib.Core.Path.{_≡_, ap, _∙_}
-use Prim.Native.Nat.{suc}
-use lib.ListN.{getD}
+use native.Mathlib.Omega.{arith}
 use borrow.Author.Needs.{needs}
-use Rattle.nets.specs.Networks.{width}
-use Rattle.pool_state.proofs.Seats.{Seats, seats-family, seats-base, seated-refused, seated-at}
-use Rattle.pool_state.proofs.Seen.{seen}
-use Rattle.change.proofs.Simplified.{return-refused, seen-source, gap-closes, roots-move, return-granted}
+use Rattle.pool_state.proofs.Seats.{Seats, seats-base, seated-refused, seated-at}
+use Rattle.pool_state.proofs.Seen.{seen, figures}
+use Rattle.change.proofs.Simplified.{return-refused, gap-closes, roots-move, return-granted}
 use Rattle.change.proofs.simplify.Statement.{statement}
 use Rattle.change.proofs.simplify.Tie as tie
 
-abbrev start : tie.After-seated2 → tie.Start
-start c = c .before .before .before .before .before
-
-seats : (c : tie.After-seated2) → let a = start c .args in Seats (now (a .pool)) (a .set) (c .seated2 .given .0 .0) (c .seated2 .given .0 .1 .0)
+seats : (c : tie.After-seated2) → let a = c .before .before .before .before .before .args in Seats (now (a .pool)) (a .set) (c .seated2 .given .0 .0) (c .seated2 .given .0 .1 .0)
 seats c = seated-at _ _ (c .before .before .seat-of .ensures) _ _ (c .seated2 .given .1)
 
-abbrev seated : tie.After-most-levels → tie.After-seated2
+abbrev seated : tie.After-stride-of → tie.After-seated2
 seated c = c .before .before .before
-
-levels : (c : tie.After-most-levels) → c .most-levels .result ≡ suc (width (getD (now (start (seated c) .args .pool)) 1 0))
-levels c = c .most-levels .ensures ∙ ap (λ f. suc (width f)) (seats-family (seats (seated c)))
 
 pub simplify-spec : {M : Type 1} → statement M
 simplify-spec =
@@ -30,22 +21,19 @@ simplify-spec =
     (λ c κs. search needs)
     (λ c. search needs)
     (λ c. search needs)
-    (λ c. search needs)
-    (λ c κs. search needs)
-    (λ c κs. let m = c .before in let h = seats (seated m) in (_, seen-source (seen (h .surveyed) .1) (seats-base h) (levels m)))
+    (λ c κs. omega (arith, figures (seats (c .before .before) .surveyed)))
+    (λ c κs. let h = seats (seated (c .before)) in (h .seat, (_, h .surveyed)))
     (λ c κs.
     let s = c .before .before .before in
     let m = s .before .before in
     let h = seats (seated m) in
-    let g = seen (h .surveyed) .1 in
-    gap-closes g (seats-base h) (s .shrink .ensures _ (seen-source g (seats-base h) (levels m))))
+    gap-closes (seen (h .surveyed) .1) (seats-base h) (m .stride-of .ensures) (s .shrink .ensures _ (h .surveyed)))
     (λ c κs.
     let f = c .before .before .before in
     let s = f .before .before .before .before in
     let m = s .before .before in
     let h = seats (seated m) in
-    let g = seen (h .surveyed) .1 in
-    roots-move g (seats-base h) (s .shrink .ensures _ (seen-source g (seats-base h) (levels m))) (f .shift-behind .ensures))
+    roots-move (seen (h .surveyed) .1) (seats-base h) (m .stride-of .ensures) (s .shrink .ensures _ (h .surveyed)) (f .shift-behind .ensures))
     (λ c. search needs)
     (λ c. return-refused (c .before .seated .given .0 .0) (seated-refused _ _ (c .before .before .before .seat-of .ensures) _ (c .before .seated .given .1)))
     (λ c. search needs)
@@ -55,5 +43,4 @@ simplify-spec =
     let s = f .before .before .before .before in
     let m = s .before .before in
     let h = seats (seated m) in
-    let g = seen (h .surveyed) .1 in
-    return-granted g (seats-base h) (s .shrink .ensures _ (seen-source g (seats-base h) (levels m))) (f .shift-behind .ensures) (r .granted .ensures)))
+    return-granted (seen (h .surveyed) .1) (seats-base h) (m .stride-of .ensures) (s .shrink .ensures _ (h .surveyed)) (f .shift-behind .ensures) (r .granted .ensures)))

@@ -3,9 +3,9 @@ use denote.Ref.{now}
 use native.Mathlib.Omega.{arith}
 use borrow.Author.Needs.{needs}
 use Rattle.pool_state.specs.Decode.{recordAt}
-use Rattle.pool_state.proofs.Seats.{Seats, seats-base, seats-first, seated-refused, seated-at}
+use Rattle.pool_state.proofs.Seats.{Seats, seated-refused, seated-at}
 use Rattle.pool_state.proofs.Seen.{Figures, figures}
-use Rattle.compare.proofs.Compared.{equal-refused, equal-noset, equal-places, equal-empty, equal-none, equal-words}
+use Rattle.compare.proofs.Compared.{equal-refused, equal-noset, equal-empty, equal-none, equal-short, equal-asks, equal-words}
 use Rattle.compare.proofs.equal.Statement.{statement}
 use Rattle.compare.proofs.equal.Tie as tie
 
@@ -42,17 +42,23 @@ equal-spec =
     (λ c. search needs)
     (λ c. let e = c .before .before .before in equal-empty (seats (seated e) .surveyed) (e .if1 .left) (c .if2 .taken))
     (λ c. let i = c .before in let e = i .before .before .before in equal-none (seats (seated e) .surveyed) (e .if1 .left) (i .if2 .left) (c .if3 .taken))
-    (λ c. let h = seats (seated (both (c .before))) in omega (arith, figures (h .surveyed) .first, seats-first h))
-    (λ c. let h = seats (seated (both (c .before .before))) in omega (arith, figures (h .surveyed), seats-base h, seats-first h))
+    (λ c. search needs)
     (λ c. search needs)
     (λ c.
-    let e = both (c .before .before .before) in
-    let h = seats (seated e) in
-    omega (arith, figures (h .surveyed) .sets, seats-base h, c .before .before .before .before .before .before .shared-slice-known3 .given (recordAt (start (seated e) .args .second))))
-    (λ c κs. let e = both (c .before .before .before) in let h = seats (seated e) in equal-places (h .surveyed) (e .if1 .left) (h .seat))
-    (λ c. equal-refused _ _ _ (seated-refused _ _ (c .before .before .before .seat-of .ensures) _ (c .before .seated .given .1)))
-    (λ c.
-    let i = c .before .before .before .before in
+    let e = both (c .before) in
+    let a = c .before .before .before .before in
+    omega (arith, sizes (seated e) .held, sizes (seated e) .claimed, sizes (seated e) .nodes, a .shared-slice-known3 .given (recordAt (start (seated e) .args .second))))
+    (λ c. let i = c .before .before in let e = both i in equal-short (seats (seated e) .surveyed) (e .if1 .left) (i .before .if2 .left) (i .if3 .left) (c .if4 .taken))
+    (λ c κs. omega (arith, sizes (seated (both (c .before .before))) .long))
+    (λ c κs.
+    let i = c .before .before .before in
     let e = both i in
     let h = seats (seated e) in
-    equal-words (h .surveyed) (e .if1 .left) (i .before .if2 .left) (i .if3 .left) (h .seat) _ (c .same-words .ensures)))
+    equal-asks (h .surveyed) (e .if1 .left) (i .before .if2 .left) (i .if3 .left) (c .before .if4 .left) (h .seat) (c .stride-of .ensures))
+    (λ c. equal-refused _ _ _ (seated-refused _ _ (c .before .before .before .seat-of .ensures) _ (c .before .seated .given .1)))
+    (λ c.
+    let r = c .before in
+    let i = r .before .before .before in
+    let e = both i in
+    let h = seats (seated e) in
+    equal-words (h .surveyed) (e .if1 .left) (i .before .if2 .left) (i .if3 .left) (r .before .if4 .left) (h .seat) (r .stride-of .ensures) _ (c .same-nodes .ensures)))

@@ -1,9 +1,7 @@
 -- `flat` meets its contract. Assumes nothing.
 use borrow.Author.Needs.{needs}
 use native.Mathlib.Omega.{arith}
-use mathlib.Core.Path.{_≡_}
-use mathlib.Core.Bool.{true, false}
-use Prim.Native.Nat.{ℕ}
+use mathlib.Core.Bool.{true}
 use Rattle.kept_acts.proofs.Acted.{flat-moves, none-moves, flat-writes, flat-became, none-became}
 use Rattle.kept_acts.proofs.flat.Statement.{statement}
 use Rattle.kept_acts.proofs.flat.Tie as tie

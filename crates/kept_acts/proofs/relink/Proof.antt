@@ -2,10 +2,10 @@
 use borrow.Author.Needs.{needs}
 use native.Mathlib.Omega.{arith}
 use borrow.Author.Tests.{not-true, not-false, ne-eqb}
-use mathlib.Core.Path.{_≡_, refl}
+use mathlib.Core.Path.{refl}
 use denote.Ref.{now}
 use mathlib.Core.List.{[]}
-use Rattle.kept_acts.proofs.Acted.{relink-first, relink-edge, relink-node}
+use Rattle.kept_acts.proofs.Acted.{relink-edge, relink-node}
 use Rattle.kept_acts.proofs.relink.Statement.{statement}
 use Rattle.kept_acts.proofs.relink.Tie as tie
 

@@ -6,7 +6,6 @@ use native.Mathlib.Omega.{arith}
 use borrow.Author.Needs.{needs}
 use borrow.Fn.Kinds.{In}
 use borrow.Fn.PlainCycle.{Measures, is, falls, and}
-use lib.ListN.{length}
 use Rattle.nets.specs.Bits.{Bits}
 use Rattle.nets.specs.Networks.{netFrom}
 use Rattle.nets.specs.Tries.{Trie, side}
@@ -15,7 +14,7 @@ use Rattle.trie_paths.proofs.Paths.{path-is, length-snoc}
 use Rattle.kept_steps.specs.Segments.{KeptSpliced}
 use Rattle.kept_steps.proofs.Halves.{behind}
 use Rattle.kept_plan.specs.Change.{Changes, Planned, Downs}
-use Rattle.kept_plan.specs.declared.Plan.the-variants.{Fork, Drop, Down}
+use Rattle.kept_plan.specs.declared.Plan.{Plan}
 use Rattle.kept_change.proofs.Results.{made}
 use Rattle.kept_change.proofs.Whole.{way-path, changes-at, spliced-at, stay-spliced, flat-acts, flat-spliced, halve-acts, halve-spliced, fork-acts, fork-spliced, drop-halves, drop-spliced, down-changes, down-short, down-falls, down-relinks, down-done}
 use Rattle.kept_change.proofs.change.Reads as change
@@ -74,8 +73,10 @@ module _ (k : ℕ) where
   Given c p r t rest = let a = start c .args in Changes (a .family) (a .w .now) (a .b) (a .n) (a .i) (a .e) (a .u) p r (a .q) (a .into) t rest
 
   planned : (c : Seen) (p r : Bits) (t : Trie) (rest : List ℕ) → start c .args .path ≡ netFrom (start c .args .family) p → Given c p r t rest
-      → let a = start c .args in Planned (a .family) (a .i) p r (a .into) t (c .plan-for .result)
-  planned c p r t rest is g = c .plan-for .ensures _ p r t rest (g .here) (g .way) (sym (path-is _ _ p is .0))
+      → {x : Plan} → c .plan-for .result ≡ x → let a = start c .args in Planned (a .family) (a .i) p r (a .into) t x
+  planned c p r t rest is g e =
+      let a = start c .args in
+      subst (λ x. Planned (a .family) (a .i) p r (a .into) t x) e (c .plan-for .ensures _ p r t rest (g .here) (g .way) (sym (path-is _ _ p is .0)))
 
   -- the half on the side of the bit is gone into
   abbrev Inward : Type 0
@@ -86,7 +87,7 @@ module _ (k : ℕ) where
 
   downs : (c : Inward) (p r : Bits) (t : Trie) (rest : List ℕ) → start (seen c) .args .path ≡ netFrom (start (seen c) .args .family) p → Given (seen c) p r t rest
       → let v = c .before .x3 .given .0 in let a = start (seen c) .args in Downs (a .i) (v .1 .0) (v .1 .1 .0) (v .0) r (a .into) t
-  downs c p r t rest is g = let a = start (seen c) .args in subst (λ z. Planned (a .family) (a .i) p r (a .into) t z) (c .before .x3 .given .1) (planned (seen c) p r t rest is g)
+  downs c p r t rest is g = planned (seen c) p r t rest is g (c .before .x3 .given .1)
 
   abbrev Called : Type 0
   Called = lts.After-change (calls k) (at k) change.Post
@@ -111,28 +112,24 @@ pub +change-spec : {M : Type 1} → statement M
     (λ c κs.
     let o = c .before .before .before in
     let (p, r, t, rest, is, g) = start k o .pre .1 in
-    let a = start k o .args in
-    (_, p, p ++ r, t, rest, g .way .net, flat-acts g (subst (λ z. Planned (a .family) (a .i) p r (a .into) t z) (c .before .enum-told2 .given .1) (planned k o p r t rest is g))))
+    (_, p, p ++ r, t, rest, g .way .net, flat-acts g (planned k o p r t rest is g (c .before .enum-told2 .given .1))))
     (λ c. search needs)
     (λ c κs.
     let o = c .before .before .before in
     let (p, r, t, rest, is, g) = start k o .pre .1 in
-    let a = start k o .args in
-    let d = subst (λ z. Planned (a .family) (a .i) p r (a .into) t z) (c .before .enum-told3 .given .1) (planned k o p r t rest is g) in
+    let d = planned k o p r t rest is g (c .before .enum-told3 .given .1) in
     (_, p, r, p ++ r, t, rest, is, g .way, d .2, halve-acts g d))
     (λ c. search needs)
     (λ c κs.
     let o = c .before .before .before .before in
     let (p, r, t, rest, is, g) = start k o .pre .1 in
-    let a = start k o .args in
-    let d = subst (λ z. Planned (a .family) (a .i) p r (a .into) t z) (c .before .before .x .given .1) (planned k o p r t rest is g) in
+    let d = planned k o p r t rest is g (c .before .before .x .given .1) in
     (_, p, p ++ r, t, rest, is, g .way .net, fork-acts g d))
     (λ c. search needs)
     (λ c κs.
     let o = c .before .before .before .before in
     let (p, r, t, rest, is, g) = start k o .pre .1 in
-    let a = start k o .args in
-    let d = subst (λ z. Planned (a .family) (a .i) p r (a .into) t z) (c .before .before .x2 .given .1) (planned k o p r t rest is g) in
+    let d = planned k o p r t rest is g (c .before .before .x2 .given .1) in
     (_, p, _, _, rest, drop-halves g d))
     (λ c. search needs)
     (λ c κs. search needs)
@@ -157,35 +154,31 @@ pub +change-spec : {M : Type 1} → statement M
     let (p, r, t, rest, is, g) = start k (seen k i) .pre .1 in
     down-relinks g (downs k i p r t rest is g) (called k o p r t rest is g))
     (λ c. search needs)
-    (λ c p r t rest is g. let o = c .before .before in let a = start k o .args in
-    stay-spliced g (subst (λ z. Planned (a .family) (a .i) p r (a .into) t z) (c .enum-told .given .1) (planned k o p r t rest is g)))
+    (λ c p r t rest is g. let o = c .before .before in
+    stay-spliced g (planned k o p r t rest is g (c .enum-told .given .1)))
     (λ c. search needs)
     (λ c p r t rest is g.
     let e = c .before .before .before .before in
     let o = e .before .before in
-    let a = start k o .args in
-    let d = subst (λ z. Planned (a .family) (a .i) p r (a .into) t z) (e .enum-told2 .given .1) (planned k o p r t rest is g) in
+    let d = planned k o p r t rest is g (e .enum-told2 .given .1) in
     flat-spliced g d (c .before .before .flat .ensures _ p (p ++ r) t rest (g .way .net) (flat-acts g d)))
     (λ c. search needs)
     (λ c p r t rest is g.
     let e = c .before .before .before .before in
     let o = e .before .before in
-    let a = start k o .args in
-    let d = subst (λ z. Planned (a .family) (a .i) p r (a .into) t z) (e .enum-told3 .given .1) (planned k o p r t rest is g) in
+    let d = planned k o p r t rest is g (e .enum-told3 .given .1) in
     halve-spliced g d (c .before .before .halve .ensures _ p r (p ++ r) t rest is (g .way) (d .2) (halve-acts g d)))
     (λ c. search needs)
     (λ c p r t rest is g.
     let e = c .before .before .before .before .before in
     let o = e .before .before in
-    let a = start k o .args in
-    let d = subst (λ z. Planned (a .family) (a .i) p r (a .into) t z) (e .x .given .1) (planned k o p r t rest is g) in
+    let d = planned k o p r t rest is g (e .x .given .1) in
     fork-spliced g d (c .before .before .fork .ensures _ p (p ++ r) t rest is (g .way .net) (fork-acts g d)))
     (λ c. search needs)
     (λ c p r t rest is g.
     let e = c .before .before .before .before .before in
     let o = e .before .before in
-    let a = start k o .args in
-    let d = subst (λ z. Planned (a .family) (a .i) p r (a .into) t z) (e .x2 .given .1) (planned k o p r t rest is g) in
+    let d = planned k o p r t rest is g (e .x2 .given .1) in
     drop-spliced g d (c .before .before .drop-half .ensures _ p _ _ rest (drop-halves g d)))
     (λ c. search needs)
     (λ c p r t rest is g.

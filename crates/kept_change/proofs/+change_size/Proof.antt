@@ -12,7 +12,9 @@ use Rattle.nets.specs.Tries.{Trie, side}
 use Rattle.trie_paths.proofs.Paths.{length-snoc}
 use Rattle.branch_points.specs.KeptTries.{keptSize}
 use Rattle.kept_steps.specs.Segments.{KeptSegment}
-use Rattle.kept_plan.specs.Change.{changeT, Way, Planned, Downs}
+use Rattle.kept_plan.specs.Change.{Way, Planned, Downs}
+use Rattle.kept_plan.specs.declared.Plan.{Plan}
+use Rattle.kept_plan.specs.declared.Plan.the-variants.{Halve}
 use Rattle.kept_change.proofs.Results.{half, made, half-here}
 use Rattle.kept_change.proofs.Whole.{segment-at, size-stay, size-halve, size-fork, drop-fits, size-drop, down-half, down-path, down-falls, size-down, made-few}
 use Rattle.kept_change.proofs.change_size.Reads as change-size
@@ -58,8 +60,18 @@ module _ (k : ℕ) where
   abbrev Stands : Seen → ℕ → Bits → Trie → List ℕ → Type 0
   Stands c u p t rest = let a = start c .args in KeptSegment (a .family) (a .w .now) (a .b) (a .n) (a .i) (a .e) u p t rest
 
-  abbrev Plans : Seen → Bits → Bits → Trie → Type 0
-  Plans c p r t = let a = start c .args in Planned (a .family) (a .i) p r (a .into) t (c .plan-for .result)
+  planned : (c : Seen) (u : ℕ) (p r : Bits) (t : Trie) (rest : List ℕ) → Stands c u p t rest → Way (start c .args .family) p r (start c .args .q)
+      → length p ≡ start c .args .d → {x : Plan} → c .plan-for .result ≡ x → let a = start c .args in Planned (a .family) (a .i) p r (a .into) t x
+  planned c u p r t rest g h d e =
+      let a = start c .args in
+      subst (λ x. Planned (a .family) (a .i) p r (a .into) t x) e (c .plan-for .ensures u p r t rest g h d)
+
+  halves : (c : Seen) → c .plan-for .result ≡ Halve → (start c .args .d < start c .args .q .len) × (start c .args .q .len ≤ 128)
+  halves c e =
+      let (u, p, r, t, rest, g, h, d) = start c .pre .1 in
+      let x = planned c u p r t rest g h d e in
+      let s = size-halve g h d (x .0, x .2) in
+      (s .0, s .1)
 
   -- the half on the side of the bit is gone into
   abbrev Inward : Type 0
@@ -70,9 +82,7 @@ module _ (k : ℕ) where
 
   downs : (c : Inward) (u : ℕ) (p r : Bits) (t : Trie) (rest : List ℕ) → Stands (seen c) u p t rest → Way (start (seen c) .args .family) p r (start (seen c) .args .q)
       → length p ≡ start (seen c) .args .d → let v = c .before .x2 .given .0 in let a = start (seen c) .args in Downs (a .i) (v .1 .0) (v .1 .1 .0) (v .0) r (a .into) t
-  downs c u p r t rest g h d =
-      let a = start (seen c) .args in
-      subst (λ z. Planned (a .family) (a .i) p r (a .into) t z) (c .before .x2 .given .1) (seen c .plan-for .ensures u p r t rest g h d)
+  downs c u p r t rest g h d = planned (seen c) u p r t rest g h d (c .before .x2 .given .1)
 
   abbrev Called : Type 0
   Called = lts.After-change-size (calls k) (at k) change-size.Post
@@ -101,30 +111,10 @@ pub +change-size-spec : {M : Type 1} → statement M
     (λ c. search needs)
     (λ c κs. search needs)
     (λ c. search needs)
-    (λ c.
-    let o = c .before .before .before in
-    let (u, p, r, t, rest, g, h, d) = start k o .pre .1 in
-    let a = start k o .args in
-    let x = subst (λ z. Planned (a .family) (a .i) p r (a .into) t z) (c .before .enum-told3 .given .1) (o .plan-for .ensures u p r t rest g h d) in
-    omega (arith, size-halve g h d (x .0, x .2)))
-    (λ c.
-    let o = c .before .before .before in
-    let (u, p, r, t, rest, g, h, d) = start k o .pre .1 in
-    let a = start k o .args in
-    let x = subst (λ z. Planned (a .family) (a .i) p r (a .into) t z) (c .before .enum-told3 .given .1) (o .plan-for .ensures u p r t rest g h d) in
-    omega (arith, size-halve g h d (x .0, x .2)))
-    (λ c.
-    let o = c .before .before .before in
-    let (u, p, r, t, rest, g, h, d) = start k o .pre .1 in
-    let a = start k o .args in
-    let x = subst (λ z. Planned (a .family) (a .i) p r (a .into) t z) (c .before .enum-told3 .given .1) (o .plan-for .ensures u p r t rest g h d) in
-    omega (arith, size-halve g h d (x .0, x .2)))
-    (λ c.
-    let o = c .before .before .before in
-    let (u, p, r, t, rest, g, h, d) = start k o .pre .1 in
-    let a = start k o .args in
-    let x = subst (λ z. Planned (a .family) (a .i) p r (a .into) t z) (c .before .enum-told3 .given .1) (o .plan-for .ensures u p r t rest g h d) in
-    omega (arith, size-halve g h d (x .0, x .2)))
+    (λ c. omega (arith, halves k (c .before .before .before) (c .before .enum-told3 .given .1)))
+    (λ c. omega (arith, halves k (c .before .before .before) (c .before .enum-told3 .given .1)))
+    (λ c. omega (arith, halves k (c .before .before .before) (c .before .enum-told3 .given .1)))
+    (λ c. omega (arith, halves k (c .before .before .before) (c .before .enum-told3 .given .1)))
     (λ c. search needs)
     (λ c. let (u, p, r, t, rest, g, h, d) = start k (c .before .before) .pre .1 in omega (arith, g .end))
     (λ c. let (u, p, r, t, rest, g, h, d) = start k (c .before .before) .pre .1 in omega (arith, g .end, g .tail, g .last, g .room .few))
@@ -132,8 +122,7 @@ pub +change-size-spec : {M : Type 1} → statement M
     (λ c κs.
     let o = c .before .before .before in
     let (u, p, r, t, rest, g, h, d) = start k o .pre .1 in
-    let a = start k o .args in
-    let x = subst (λ z. Planned (a .family) (a .i) p r (a .into) t z) (c .before .x .given .1) (o .plan-for .ensures u p r t rest g h d) in
+    let x = planned k o u p r t rest g h d (c .before .x .given .1) in
     drop-fits g (x .1))
     (λ c. search needs)
     (λ c κs. search needs)
@@ -160,29 +149,25 @@ pub +change-size-spec : {M : Type 1} → statement M
     let i = inward k (c .before) in
     let (u, p, r, t, rest, g, h, d) = start k (seen k i) .pre .1 in
     omega (arith, called k (c .before) u p r t rest g h d, down-half g (downs k i u p r t rest g h d)))
-    (λ c u p r t rest g h d. let o = c .before .before in let a = start k o .args in
-    size-stay (a .into) r g (subst (λ z. Planned (a .family) (a .i) p r (a .into) t z) (c .enum-told .given .1) (o .plan-for .ensures u p r t rest g h d)))
+    (λ c u p r t rest g h d. let o = c .before .before in
+    size-stay (start k o .args .into) r g (planned k o u p r t rest g h d (c .enum-told .given .1)))
     (λ c u p r t rest g h d.
     let e = c .before in
     let o = e .before .before in
-    let a = start k o .args in
-    let x = subst (λ z. Planned (a .family) (a .i) p r (a .into) t z) (e .enum-told2 .given .1) (o .plan-for .ensures u p r t rest g h d) in
+    let x = planned k o u p r t rest g h d (e .enum-told2 .given .1) in
     c .flat-size .ensures ∙ sym (x .size))
     (λ c u p r t rest g h d.
     let o = c .before .before .before in
-    let a = start k o .args in
-    let x = subst (λ z. Planned (a .family) (a .i) p r (a .into) t z) (c .before .enum-told3 .given .1) (o .plan-for .ensures u p r t rest g h d) in
+    let x = planned k o u p r t rest g h d (c .before .enum-told3 .given .1) in
     rw (x .1) (size-halve g h d (x .0, x .2) .2))
     (λ c u p r t rest g h d.
     let o = c .before .before in
-    let a = start k o .args in
-    let x = subst (λ z. Planned (a .family) (a .i) p r (a .into) t z) (c .enum-told4 .given .1) (o .plan-for .ensures u p r t rest g h d) in
+    let x = planned k o u p r t rest g h d (c .enum-told4 .given .1) in
     rw (x .0) (size-fork g (x .1)))
     (λ c u p r t rest g h d.
     let e = c .before in
     let o = e .before .before .before in
-    let a = start k o .args in
-    let x = subst (λ z. Planned (a .family) (a .i) p r (a .into) t z) (e .before .x .given .1) (o .plan-for .ensures u p r t rest g h d) in
+    let x = planned k o u p r t rest g h d (e .before .x .given .1) in
     c .other-size .ensures ∙ rw (x .0) (size-drop g (x .1)))
     (λ c u p r t rest g h d.
     let i = inward k (c .before) in

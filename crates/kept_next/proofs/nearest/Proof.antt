@@ -1,8 +1,7 @@
 -- `nearest` meets its contract, by its tests. Assumes nothing.
-use borrow.Author.Needs.{needs}
 use borrow.Author.Tests.{not-true, not-false, eq-eqb, ne-eqb}
 use mathlib.Core.Path.{_≡_, ap, sym, _∙_}
-use mathlib.Core.Bool.{Bool, true, false, not, _||_}
+use mathlib.Core.Bool.{not, _||_}
 use denote.Ref.{now}
 use Rattle.nets.specs.Bits.{before}
 use Rattle.nets.specs.Lists.{isPast}
@@ -34,9 +33,9 @@ pub nearest-spec : {M : Type 1} → statement M
 nearest-spec =
     tie.close
     (tie.spec
-    (λ c κs. let h = c .before .pre .0 in (h .room, (h .one, h .within)))
+    (λ c κs. let h = c .before .pre .0 .node in (h .room, (h .one, h .within)))
     (λ c ms g. let a = c .before .before .before .args in rw (ne-eqb (distAt (a .family) (now (a .w)) (a .b) (a .k)) 0 (λ e. c .if1 .taken (c .before .distance .ensures .0 ∙ e))) g)
-    (λ c κs. let h = c .before .before .before .pre .0 in (h .room, (h .one, h .within)))
+    (λ c κs. let h = c .before .before .before .pre .0 .node in (h .room, (h .one, h .within)))
     (λ c κs b. let h = start c .pre .0 in entry-pair (h .entry b) (read-entry h (c .net-at .ensures .is)))
     (λ c ms g.
     let d = c .before .before in
@@ -46,7 +45,7 @@ nearest-spec =
     let d = c .before .before in
     let h = start d .pre .0 in
     let (ms, g) = start d .pre .1 in
-    entry-pair (read-entry h (d .net-at .ensures .is)) (near-entry g (h .room .family) b))
+    entry-pair (read-entry h (d .net-at .ensures .is)) (near-entry g (h .node .room .family) b))
     (λ c ms g.
     let o = c .before in
     let d = o .before .before .before in
@@ -59,4 +58,5 @@ nearest-spec =
     let a = start d .args in
     let h = start d .pre .0 in
     rw (eq-eqb (distAt (a .family) (now (a .w)) (a .b) (a .k)) 0 (zero d))
-    (turn-near g _ _ (nearer o) (not-false _ (c .if3 .left)) _ (read-net h (d .net-at .ensures .is)) (h .short) (sym (tested p) ∙ not-false _ (o .before .if2 .left)))))
+    (turn-near g _ _ (nearer o) (not-false _ (c .if3 .left)) _ (read-net h (d .net-at .ensures .is)) (h .node .short)
+    (sym (tested p) ∙ not-false _ (o .before .if2 .left)))))

@@ -1,46 +1,29 @@
--- `next_after` meets its contract. The loop's invariant: the nearest of the nodes that were read. Assumes nothing.
+-- `next_after` meets its contract: the next of the same length where it was found, else the nearest of all. Assumes nothing.
 use borrow.Author.Needs.{needs}
 use native.Mathlib.Omega.{arith}
-use mathlib.Core.Path.{refl}
-use Prim.Native.Nat.{ℕ, _-_}
-use Rattle.nets.specs.Tries.{Trie}
+use denote.Ref.{now}
 use Rattle.kept_list.specs.Listed.{KeptHolds}
-use Rattle.kept_next.specs.Nearest.{placeAt}
-use Rattle.kept_next.proofs.Nearer.{Searches, search-start, search-looks, search-turn, search-all, follows-none, follows-some}
+use Rattle.kept_next.specs.Lanes.{Behind}
+use Rattle.kept_next.proofs.Behind.{behind-follows}
 use Rattle.kept_next.proofs.next_after.Statement.{statement}
 use Rattle.kept_next.proofs.next_after.Tie as tie
 
-abbrev Inv-loop : tie.InvT-loop
-Inv-loop w f b n i e begun last best₀ k₀ best k = (t : Trie) → KeptHolds f w b n i e t → Searches f w b i e (placeAt begun last) best k
+-- the trie that the caller has shown, and the node that was found in it
+held : (c : tie.Then2) → let s = c .before .before .before .before in let a = s .args in
+    KeptHolds (a .family) (now (a .w)) (a .b) (a .n) (a .i) (a .e) (s .pre .1 .0)
+held c = c .before .before .before .before .pre .1 .1
 
-abbrev μ-loop : tie.MeasureT-loop
-μ-loop w f b n i e begun last best₀ k₀ best k = e - k
+followed : (c : tie.Then2) → let s = c .before .before .before .before in let a = s .args in
+    Behind (a .family) (now (a .w)) (a .b) (a .i) (a .e) (s .pre .1 .0) (a .last) (c .before .behind .result)
+followed c = c .before .behind .ensures _ (held c) (c .if2 .taken)
 
 pub next-after-spec : {M : Type 1} → statement M
 next-after-spec =
     tie.close
     (tie.spec
-    Inv-loop
-    μ-loop
-    (λ c t h. search-start h _ _ refl)
-    (λ c.
-    let s = c .before .before .before in
-    let (t, h) = s .pre .1 in
-    let g = c .before .loop .inv t h in
-    omega (arith, search-looks h _ g (c .loop-test .taken) _ _ (s .pre .0) .within, h .room .few))
-    (λ c κs.
-    let s = c .before .before .before in
-    let h = s .pre .1 .1 in
-    let g = c .before .loop .inv _ h in
-    (search-looks h _ g (c .loop-test .taken) _ _ (s .pre .0), (_, g .near)))
-    (λ c. search needs)
-    (λ c. omega (arith, c .before .loop-test .taken))
-    (λ c t h. let g = c .before .before .loop .inv t h in search-turn h _ g (c .before .loop-test .taken) (c .nearest .ensures _ (g .near)))
-    (λ c t h.
-    let o = c .before .before in
-    let g = o .before .loop .inv t h in
-    follows-some t (g .near) (search-all h _ g (o .loop-test .left)) (c .before .if1 .taken))
-    (λ c t h.
-    let o = c .before in
-    let g = o .before .loop .inv t h in
-    follows-none t (g .near) (search-all h _ g (o .loop-test .left)) (c .if1 .left)))
+    (λ c κs. let s = c .before .before in (s .pre .0 (c .if1 .taken), s .pre .1))
+    (λ c. let h = held c in let g = followed c in omega (arith, g .to, h .end, h .stands .within, h .room .few))
+    (λ c κs. let h = held c in let g = followed c in (h .room, omega (arith, g .from, g .to, h .one, h .end, h .stands .within)))
+    (λ c t h. let d = c .before in behind-follows (d .before .behind .ensures t h (d .if2 .taken)) _ (c .net-at .ensures .is) _ (d .before .before .if1 .taken))
+    (λ c κs. search needs)
+    (λ c. search needs))

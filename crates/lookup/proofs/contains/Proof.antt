@@ -1,7 +1,6 @@
 -- `contains` meets its contract, by what is shown. Assumes nothing.
-use native.Mathlib.Omega.{arith}
 use borrow.Author.Needs.{needs}
-use Rattle.lookup.proofs.Asked.{contains-by, shown-cut}
+use Rattle.lookup.proofs.Asked.{contains-by}
 use Rattle.lookup.proofs.contains.Statement.{statement}
 use Rattle.lookup.proofs.contains.Tie as tie
 
@@ -11,7 +10,6 @@ contains-spec =
     (tie.spec
     (λ c κs. search needs)
     (λ c. search needs)
-    (λ c. omega (arith, shown-cut _ _ _ _ _ (c .before .before .before .lookup .ensures) (c .before .s .given .1) .1))
     (λ c κs. search needs)
     (λ c. search needs)
     (λ c κs. search needs)

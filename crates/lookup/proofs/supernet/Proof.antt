@@ -11,7 +11,7 @@ supernet-spec =
     (tie.spec
     (λ c κs. search needs)
     (λ c. search needs)
-    (λ c κs. let h = shown-cut _ _ _ _ _ (c .before .before .before .lookup .ensures) (c .before .s .given .1) in (h .0, h .1))
+    (λ c κs. shown-cut _ _ _ _ _ (c .before .before .before .lookup .ensures) (c .before .s .given .1) .0)
     (λ c. search needs)
     (λ c κs. search needs)
     (λ c. search needs)

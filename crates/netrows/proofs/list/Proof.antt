@@ -55,7 +55,7 @@ use Rattle.nets.proofs.Net.Laws as T′
 use Rattle.pool_state.specs.declared.Answer.{Answer}
 use Rattle.pool_state.proofs.Answer as P
 use Rattle.pool_state.proofs.Answer.Laws as P′
-use Rattle.trie_spots.specs.Spots.{StandsIn}
+use Rattle.listing.specs.Seated.{HeldIn}
 use Rattle.trie_spots.proofs.spots.Spot as O
 use Rattle.trie_spots.proofs.spots.Spot.Laws as O′
 use Rattle.netrows.specs.Rows.{Listed}
@@ -177,7 +177,7 @@ module _ {M : Type 1} (𝓤 : URA M) (H : Heap 𝓤) (A : Atoms 𝓤) (W : Given
   to-after t = (((κ, tt), (q, tt), tt, (s, (t, tt)), (v ∷ [], (turn t ∷ [], tt))), tt)
 
   abbrev Told : Turn → Turn → Type 0
-  Told t r = (u : Trie) → StandsIn (now s) (t .spot .seat) u → r ≡ turnAfter (listOf u) t
+  Told t r = (u : Trie) → HeldIn (now s) (t .spot .seat) u → r ≡ turnAfter (listOf u) t
 
   goes-after : (t : Turn) → Is R t (turn t ∷ []) → Stores (now s) t → ent 𝓤 (⋆ 𝓤 H A (‵ Own ∷ tok ∷ [])) (sep 𝓤 (After 𝓤 H A at-mem run .pre (to-after t)) (sem 𝓤 H A Own))
   goes-after t is asked =
@@ -281,7 +281,7 @@ module _ {M : Type 1} (𝓤 : URA M) (H : Heap 𝓤) (A : Atoms 𝓤) (W : Given
             rewrite ! 14 (λ (ws : List Val). ‵ (fat fullShare S′.mir l₄ 0 (only ws))) (LL.tells S.the-type S′.the-laws r (w ∷ []) is) refl $
             forget ! 6 refl $ forget ! 8 refl $ forget ! 10 refl $
             keep ! (3 ∷ 4 ∷ 5 ∷ 2 ∷ 1 ∷ 6 ∷ 7 ∷ 8 ∷ 9 ∷ 10 ∷ 11 ∷ 12 ∷ 13 ∷ 14 ∷ 15 ∷ 16 ∷ 17 ∷ 18 ∷ 19 ∷ 20 ∷ 21 ∷ 22 ∷ 23 ∷ []) $
-            (let next = stored.steps xs begun (g .1) e r (e′ _ (stored.stands xs begun (g .1))) in
+            (let next = stored.steps xs begun (g .1) e r (e′ _ (stored.holds xs begun (g .1))) in
             by ! (below k (next .0) r (set ys (t .at) (t .spot .net)) (next .1 .0) (subst (λ (ws : List Val). Is R r ws) (LL.tells S.the-type S′.the-laws r (w ∷ []) is) is, next .1 .1))))))))
 
         -- the turn that leaves the loop, and the rest of the body

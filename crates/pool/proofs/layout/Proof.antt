@@ -14,11 +14,11 @@ use Rattle.pool.proofs.layout.Statement.{statement}
 use Rattle.pool.proofs.layout.Tie as tie
 
 tested : (c : tie.Else1) → let a = c .before .before .before .before .before .args in
-    isSetup (length (now (a .pool))) (setup (a .family) (a .sets) (a .nodes) (now (a .shares)) (now (a .limits)) (a .indexed)) ≡ true
+    isSetup (length (now (a .pool))) (setup (a .family) (a .form) (a .sets) (a .nodes) (now (a .shares)) (now (a .limits)) (a .indexed)) ≡ true
 tested c = sym (c .before .is-setup .ensures) ∙ not-false _ (c .if1 .left)
 
 kept : (c : tie.Else1) → let a = c .before .before .before .before .before .args in
-    Kept (length (now (a .pool))) (setup (a .family) (a .sets) (a .nodes) (now (a .shares)) (now (a .limits)) (a .indexed))
+    Kept (length (now (a .pool))) (setup (a .family) (a .form) (a .sets) (a .nodes) (now (a .shares)) (now (a .limits)) (a .indexed))
 kept c = isSetup-kept _ _ (tested c)
 
 pub layout-spec : {M : Type 1} → statement M

@@ -2,6 +2,7 @@
 use mathlib.Core.Path.{ap, _∙_}
 use borrow.Author.Needs.{needs}
 use Rattle.inner_nets.specs.Inner.{isPublic}
+use Rattle.pool_state.proofs.Kept.{room-first}
 use Rattle.pool_check.proofs.Rights.{read-stands, mark-off, mark-bad, mark-none, mark-on}
 use Rattle.pool_check.proofs.keeps_mark.Statement.{statement}
 use Rattle.pool_check.proofs.keeps_mark.Tie as tie
@@ -15,21 +16,19 @@ keeps-mark-spec =
     (λ c. search needs)
     (λ c. search needs)
     (λ c. search needs)
-    (λ c. λ f l e. mark-off _ _ _ f _ _ l e (c .if1 .taken))
-    (λ c. λ f l e. mark-bad _ _ _ f _ _ l e (c .before .if1 .left) (c .if2 .taken))
+    (λ c. λ l e. mark-off e (c .if1 .taken))
+    (λ c. λ l e. mark-bad e (c .before .if1 .left) (c .if2 .taken))
     (λ c. search needs)
     (λ c. search needs)
     (λ c. search needs)
     (λ c. search needs)
-    (λ c. λ f l e. mark-none _ _ _ f _ _ l e (c .before .before .if2 .left) (c .if3 .taken))
+    (λ c. λ l e. mark-none e (c .before .before .if2 .left) (c .if3 .taken))
     (λ c. search needs)
     (λ c κs.
-    let p = c .before .before .before .before .before .before .before .pre in
-    let (f, l, e) = p .1 .1 in
-    let (t, q, x, ne) = read-stands _ _ _ f _ _ l e (p .0 .0) (p .0 .1) (c .before .if3 .left) in
-    (p .0, (f, t, x, ne)))
-    (λ c. λ f l e.
+    let (l, e) = c .before .before .before .before .before .before .before .pre in
+    let (t, q, x, ne) = read-stands e (c .before .if3 .left) in
+    ((room-first (e .room), e .one), (_, t, x, ne)))
+    (λ c. λ l e.
     let d = c .before .before in
-    let p = d .before .before .before .before .before .before .pre in
-    let (t, q, x, ne) = read-stands _ _ _ f _ _ l e (p .0 .0) (p .0 .1) (d .if3 .left) in
-    mark-on _ _ _ f _ _ l e (d .before .before .if2 .left) (c .is-clear .ensures f t x ne ∙ ap (isPublic _) q)))
+    let (t, q, x, ne) = read-stands e (d .if3 .left) in
+    mark-on e (d .before .before .if2 .left) (c .is-clear .ensures _ t x ne ∙ ap (isPublic _) q)))

@@ -9,10 +9,10 @@ use Rattle.pool_check.proofs.survey_sets.Statement.{statement}
 use Rattle.pool_check.proofs.survey_sets.Tie as tie
 
 abbrev Inv-loop : tie.InvT-loop
-Inv-loop w set sets n b fuel s₀ i₀ claimed₀ at₀ held₀ s i claimed at held = Pass w set sets n b fuel s i claimed at held
+Inv-loop w set sets n b s₀ i₀ claimed₀ at₀ held₀ s i claimed at held = Pass w set sets n b s i claimed at held
 
 abbrev μ-loop : tie.MeasureT-loop
-μ-loop w set sets n b fuel s₀ i₀ claimed₀ at₀ held₀ s i claimed at held = sets - s
+μ-loop w set sets n b s₀ i₀ claimed₀ at₀ held₀ s i claimed at held = sets - s
 
 pub survey-sets-spec : {M : Type 1} → statement M
 survey-sets-spec =
@@ -25,9 +25,7 @@ survey-sets-spec =
     (λ c. omega (arith, isHeader-header _ (c .before .before .before .pre)))
     (λ c. omega (arith, isHeader-header _ (c .before .before .before .pre)))
     (λ c. omega (arith, isHeader-header _ (c .before .before .before .pre)))
-    (λ c. omega (arith, isHeader-header _ (c .before .before .before .before .pre)))
-    (λ c κs. search needs)
-    (λ c. pass-start _ _ _ (c .before .before .before .before .before .pre) (c .most-levels .ensures))
+    (λ c. pass-start _ _ (c .before .before .before .pre))
     (λ c κs. search needs)
     (λ c κs. search needs)
     (λ c.
@@ -35,7 +33,7 @@ survey-sets-spec =
     c .no-survey .ensures ∙ pass-bad (d .before .before .loop .inv) (d .before .loop-test .taken) (d .set-end .ensures) (c .before .if1 .taken))
     (λ c κs.
     let p = c .before .before .before .loop .inv in
-    ((p .room, p .pos), ((omega arith, omega arith), pass-found p (c .before .before .loop-test .taken) (c .before .set-end .ensures) (c .if1 .left))))
+    pass-found p (c .before .before .loop-test .taken) (c .before .set-end .ensures) (c .if1 .left))
     (λ c κs. search needs)
     (λ c.
     let l = c .before .before in

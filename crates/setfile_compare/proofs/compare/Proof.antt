@@ -1,20 +1,21 @@
 -- `compare` meets its contract, test by test. Assumes nothing.
 use mathlib.Core.List.{List}
-use mathlib.Core.Path.{_≡_, sym, _∙_}
+use mathlib.Core.Path.{_≡_}
 use borrow.Author.Needs.{needs}
 use Rattle.nets.specs.Bits.{Bits}
 use Rattle.setfile_format.specs.Files.{readFile, file}
-use Rattle.setfile_compare.proofs.Answers.{checked-file, refuse-first, refuse-second, refuse-family, same-family, answer}
+use Rattle.setfile_order.proofs.Answers.{checked-broken, checked-file}
+use Rattle.setfile_compare.proofs.Answers.{refuse-first, refuse-second, refuse-family, same-family, answer}
 use Rattle.setfile_compare.proofs.compare.Statement.{statement}
 use Rattle.setfile_compare.proofs.compare.Tie as tie
 
 -- the two lists, by what `check` answers
 one : (c : tie.After-x) → (l : List Bits) × (readFile (c .before .before .before .before .before .args .first .now) ≡ file (c .x .given .0 .0) l)
-one c = checked-file _ _ _ (sym (c .x .given .1) ∙ c .before .before .check .ensures)
+one c = let (l, i, _) = checked-file _ (c .before .before .check .ensures) (c .x .given .1) in (l, i)
 
 two : (c : tie.After-y)
     → (m : List Bits) × (readFile (c .before .before .before .before .before .before .before .before .before .args .second .now) ≡ file (c .y .given .0 .0) m)
-two c = checked-file _ _ _ (sym (c .y .given .1) ∙ c .before .before .check2 .ensures)
+two c = let (m, i, _) = checked-file _ (c .before .before .check2 .ensures) (c .y .given .1) in (m, i)
 
 pub compare-spec : {M : Type 1} → statement M
 compare-spec =
@@ -23,11 +24,11 @@ compare-spec =
     (λ c κs. search needs)
     (λ c. search needs)
     (λ c. search needs)
-    (λ c. refuse-first _ _ (sym (c .enum-told .given .1) ∙ c .before .before .check .ensures))
+    (λ c. refuse-first _ _ (checked-broken _ (c .before .before .check .ensures) (c .enum-told .given .1)))
     (λ c κs. search needs)
     (λ c. search needs)
     (λ c. search needs)
-    (λ c. refuse-second _ _ (sym (c .enum-told2 .given .1) ∙ c .before .before .check2 .ensures))
+    (λ c. refuse-second _ _ (checked-broken _ (c .before .before .check2 .ensures) (c .enum-told2 .given .1)))
     (λ c.
     let y = c .before .before in
     let (l, i) = one (y .before .before .before .before) in

@@ -1,29 +1,31 @@
--- `shrink` meets its contract: what is written, with the leaf that may be left, is the simplified trie. Assumes nothing.
+-- `shrinking::shrink` meets its contract, by the form. Assumes nothing.
 use native.Mathlib.Omega.{arith}
 use borrow.Author.Needs.{needs}
-use Rattle.trie_blocks.proofs.Blocks.{segment-asks}
-use Rattle.change.proofs.Simplified.{settle-fits, end-fits, shrunk}
+use Rattle.pool_state.proofs.Seen.{seen, figures}
+use Rattle.change.proofs.Simplified.{seen-source, simplify-asks, simplify-few, shrunk-first, shrunk-second}
 use Rattle.change.proofs.shrinking.shrink.Statement.{statement}
 use Rattle.change.proofs.shrinking.shrink.Tie as tie
-
-abbrev start : tie.After-simplify → tie.Start
-start s = s .before .before .before .before .before .before .before
-
-abbrev done : tie.After-end-of → tie.After-simplify
-done c = c .before .before .before .before .before .before .before
 
 pub shrink-spec : {M : Type 1} → statement M
 shrink-spec =
     tie.close
     (tie.spec
+    (λ c. let (q, (k, g)) = c .before .before .pre in omega (arith, figures g))
     (λ c. search needs)
-    (λ c. search needs)
-    (λ c. search needs)
-    (λ c κs. segment-asks (c .before .before .before .before .pre .1 .here))
-    (λ c κs. (c .before .before .before .before .before .before .pre, c .before .next-join .ensures))
-    (λ c κs. let s = c .before .before .before in let (t, g) = start s .pre in (g .one, settle-fits g (s .simplify .ensures t g)))
     (λ c κs. search needs)
-    (λ c. let s = done c in let (t, g) = start s .pre in omega (arith, end-fits g (s .simplify .ensures t g) (c .end-of .ensures)))
-    (λ c. let s = done c in let (t, g) = start s .pre in omega (arith, end-fits g (s .simplify .ensures t g) (c .end-of .ensures)))
+    (λ c κs. let m = c .before in let f = m .before .before in let (q, (k, g)) = f .before .before .before .pre in (_, seen-source (seen g .1) q (f .if1 .taken) (m .most-levels .ensures)))
     (λ c. search needs)
-    (λ c t g. shrunk g (done c .simplify .ensures t g) (c .end-of .ensures) (c .before .before .before .settle .ensures)))
+    (λ c. λ k g.
+    let i = c .before .before in
+    let m = i .before .before in
+    let f = m .before .before in
+    shrunk-first g (f .before .before .before .pre .0) (f .if1 .taken) (m .most-levels .ensures) (i .shrink-trie .ensures))
+    (λ c. let (q, (k, g)) = c .before .before .before .before .pre in omega (arith, figures g))
+    (λ c κs. let f = c .before .before in let (q, (k, g)) = f .before .before .before .pre in simplify-asks (seen g .1) q (f .if1 .left))
+    (λ c.
+    let i = c .before .before in
+    let f = i .before .before .before in
+    let (q, (k, g)) = f .before .before .before .pre in
+    omega (arith, simplify-few (seen g .1) q (f .if1 .left) (i .simplify .ensures)))
+    (λ c. search needs)
+    (λ c. λ k g. let i = c .before .before in let f = i .before .before .before in shrunk-second g (f .before .before .before .pre .0) (f .if1 .left) (i .simplify .ensures)))

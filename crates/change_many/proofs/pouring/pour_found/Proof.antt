@@ -1,5 +1,4 @@
 -- `pouring::pour_found` meets its contract: the result is counted and judged, and then written. Assumes nothing.
-use mathlib.Core.Bool.{Bool}
 use mathlib.Core.List.{List}
 use mathlib.Core.Path.{_≡_}
 use native.Mathlib.Omega.{arith}
@@ -7,11 +6,13 @@ use denote.Ref.{now}
 use borrow.Author.Needs.{needs}
 use Rattle.nets.specs.Bits.{Bits}
 use Rattle.nets.specs.Refusals.{Rule}
-use Rattle.nets.specs.Tries.{size}
+use Rattle.nets.specs.Tries.{listOf}
+use Rattle.pool_state.specs.Kept.{heldL}
+use Rattle.pool_state.specs.Decode.{formIn}
 use Rattle.pool_state.specs.States.{State}
-use Rattle.pool_state.proofs.OnTries.{result-refused, result-fits, result-settles, result-granted}
+use Rattle.pool_state.proofs.Counted.{counted-refused, counted-fits, counted-settles, counted-granted}
 use Rattle.change_many.specs.Steps.{Pourable}
-use Rattle.change_many.proofs.Poured.{result-trie, pour-sources, pour-few, pour-result, pour-writable, pour-wrote}
+use Rattle.change_many.proofs.Poured.{result-trie, pour-sources, pour-few, pour-counted, pour-writable, pour-wrote}
 use Rattle.change_many.proofs.pouring.pour_found.Statement.{statement}
 use Rattle.change_many.proofs.pouring.pour_found.Tie as tie
 
@@ -19,9 +20,9 @@ abbrev start : tie.After-seat-in → tie.Start
 start c = c .before .before .before .before
 
 -- the nodes of the result
-counts : (c : tie.After-poured-size) (a : State → List Rule) (g : State → List Bits) → let s = start (c .before .before) .args in
-    (h : Pourable (now (s .pool)) (s .set) (s .v) (now (s .bytes)) (s .family) (s .into) a g) → c .poured-size .result ≡ size (result-trie h)
-counts c a g h = c .poured-size .ensures _ _ (pour-sources h (c .before .before .seat-in .ensures))
+counts : (c : tie.After-poured-nodes) (a : State → List Rule) (g : State → List Bits) → let s = start (c .before .before) .args in
+    (h : Pourable (now (s .pool)) (s .set) (s .v) (now (s .bytes)) (s .family) (s .into) a g) → c .poured-nodes .result ≡ heldL (formIn (now (s .pool))) (listOf (result-trie h))
+counts c a g h = c .poured-nodes .ensures _ _ (pour-sources h (c .before .before .seat-in .ensures))
 
 pub pour-found-spec : {M : Type 1} → statement M
 pour-found-spec =
@@ -39,7 +40,7 @@ pour-found-spec =
     let z = j .before .before in
     let p = start (z .before .before) .pre in
     let n = counts z _ _ (p .2) in
-    (_, _, pour-writable (p .2) n (result-fits (pour-result (p .2) n (p .3)) (j .judge .ensures) (e .enum-told .given .1))))
+    (_, _, pour-writable (p .2) n (counted-fits (pour-counted (p .2) n (p .3)) (j .judge .ensures) (e .enum-told .given .1))))
     (λ c κs.
     let x = c .before .before .before in
     let e = x .before .before in
@@ -47,13 +48,14 @@ pour-found-spec =
     let z = j .before .before in
     let p = start (z .before .before) .pre in
     let n = counts z _ _ (p .2) in
-    let r = pour-result (p .2) n (p .3) in
+    let r = pour-counted (p .2) n (p .3) in
     let o = e .enum-told .given .1 in
-    result-settles r (j .judge .ensures) o (pour-wrote (p .2) n (x .write .ensures _ _ (pour-writable (p .2) n (result-fits r (j .judge .ensures) o)))))
+    let f = counted-fits r (j .judge .ensures) o in
+    counted-settles r (j .judge .ensures) o (pour-wrote (p .2) n f (x .write .ensures _ _ (pour-writable (p .2) n f))))
     (λ c. search needs)
     (λ c a g h q.
     let j = c .before .before .before in
-    result-refused (pour-result h (counts (j .before .before) a g h) q) (j .judge .ensures) _ (c .before .verdict .given .1))
+    counted-refused (pour-counted h (counts (j .before .before) a g h) q) (j .judge .ensures) _ (c .before .verdict .given .1))
     (λ c. search needs)
     (λ c a g h q.
     let y = c .before .before in
@@ -61,6 +63,7 @@ pour-found-spec =
     let e = x .before .before in
     let j = e .before .before in
     let n = counts (j .before .before) a g h in
-    let r = pour-result h n q in
+    let r = pour-counted h n q in
     let o = e .enum-told .given .1 in
-    result-granted r (j .judge .ensures) o (pour-wrote h n (x .write .ensures _ _ (pour-writable h n (result-fits r (j .judge .ensures) o)))) (y .granted .ensures .0) (y .granted .ensures .1)))
+    let f = counted-fits r (j .judge .ensures) o in
+    counted-granted r (j .judge .ensures) o (pour-wrote h n f (x .write .ensures _ _ (pour-writable h n f))) (y .granted .ensures .0) (y .granted .ensures .1)))

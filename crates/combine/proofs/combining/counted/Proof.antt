@@ -21,7 +21,7 @@ counted-spec =
     (tie.spec
     (λ c κs. (_, _, _, begun-reads (c .before .before .pre .2)))
     (λ c. record { fits = result-few (start c .pre .2) (counts c (start c .pre .2)) })
-    (λ c κs. start (c .before) .pre .2 .ready .surveyed)
+    (λ c κs. start (c .before) .pre .2 .started .ready .surveyed)
     (λ c. search needs)
     (λ c. search needs)
     (λ c κs.

@@ -10,16 +10,16 @@ use Rattle.nets.specs.Bits.{Bits}
 use Rattle.nets.specs.Tries.{Trie}
 use Rattle.nets.specs.Networks.{netFrom}
 use Rattle.trie_paths.specs.Spans.{snoc}
-use Rattle.kept_emit.specs.Combine.{Inputs, Gap}
+use Rattle.kept_emit.specs.Combine.{Inputs, KeptGap}
 use Rattle.kept_emit.proofs.Answered.{len-of}
 use Rattle.kept_emit.proofs.Steps.{op-none, op-full, op-mixed, Halving, inside, left-inputs, left-gap, rest-inputs, rest-gap, pending, emitted}
 use Rattle.kept_emit.proofs.combining.emit.Reads as emit
 use Rattle.kept_emit.proofs.combining.emit.Kinds as emit-kinds
 use Rattle.kept_emit.proofs.combining.+emit.Lts-emit as emit-lts
 use Rattle.kept_emit.proofs.combining.halves.Reads as halves-reads
-use Rattle.kept_emit.proofs.combining.judge.Reads as judge-reads
+use Rattle.kept_emit.proofs.combining.outcome.Reads as outcome-reads
 use Rattle.kept_reading.proofs.strings.child.Reads as child-reads
-use Rattle.kept_emit.proofs.emitting.start_of.Reads as start-of-reads
+use Rattle.kept_emit.proofs.emitting.beginning_before.Reads as beginning-before-reads
 use Rattle.kept_emit.proofs.emitting.finish.Reads as finish-reads
 use Rattle.kept_emit.proofs.combining.+emit.{statement}
 use Rattle.kept_emit.proofs.combining.+emit.Tie.{close}
@@ -35,16 +35,16 @@ below t = and 1 emit-kinds.ps (falls 1 emit-kinds.ps _<_ μ-emit t) emit.Pre
 
 abbrev calls : ℕ → emit-lts.Claims
 calls t = (
-  judge-reads.Asked,
-  judge-reads.Learnt,
+  outcome-reads.Asked,
+  outcome-reads.Learnt,
   halves-reads.Asked,
   halves-reads.Learnt,
   child-reads.Asked,
   child-reads.Learnt,
   below t,
   emit.Post,
-  start-of-reads.Asked,
-  start-of-reads.Learnt,
+  beginning-before-reads.Asked,
+  beginning-before-reads.Learnt,
   finish-reads.Asked,
   finish-reads.Learnt,
 )
@@ -67,7 +67,7 @@ module _ (n : ℕ) where
       (c .before .before .halves .result .c) (c .halves2 .result .a) (c .halves2 .result .c)
   split c o p t u is s = record {
     src = s;
-    mixes = op-mixed s _ _ (c .before .before .before .before .before .before .judge .ensures o _ p t u (len-of _ p is) (s .first) (s .second))
+    mixes = op-mixed s _ _ (c .before .before .before .before .before .before .outcome .ensures o _ p t u (len-of _ p is) (s .first) (s .second))
         (c .before .before .before .before .before .if1 .left) (c .before .before .before .before .if2 .left);
     left = c .before .before .halves .ensures o _ p t u (len-of _ p is) (s .first) (s .second);
     right = c .halves2 .ensures o _ p t u (len-of _ p is) (s .first) (s .second);
@@ -77,9 +77,9 @@ pub +emit-spec : {M : Type 1} → statement M
 +emit-spec = close μ-emit λ n. emit-lts.spec (calls n) (at n) emit.Post
     (λ c κs. let (o, p, t, u, is, s, g) = c .before .before .pre .1 in (s .hold, (o, _, p, t, u, len-of _ p is, s .first, s .second)))
     (λ c. search needs)
-    (λ c o p t u is s g. op-none s _ _ (c .before .judge .ensures o _ p t u (len-of _ p is) (s .first) (s .second)) (c .if1 .taken))
+    (λ c o p t u is s g. op-none s _ _ (c .before .outcome .ensures o _ p t u (len-of _ p is) (s .first) (s .second)) (c .if1 .taken))
     (λ c. search needs)
-    (λ c o p t u is s g. op-full s _ _ (c .before .before .judge .ensures o _ p t u (len-of _ p is) (s .first) (s .second)) (c .if2 .taken))
+    (λ c o p t u is s g. op-full s _ _ (c .before .before .outcome .ensures o _ p t u (len-of _ p is) (s .first) (s .second)) (c .if2 .taken))
     (λ c κs. let (o, p, t, u, is, s, g) = c .before .before .before .before .before .before .pre .1 in
     (s .hold, (o, _, p, t, u, len-of _ p is, s .first, s .second)))
     (λ c κs. let (o, p, t, u, is, s, g) = c .before .before .before .before .before .before .before .before .pre .1 in
@@ -109,8 +109,8 @@ pub +emit-spec : {M : Type 1} → statement M
         _,
         c .before .child2 .ensures _ p is,
         rest-inputs d g _ _ _ y
-            (c .before .before .start-of .ensures),
-        rest-gap d g _ _ _ y (c .before .before .start-of .ensures),
+            (c .before .before .beginning-before .ensures),
+        rest-gap d g _ _ _ y (c .before .before .beginning-before .ensures),
       ),
     ))
     (λ c κs.
@@ -119,7 +119,7 @@ pub +emit-spec : {M : Type 1} → statement M
     let d = split n i o p t u is s in
     let y = c .before .before .before .before .before .before .before .before .before .emit .ensures o (snoc p false) _ _
     (c .before .before .before .before .before .before .before .before .before .before .before .child .ensures _ p is) (left-inputs d) (left-gap d g) in
-    let k = c .before .before .before .before .before .before .start-of .ensures in
+    let k = c .before .before .before .before .before .before .beginning-before .ensures in
     let x = c .before .before .before .emit2 .ensures o (snoc p true) _ _ (c .before .before .before .before .before .child2 .ensures _ p is)
     (rest-inputs d g _ _ _ y k) (rest-gap d g _ _ _ y k) in
     (_, p, _, _, is, pending d g _ _ _ y k _ _ x))
@@ -130,7 +130,7 @@ pub +emit-spec : {M : Type 1} → statement M
     let y = c .before .before .before .before .before .before .before .before .before .before .before .before .emit .ensures o (snoc p false) _ _
     (c .before .before .before .before .before .before .before .before .before .before .before .before .before .before .child .ensures _ p is) (left-inputs d)
     (left-gap d g) in
-    let k = c .before .before .before .before .before .before .before .before .before .start-of .ensures in
+    let k = c .before .before .before .before .before .before .before .before .before .beginning-before .ensures in
     let x = c .before .before .before .before .before .before .emit2 .ensures o (snoc p true) _ _
     (c .before .before .before .before .before .before .before .before .child2 .ensures _ p is) (rest-inputs d g _ _ _ y k) (rest-gap d g _ _ _ y k) in
     emitted d g _ _ _ y k _ _ x _ _ (λ v q a b r h. c .before .before .finish .ensures v q a b (is ∙ r) h))

@@ -17,8 +17,8 @@ use Rattle.kept_emit.proofs.combining.foresee.Reads as foresee
 use Rattle.kept_emit.proofs.combining.foresee.Kinds as foresee-kinds
 use Rattle.kept_emit.proofs.combining.+foresee.Lts-foresee as foresee-lts
 use Rattle.kept_emit.proofs.combining.halves.Reads as halves-reads
-use Rattle.kept_emit.proofs.combining.judge.Reads as judge-reads
-use Rattle.kept_emit.proofs.emitting.over.Reads as over-reads
+use Rattle.kept_emit.proofs.combining.outcome.Reads as outcome-reads
+use Rattle.kept_emit.proofs.emitting.answer_over.Reads as answer-over-reads
 use Rattle.kept_emit.proofs.combining.+foresee.{statement}
 use Rattle.kept_emit.proofs.combining.+foresee.Tie.{close}
 
@@ -32,7 +32,7 @@ abbrev below : ℕ → In 1 foresee-kinds.ps
 below t = and 1 foresee-kinds.ps (falls 1 foresee-kinds.ps _<_ μ-foresee t) foresee.Pre
 
 abbrev calls : ℕ → foresee-lts.Claims
-calls t = (judge-reads.Asked, judge-reads.Learnt, halves-reads.Asked, halves-reads.Learnt, below t, foresee.Post, over-reads.Asked, over-reads.Learnt)
+calls t = (outcome-reads.Asked, outcome-reads.Learnt, halves-reads.Asked, halves-reads.Learnt, below t, foresee.Post, answer-over-reads.Asked, answer-over-reads.Learnt)
 
 module _ (n : ℕ) where
   abbrev Start : Type 0
@@ -52,7 +52,7 @@ module _ (n : ℕ) where
       (c .halves2 .result .a) (c .halves2 .result .c)
   split c o e p t u q s = record {
     src = s;
-    mixes = op-mixed s _ _ (c .before .before .before .before .judge .ensures o e p t u q (s .first) (s .second)) (c .before .before .before .if1 .left)
+    mixes = op-mixed s _ _ (c .before .before .before .before .outcome .ensures o e p t u q (s .first) (s .second)) (c .before .before .before .if1 .left)
         (c .before .before .if2 .left);
     left = c .before .halves .ensures o e p t u q (s .first) (s .second);
     right = c .halves2 .ensures o e p t u q (s .first) (s .second);
@@ -61,8 +61,8 @@ module _ (n : ℕ) where
 pub +foresee-spec : {M : Type 1} → statement M
 +foresee-spec = close μ-foresee λ n. foresee-lts.spec (calls n) (at n) foresee.Post
     (λ c κs. let (o, e, p, t, u, q, s) = c .before .pre .1 in (s .hold, (o, e, p, t, u, q, s .first, s .second)))
-    (λ c o e p t u q s. op-none s _ _ (c .before .judge .ensures o e p t u q (s .first) (s .second)) (c .if1 .taken) .answers)
-    (λ c o e p t u q s. op-full s _ _ (c .before .before .judge .ensures o e p t u q (s .first) (s .second)) (c .if2 .taken) .answers)
+    (λ c o e p t u q s. op-none s _ _ (c .before .outcome .ensures o e p t u q (s .first) (s .second)) (c .if1 .taken) .answers)
+    (λ c o e p t u q s. op-full s _ _ (c .before .before .outcome .ensures o e p t u q (s .first) (s .second)) (c .if2 .taken) .answers)
     (λ c κs. let (o, e, p, t, u, q, s) = c .before .before .before .before .pre .1 in (s .hold, (o, e, p, t, u, q, s .first, s .second)))
     (λ c κs. let (o, e, p, t, u, q, s) = c .before .before .before .before .before .pre .1 in (s .hold, (o, e, p, t, u, q, s .first, s .second)))
     (λ c. let (o, e, p, t, u, q, s) = start n c .pre .1 in omega (arith, inside (split n c o e p t u q s), width-le (start n c .args .family)))
@@ -102,4 +102,4 @@ pub +foresee-spec : {M : Type 1} → statement M
     (λ c o e p t u q s.
     foreseen (split n (c .before .before .before) o e p t u q s) _ _
     (λ o₁ e₁ k v z le i. c .before .before .foresee .ensures o₁ e₁ k v z (le ∙ ap (λ (j : ℕ). j + 1) q) i)
-    (λ o₁ e₁ k v z le i. c .before .foresee2 .ensures o₁ e₁ k v z (le ∙ ap (λ (j : ℕ). j + 1) q) i) _ (c .over .ensures))
+    (λ o₁ e₁ k v z le i. c .before .foresee2 .ensures o₁ e₁ k v z (le ∙ ap (λ (j : ℕ). j + 1) q) i) _ (c .answer-over .ensures))

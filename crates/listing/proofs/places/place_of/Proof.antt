@@ -9,17 +9,18 @@ place-of-spec =
     tie.close
     (tie.spec
     (λ c. search needs)
+    (λ c κs. search needs)
     (λ c. search needs)
-    (λ c. place-family _ (c .before .before .before .from .given .1) (c .if1 .taken))
+    (λ c. place-family _ (c .before .before .before .before .from .given .1) (c .if1 .taken))
     (λ c κs. search needs)
     (λ c. search needs)
     (λ c. search needs)
-    (λ c. place-start (c .enum-told .given .1))
+    (λ c. place-start (c .before .enum-told .given .1) (c .before-all .ensures))
     (λ c.
     let p = c .before .before .before in
     let k = p .before in
-    place-past _ (k .before .before .before .from .given .1) (k .if1 .left) _ (p .prefix-bits .ensures) _ (c .before .prefix .given .1))
+    place-past _ (k .before .before .before .before .from .given .1) _ (p .to-network .ensures) (k .if1 .left) _ _ (c .before .entered .given .1))
     (λ c.
     let p = c .before .before .before in
     let k = p .before in
-    place-refused _ (k .before .before .before .from .given .1) (k .if1 .left) _ (p .prefix-bits .ensures) _ (c .before .prefix2 .given .1)))
+    place-refused _ (k .before .before .before .before .from .given .1) _ (p .to-network .ensures) (k .if1 .left) _ (c .before .entered2 .given .1)))

@@ -1,7 +1,6 @@
 -- `beginning::from_root` meets its contract. Assumes nothing.
-use native.Mathlib.Omega.{arith}
-use borrow.Author.Needs.{needs}
-use Rattle.pool_state.proofs.Header.{isHeader-header, header-room}
+use mathlib.Core.Path.{_∙_}
+use Rattle.lookup.proofs.Beginnings.{ground-room, root-walk}
 use Rattle.lookup.proofs.beginning.from_root.Statement.{statement}
 use Rattle.lookup.proofs.beginning.from_root.Tie as tie
 
@@ -9,14 +8,6 @@ pub from-root-spec : {M : Type 1} → statement M
 from-root-spec =
     tie.close
     (tie.spec
-    (λ c. let p = c .before .pre in omega (arith, isHeader-header _ (p .0), p))
-    (λ c. let p = c .before .pre in omega (arith, isHeader-header _ (p .0), p))
-    (λ c. let p = c .before .pre in omega (arith, isHeader-header _ (p .0), p))
-    (λ c. let p = c .before .before .pre in omega (arith, isHeader-header _ (p .0), p))
-    (λ c. let p = c .before .before .before .pre in omega (arith, isHeader-header _ (p .0), p))
-    (λ c. let p = c .before .before .before .pre in omega (arith, isHeader-header _ (p .0), p))
-    (λ c. let p = c .before .before .before .pre in omega (arith, isHeader-header _ (p .0), p))
-    (λ c. let p = c .before .before .before .pre in omega (arith, isHeader-header _ (p .0), p))
-    (λ c. let p = c .before .before .before .before .pre in omega (arith, isHeader-header _ (p .0), p))
-    (λ c κs. let p = c .before .before .before .before .pre in (header-room (isHeader-header _ (p .0)), p .2))
-    (λ c. search needs))
+    (λ c κs. let p = c .before .pre in (p .0, p .1))
+    (λ c κs. let p = c .before .before .pre in (ground-room _ _ (c .grounds .ensures) (p .0), p .2))
+    (λ c. c .walk-from .ensures ∙ root-walk _ _ (c .before .grounds .ensures) _))

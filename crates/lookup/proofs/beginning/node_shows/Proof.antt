@@ -13,5 +13,6 @@ node-shows-spec =
     (λ c κs. search needs)
     (λ c. c .walk-down .ensures ∙ node-walk _ _ _ _ _ _ (c .before .if1 .taken) (omega (arith, c .before .before .before .pre .3)))
     (λ c κs. search needs)
+    (λ c. omega (arith, c .before .before .before .before .pre .5))
     (λ c. node-member _ _ _ _ _ _ (c .before .before .if1 .left) (sym (c .before .word-at .ensures) ∙ c .if2 .taken))
     (λ c. node-damaged _ _ _ _ _ _ (c .before .before .if1 .left) (λ z. c .if2 .left (c .before .word-at .ensures ∙ z))))

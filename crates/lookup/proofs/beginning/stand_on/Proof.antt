@@ -1,5 +1,5 @@
 -- `beginning::stand_on` meets its contract, by its tests. Assumes nothing.
-use mathlib.Core.Path.{sym, _∙_}
+use mathlib.Core.Path.{_∙_}
 use native.Mathlib.Omega.{arith}
 use borrow.Author.Needs.{needs}
 use Rattle.lookup.proofs.Beginnings.{word-under, word-over, word-node, word-low, word-high, word-absent}
@@ -16,7 +16,7 @@ stand-on-spec =
     (λ c. word-over _ _ _ _ _ _ (c .before .before .if1 .taken) (c .if3 .taken))
     (λ c. omega (arith, c .before .before .if1 .taken))
     (λ c. omega (arith, c .if3 .left, c .before .before .before .before .pre .0 .few))
-    (λ c κs. let p = c .before .before .before .before .pre in (p .0, omega (arith, c .before .if2 .left), c .if3 .left, p .1, p .2))
+    (λ c κs. let p = c .before .before .before .before .pre in (p .0, omega (arith, c .before .if2 .left), c .if3 .left, p .1, p .2, c .before .before .if1 .taken))
     (λ c. let e = c .before in c .node-shows .ensures ∙ word-node _ _ _ _ _ _ (e .before .before .if1 .taken) (omega (arith, e .before .if2 .left)) (e .if3 .left))
     (λ c. word-low _ _ _ _ _ _ (c .before .if1 .left) (c .if4 .taken))
     (λ c. word-high _ _ _ _ _ _ (c .before .before .if1 .left) (c .if5 .taken))

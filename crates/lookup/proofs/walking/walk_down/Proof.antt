@@ -1,7 +1,7 @@
 -- `walking::walk_down` meets its contract. The loop's invariant: the walk from here shows what the whole walk shows. Assumes nothing.
 use denote.Ref.{now}
 use mathlib.Core.Path.{refl, ap, sym, _∙_}
-use Prim.Native.Nat.{_+_, _-_}
+use Prim.Native.Nat.{_-_}
 use native.Mathlib.Omega.{arith}
 use borrow.Author.Needs.{needs}
 use lib.ListN.{getD}
@@ -60,6 +60,7 @@ walk-down-spec =
     (λ c. omega (arith, c .shared-slice-known2 .given (turn (told c .before .before) .loop .p), placed-asks (start (turn (told c .before .before)) .pre .0) (turn (told c .before .before) .loop .inv)))
     (λ c κs. let o = turn (told (c .before) .before .before) in placed-asks (start o .pre .0) (o .loop .inv))
     (λ c. c .walk-tested2 .ensures ∙ turn (told (c .before .before) .before .before) .loop .inv .down .rest)
+    (λ c. search needs)
     (λ c. seen-leaf (seen (c .before .before)) (c .if3 .taken))
     (λ c κs. search needs)
     (λ c. search needs)

@@ -53,6 +53,7 @@ walk-tested-spec =
     (λ c. search needs)
     (λ c. record { one = omega arith; within = omega arith; few = omega arith; rest = refl })
     (λ c κs. search needs)
+    (λ c. omega (arith, c .before .before .loop .inv .few))
     (λ c. down-leaf (c .before .before .loop .inv) (c .before .word-at .ensures) (c .if1 .taken))
     (λ c. search needs)
     (λ c. down-first (c .before .before .before .loop .inv) (c .before .before .word-at .ensures) (c .before .if1 .left) (c .if2 .taken))

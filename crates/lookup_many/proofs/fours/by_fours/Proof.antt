@@ -6,13 +6,13 @@ use native.Mathlib.Omega.{arith}
 use borrow.Author.Needs.{needs}
 use Rattle.pool_state.proofs.Header.{isHeader-header}
 use Rattle.lookup_many.specs.Rules.{askedOf}
-use Rattle.lookup_many.proofs.Rows.{fill-none, Written, written-start, written-next}
+use Rattle.lookup_many.proofs.Rows.{fill-none, FilledTo, filled-start, filled-next}
 use Rattle.lookup_many.proofs.Ending.{seated}
 use Rattle.lookup_many.proofs.fours.by_fours.Statement.{statement}
 use Rattle.lookup_many.proofs.fours.by_fours.Tie as tie
 
 abbrev Inv-loop : tie.InvT-loop
-Inv-loop w set family queries answers₀ b n root tag i₀ answers i = Written (askedOf w set family queries) (length queries / 3) answers₀ answers i
+Inv-loop w set family queries answers₀ b n root tag i₀ answers i = FilledTo (askedOf w set family queries) (length queries / 3) answers₀ answers i
 
 abbrev μ-loop : tie.MeasureT-loop
 μ-loop w set family queries answers₀ b n root tag i₀ answers i = length queries / 3 - i
@@ -37,18 +37,20 @@ by-fours-spec =
     (λ c. let h = c .before .before .before .before .before .before .pre in omega (arith, h .1, isHeader-header _ (h .0)))
     (λ c. let h = c .before .before .before .before .before .before .pre in omega (arith, h .1, isHeader-header _ (h .0)))
     (λ c. let h = c .before .before .before .before .before .before .before .pre in omega (arith, h .1, isHeader-header _ (h .0)))
+    (λ c. let h = c .before .before .before .before .before .before .before .before .pre in omega (arith, h .1, isHeader-header _ (h .0)))
     (λ c. (omega arith, fill-none _ _))
     (λ c. (omega arith, fill-none _ _))
     (λ c. (omega arith, fill-none _ _))
-    (λ c. written-start _ _ _)
+    (λ c. (omega arith, fill-none _ _))
+    (λ c. filled-start _ _ _)
     (λ c. search (needs, c .loop .inv .le))
     (λ c κs.
     let t = c .before in
     let l = t .before in
     let e = l .before in
     let d = e .before in
-    let h = d .before .before .before .before .before .before .before .before .before .pre in (
-      seated (h .0) (h .1) (d .before .if1 .left) refl refl (d .if2 .left) (e .if3 .left) (h .2),
+    let h = d .before .before .before .before .before .before .before .before .before .before .before .pre in (
+      seated (h .0) (h .1) (d .before .before .if1 .left) (d .before .if2 .left) refl refl (d .if3 .left) (e .if4 .left) (h .2),
       record { queries = t .loop-test .taken; answers = omega (arith, l .loop .inv .same, h .3) },
     ))
     (λ c. search (needs, c .before .before .before .before .loop-test .taken))
@@ -56,6 +58,6 @@ by-fours-spec =
     (λ c.
     let x = c .before .before in
     let t = x .before .before in
-    written-next _ _ _ _ _ _ (t .before .loop .inv) (t .loop-test .taken) (x .four .ensures))
+    filled-next _ _ _ _ _ _ (t .before .loop .inv) (t .loop-test .taken) (x .four .ensures))
     (λ c. c .before .loop .inv .same)
     (λ c. let i = c .before .loop .inv in (i .le, i .is)))

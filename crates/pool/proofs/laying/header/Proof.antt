@@ -1,4 +1,4 @@
--- `laying::header` meets its contract: four stores are one write. Assumes nothing.
+-- `laying::header` meets its contract: four stores are one write, and one stands behind them. Assumes nothing.
 use native.Mathlib.Omega.{arith}
 use lib.ListN.{length-set}
 use borrow.Author.Needs.{needs}
@@ -13,6 +13,7 @@ header-spec =
     (λ c. search needs)
     (λ c. simp length-set (omega arith))
     (λ c. simp length-set (omega arith))
+    (λ c. simp length-set (omega arith))
+    (λ c. simp length-set (omega arith))
     (λ c. search needs)
-    (λ c. search needs)
-    (λ c. set-header _ _ _ _ _))
+    (λ c. set-header _ _ _ _ _ _))

@@ -32,7 +32,7 @@ reindex-spec =
     (λ c κs.
     let e = c .before .before .before .before in
     let h = e .before .before .before .pre in
-    ((index-room h, omega (arith, index-fits h (e .if1 .left), e .if1 .left), omega (arith, h, e .if1 .left)), rw (c .own-root .ensures) (index-rooted h)))
+    ((index-room h, omega (arith, index-fits h (e .if1 .left), e .if1 .left), omega (arith, h, e .if1 .left)), rw (c .own-root .ensures) (index-rooted h (e .if1 .left))))
     (λ c. search needs)
     (λ c.
     let r = c .before .before .before in

@@ -2,7 +2,7 @@
 use denote.Ref.{now}
 use borrow.Author.Needs.{needs}
 use Rattle.pool_state.proofs.Seats.{Seats, seated-refused, seated-at}
-use Rattle.setfile.proofs.Loads.{ask-refused, ask-broken, ask-family, ask-occupied, ask-file}
+use Rattle.setfile.proofs.Loads.{ask-refused, ask-broken, ask-family, ask-occupied, ask-reads, ask-file}
 use Rattle.setfile.proofs.loading.ask.Statement.{statement}
 use Rattle.setfile.proofs.loading.ask.Tie as tie
 
@@ -28,10 +28,16 @@ ask-spec =
     let f = e .before .before .before in
     let k = f .before .before in
     ask-occupied _ (seats k) (k .check .ensures) (f .checked .given .1) (e .if1 .left) (c .if2 .taken))
-    (λ c. ask-refused _ (c .before .seated .given .0 .0) (seated-refused _ _ (c .before .before .before .seat-of .ensures) _ (c .before .seated .given .1)))
-    (λ c. let k = c .before .before in ask-broken _ (seats k) (k .check .ensures) (c .enum-told .given .1))
-    (λ c.
+    (λ c κs.
     let e = c .before .before in
     let f = e .before .before .before in
     let k = f .before .before in
-    ask-file _ (seats k) (k .check .ensures) (f .checked .given .1) (e .if1 .left) (c .if2 .left)))
+    ask-reads _ (seats k) (k .check .ensures) (f .checked .given .1) (e .if1 .left))
+    (λ c. ask-refused _ (c .before .seated .given .0 .0) (seated-refused _ _ (c .before .before .before .seat-of .ensures) _ (c .before .seated .given .1)))
+    (λ c. let k = c .before .before in ask-broken _ (seats k) (k .check .ensures) (c .enum-told .given .1))
+    (λ c.
+    let x = c .before in
+    let e = x .before .before in
+    let f = e .before .before .before in
+    let k = f .before .before in
+    ask-file _ (seats k) (k .check .ensures) (f .checked .given .1) (e .if1 .left) (x .if2 .left) (c .nodes-in .ensures)))

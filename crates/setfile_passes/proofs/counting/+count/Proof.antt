@@ -18,7 +18,7 @@ use Rattle.setfile_passes.proofs.counting.+count.Lts-count as count-lts
 use Rattle.trie_pour.proofs.nodes_of.Reads as nodes-of-reads
 use Rattle.trie_pour.proofs.step.Reads as step-reads
 use Rattle.trie_pour.proofs.flat_size.Reads as flat-size-reads
-use Rattle.trie_pour.proofs.over.Reads as over-reads
+use Rattle.trie_pour.proofs.glued_size.Reads as glued-size-reads
 use Rattle.setfile_below.proofs.is_whole.Reads as is-whole-reads
 use Rattle.setfile_below.proofs.pass.Reads as pass-reads
 use Rattle.setfile_below.proofs.first.Reads as first-reads
@@ -53,8 +53,8 @@ calls t = (
   count.Post,
   second-reads.Asked,
   second-reads.Learnt,
-  over-reads.Asked,
-  over-reads.Learnt,
+  glued-size-reads.Asked,
+  glued-size-reads.Learnt,
 )
 
 module _ (n : ℕ) where
@@ -150,4 +150,4 @@ pub +count-spec : {M : Type 1} → statement M
     let x = l .count .ensures _ _ _ _ _ (count-left o (g .few) _ f) in
     let e = b .before .before .second .ensures in
     let y = b .count2 .ensures _ _ _ _ _ (count-right o (g .few) _ (f .0) (x .1) _ e) in
-    (c .over .ensures (one o) (two o) (rw (x .0, y .0)) ∙ rw (opened-pour o), pass-both (o .part) _ (e .0) (y .1)))
+    (c .glued-size .ensures (one o) (two o) (rw (x .0, y .0)) ∙ rw (opened-pour o), pass-both (o .part) _ (e .0) (y .1)))

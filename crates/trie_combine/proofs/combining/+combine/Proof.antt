@@ -20,7 +20,7 @@ use Rattle.trie_combine.proofs.combining.+combine.Lts-combine as combin
 use Rattle.nodes.proofs.steps.middle.Reads as middle-reads
 use Rattle.nodes.proofs.steps.word.Reads as word-reads
 use Rattle.trie_spans.proofs.answering.above.Reads as above-reads
-use Rattle.trie_spans.proofs.answering.over.Reads as over-reads
+use Rattle.trie_spans.proofs.answering.over_halves.Reads as over-halves-reads
 use Rattle.trie_combine.proofs.combining.are_mixed.Reads as are-mixed-reads
 use Rattle.trie_combine.proofs.combining.flat.Reads as flat-reads
 use Rattle.trie_combine.proofs.combining.is_only.Reads as is-only-reads
@@ -38,7 +38,7 @@ abbrev below : ℕ → In 1 combine-kinds.ps
 below t = and 1 combine-kinds.ps (falls 1 combine-kinds.ps _<_ μ-combine t) combine.Pre
 
 abbrev calls : ℕ → combine-lts.Claims
-calls t = (kind-reads.Asked, kind-reads.Learnt, are-mixed-reads.Asked, are-mixed-reads.Learnt, flat-reads.Asked, flat-reads.Learnt, word-reads.Asked, word-reads.Learnt, is-only-reads.Asked, is-only-reads.Learnt, below t, combine.Post, above-reads.Asked, above-reads.Learnt, middle-reads.Asked, middle-reads.Learnt, over-reads.Asked, over-reads.Learnt)
+calls t = (kind-reads.Asked, kind-reads.Learnt, are-mixed-reads.Asked, are-mixed-reads.Learnt, flat-reads.Asked, flat-reads.Learnt, word-reads.Asked, word-reads.Learnt, is-only-reads.Asked, is-only-reads.Learnt, below t, combine.Post, above-reads.Asked, above-reads.Learnt, middle-reads.Asked, middle-reads.Learnt, over-halves-reads.Asked, over-halves-reads.Learnt)
 
 module _ (n : ℕ) where
   abbrev Start : Type 0
@@ -216,4 +216,4 @@ pub +combine-spec : {M : Type 1} → statement M
     let d = parts n (inside n k) g t u s in
     let l = wrote n k g t u s p in
     let h = wrote-rest n r g t u s p in
-    combined d p _ _ l _ _ h _ _ (v .over .ensures _ _ _ (both d p _ _ l _ _ h)))
+    combined d p _ _ l _ _ h _ _ (v .over-halves .ensures _ _ _ (both d p _ _ l _ _ h)))

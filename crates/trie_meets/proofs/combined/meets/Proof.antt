@@ -33,5 +33,6 @@ meets-spec =
     (λ c κs. let (t, u, s) = start c .pre .1 in (_, _, parts c t u s))
     (λ c t u s.
     let a = start (c .before) .args in
-    meets-down s (bitsLeft (a .s)) (a .s .len) (sym (length-bitsLeft (a .s) (start (c .before) .pre .0 .0))) (start (c .before) .pre .0 .1) (a .op) _
+    meets-down (a .op) (a .fuel) t u (bitsLeft (a .s)) (a .s .len) (sym (length-bitsLeft (a .s) (start (c .before) .pre .0 .0)))
+    (start (c .before) .pre .0 .1) _
     (c .leaves .ensures _ _ (parts (c .before) t u s))))

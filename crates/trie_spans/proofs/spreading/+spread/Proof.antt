@@ -20,7 +20,7 @@ use Rattle.nodes.proofs.steps.middle.Reads as middle-reads
 use Rattle.nodes.proofs.steps.word.Reads as word-reads
 use Rattle.trie_blocks.proofs.joining.join_from.Reads as join-from-reads
 use Rattle.trie_spans.proofs.answering.block.Reads as block-reads
-use Rattle.trie_spans.proofs.answering.over.Reads as over-reads
+use Rattle.trie_spans.proofs.answering.over_halves.Reads as over-halves-reads
 use Rattle.trie_spans.proofs.extents.kind.Reads as kind-reads
 use Rattle.trie_spans.proofs.spreading.+spread.{statement}
 use Rattle.trie_spans.proofs.spreading.+spread.Tie.{close}
@@ -35,7 +35,7 @@ abbrev below : ℕ → In 1 spread-kinds.ps
 below t = and 1 spread-kinds.ps (falls 1 spread-kinds.ps _<_ μ-spread t) spread.Pre
 
 abbrev calls : ℕ → spread-lts.Claims
-calls t = (block-reads.Asked, block-reads.Learnt, kind-reads.Asked, kind-reads.Learnt, word-reads.Asked, word-reads.Learnt, middle-reads.Asked, middle-reads.Learnt, below t, spread.Post, join-from-reads.Asked, join-from-reads.Learnt, over-reads.Asked, over-reads.Learnt)
+calls t = (block-reads.Asked, block-reads.Learnt, kind-reads.Asked, kind-reads.Learnt, word-reads.Asked, word-reads.Learnt, middle-reads.Asked, middle-reads.Learnt, below t, spread.Post, join-from-reads.Asked, join-from-reads.Learnt, over-halves-reads.Asked, over-halves-reads.Learnt)
 
 module _ (n : ℕ) where
   abbrev Start : Type 0
@@ -145,4 +145,4 @@ pub +spread-spec : {M : Type 1} → statement M
     let d = parts n (k .before .before) g t s in
     let l = wrote n k g t s p in
     let h = wrote-rest n r g t s p in
-    combined d p _ _ l _ _ h _ _ (v .over .ensures _ _ _ (both d p _ _ l _ _ h)))
+    combined d p _ _ l _ _ h _ _ (v .over-halves .ensures _ _ _ (both d p _ _ l _ _ h)))

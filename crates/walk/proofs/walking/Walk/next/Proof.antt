@@ -44,14 +44,14 @@ use denote.Triple.Spec.{Meets, tripleOf}
 use denote.Triple.Table.{entered, cited}
 use denote.Triple.Walked.{says, needs, Stays, stay-ref, walkOf, goes-ref, Walks, ends-at, walked, walk-meets}
 use denote.Triple.Clauses.{ensured, lasts}
-use Rattle.trie_spots.specs.Spots.{Goes}
+use Rattle.listing.specs.Seated.{GoesIn}
 use Rattle.trie_spots.specs.declared.spots.Spot.{Spot}
 use Rattle.trie_spots.proofs.spots.Spot as O
 use Rattle.trie_spots.proofs.spots.Spot.Laws as O′
-use Rattle.trie_spots.proofs.spots.go_on as go-on
-use Rattle.trie_spots.proofs.spots.go_on.Symbol as go-on-def
-use Rattle.trie_spots.proofs.spots.go_on.Symbol.{name as #go-on}
-use Rattle.trie_spots.proofs.spots.go_on.Met as go-on-thm
+use Rattle.listing.proofs.seated.go_on as go-on
+use Rattle.listing.proofs.seated.go_on.Symbol as go-on-def
+use Rattle.listing.proofs.seated.go_on.Symbol.{name as #go-on}
+use Rattle.listing.proofs.seated.go_on.Met as go-on-thm
 use Rattle.walk.specs.Walks.{walkOn, Walking}
 use Rattle.walk.specs.declared.walking.Walk.{Walk}
 use Rattle.walk.proofs.Steps.{words, Told, goes, stepped}
@@ -129,7 +129,8 @@ module _ {M : Type 1} (𝓤 : URA M) (H : Heap 𝓤) (A : Atoms 𝓤) (W : Given
   abbrev to-go : GoOn 𝓤 H A at-mem run .Ghost
   to-go = (((κ′, tt), (q′, tt), tt, y, passed), tt)
 
-  goes-on : Is R (d .spot) (spot (d .spot) ∷ []) → Goes (words d) (d .spot) → ent 𝓤 (⋆ 𝓤 H A (tok ∷ ‵ (Own d) ∷ [])) (sep 𝓤 (GoOn 𝓤 H A at-mem run .pre to-go) (sem 𝓤 H A (Own d)))
+  goes-on : Is R (d .spot) (spot (d .spot) ∷ []) → GoesIn (words d) (d .spot)
+      → ent 𝓤 (⋆ 𝓤 H A (tok ∷ ‵ (Own d) ∷ [])) (sep 𝓤 (GoOn 𝓤 H A at-mem run .pre to-go) (sem 𝓤 H A (Own d)))
   goes-on is asked =
       qed W (tok ∷ ‵ (Own d) ∷ []) ∵ move ! (1 ∷ []) $ use1 W (‵ (Own d) ⊛ ‵ (Own d)) (LL.copy D (T′.the-copy α) 𝓤 H A W .twice d (val d ∷ [])) $ split ! $
       use1 W (given (val d ∷ [] ≡ val d ∷ []) (‵ (all-own (D .parts) L vd))) (own-open 𝓤 H A W D L vd (val d)) $ learn ! (λ _.
@@ -202,4 +203,4 @@ next-spec 𝓤 H 𝓜 𝓖 𝓡 =
     entered 𝓤 H (tripleOf 𝓤 H (𝓖 .A) f.signature (f.spec 𝓤 H (𝓖 .A) (𝓜 .mem) (𝓡 .run)))
     (tables 𝓤 H 𝓜 𝓡 code.env .C) (tables 𝓤 H 𝓜 𝓡 code.env .Λ) #next code.function (code.unfolded 𝓤 H 𝓜 𝓡)
     (next-meets 𝓤 H (𝓖 .A) (givenOf 𝓤 H 𝓜 𝓖) (𝓜 .mem) (𝓡 .run) (tablesOf 𝓤 H 𝓜 (tables 𝓤 H 𝓜 𝓡 code.env))
-    (cited 𝓤 H (GoOn 𝓤 H (𝓖 .A) (𝓜 .mem) (𝓡 .run)) 𝓜 𝓡 code.env #go-on go-on-def.routine code.calls-trie-spots·spots·go-on (go-on-thm.met 𝓤 H 𝓜 𝓖 𝓡)))
+    (cited 𝓤 H (GoOn 𝓤 H (𝓖 .A) (𝓜 .mem) (𝓡 .run)) 𝓜 𝓡 code.env #go-on go-on-def.routine code.calls-listing·seated·go-on (go-on-thm.met 𝓤 H 𝓜 𝓖 𝓡)))

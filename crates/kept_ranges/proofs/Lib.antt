@@ -1,0 +1,2 @@
+-- The turns of the loop.
+pub mod Turns

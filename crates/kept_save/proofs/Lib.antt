@@ -1,0 +1,2 @@
+-- The entry of a member.
+pub mod Entries

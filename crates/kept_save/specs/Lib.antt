@@ -1,0 +1,2 @@
+-- What writing the file of a trie in the second form asks.
+pub mod Saved

@@ -1,0 +1,2 @@
+-- The spots from which one can go on.
+pub mod Onward

@@ -1,0 +1,2 @@
+-- What the pass over a pool says of one of its sets.
+pub mod Sets
