@@ -51,6 +51,11 @@ uint64_t marlbrace_layout(uint32_t *pool, size_t pool_len, uint8_t family, uint3
 uint64_t marlbrace_words_indexed(uint32_t sets, uint32_t nodes, uint32_t indexed);
 uint64_t marlbrace_layout_indexed(uint32_t *pool, size_t pool_len, uint8_t family, uint32_t sets, uint32_t nodes, const uint32_t *shares, size_t shares_len,
                                   const uint32_t *limits, size_t limits_len, uint64_t indexed);
+/* The same with every choice. Form 0 is the first, as above: a node for each leading string of bits. Form 1, the second, keeps only members and the branch
+ * points where members part: a list of m members, if it has any, takes 2 m - 1 nodes. A pool in it needs as many words, and no set of it is indexed. What is
+ * granted in the first form is granted in the second, with the same lists and lookups; only nodes are counted otherwise. */
+uint64_t marlbrace_layout_form(uint32_t *pool, size_t pool_len, uint8_t family, uint32_t form, uint32_t sets, uint32_t nodes, const uint32_t *shares,
+                               size_t shares_len, const uint32_t *limits, size_t limits_len, uint64_t indexed);
 uint64_t marlbrace_free(const uint32_t *pool, size_t pool_len);                      /* value: free nodes */
 uint64_t marlbrace_held(const uint32_t *pool, size_t pool_len, uint32_t set);        /* value: nodes of the set */
 uint64_t marlbrace_networks(const uint32_t *pool, size_t pool_len, uint32_t set);    /* value: networks of the set */

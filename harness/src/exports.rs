@@ -10,6 +10,7 @@ extern "C" {
     fn marlbrace_layout(pool: *mut u32, pool_len: usize, family: u8, sets: u32, nodes: u32, shares: *const u32, shares_len: usize, limits: *const u32, limits_len: usize) -> u64;
     fn marlbrace_words_indexed(sets: u32, nodes: u32, indexed: u32) -> u64;
     fn marlbrace_layout_indexed(pool: *mut u32, pool_len: usize, family: u8, sets: u32, nodes: u32, shares: *const u32, shares_len: usize, limits: *const u32, limits_len: usize, indexed: u64) -> u64;
+    fn marlbrace_layout_form(pool: *mut u32, pool_len: usize, family: u8, form: u32, sets: u32, nodes: u32, shares: *const u32, shares_len: usize, limits: *const u32, limits_len: usize, indexed: u64) -> u64;
     fn marlbrace_free(pool: *const u32, pool_len: usize) -> u64;
     fn marlbrace_held(pool: *const u32, pool_len: usize, set: u32) -> u64;
     fn marlbrace_networks(pool: *const u32, pool_len: usize, set: u32) -> u64;
@@ -165,11 +166,12 @@ fn answered(pool: &mut [u32], c: &Call) -> Option<(u64, Vec<u8>)> {
                 let (words, more) = (c.net.len as usize, (c.c % 256) as usize);
                 let at = |k: usize| (0..4).map(|j| (*c.tail.get(4 * k + j).unwrap_or(&0) as u32) << (8 * j)).sum::<u32>();
                 let (shares, limits): (Vec<u32>, Vec<u32>) = ((0..words).map(at).collect(), (words..words + more).map(at).collect());
-                // where no set is marked either does
-                if n.hi == 0 && c.b % 2 == 0 {
-                    marlbrace_layout(w, m, n.family, c.a, c.b, shares.as_ptr(), shares.len(), limits.as_ptr(), limits.len())
-                } else {
-                    marlbrace_layout_indexed(w, m, n.family, c.a, c.b, shares.as_ptr(), shares.len(), limits.as_ptr(), limits.len(), n.hi)
+                let (s, l) = (shares.as_ptr(), limits.as_ptr());
+                // what chooses the form and the sets to be indexed does for all; the others where there is less to choose
+                match (c.c / 256, n.hi, c.b % 3) {
+                    (0, 0, 0) => marlbrace_layout(w, m, n.family, c.a, c.b, s, words, l, more),
+                    (0, _, 1) => marlbrace_layout_indexed(w, m, n.family, c.a, c.b, s, words, l, more, n.hi),
+                    (form, _, _) => marlbrace_layout_form(w, m, n.family, form, c.a, c.b, s, words, l, more, n.hi),
                 }
             }
             FREE => marlbrace_free(w, m),
@@ -250,8 +252,8 @@ fn many(words: &[u32], c: &Call) -> Option<String> {
     let mut expected = answers.clone();
     let no = match header(words) {
         None => 2,
-        Some((_, sets, _)) if c.a as usize >= sets => 3,
-        Some((other, _, _)) if other != family => 6,
+        Some(h) if c.a as usize >= h.sets => 3,
+        Some(h) if h.family != family => 6,
         Some(_) => if answers.len() < queries.len() { 11 } else { 0 },
     };
     for (i, &[hi, lo, len]) in queries.iter().enumerate().filter(|_| no == 0) {

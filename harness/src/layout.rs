@@ -1,8 +1,51 @@
 //! The words of a pool, by docs/LAYOUT.md alone: what they hold, and what a state is written as.
-use crate::lists::{cleared, meets_inner, nodes, width, List};
+use crate::kept;
+use crate::lists::{self, cleared, meets_inner, width, List, Member};
 use std::collections::{BTreeMap, BTreeSet};
 
 pub const MARK: u32 = 1296126540;
+
+/// How a pool keeps its lists, by the number in word 5.
+#[derive(Clone, Copy, Debug, PartialEq, Eq)]
+pub enum Form {
+    /// A node for each leading string of a member.
+    First,
+    /// A node for each member and each branch point.
+    Second,
+}
+
+impl Form {
+    pub const BOTH: [Form; 2] = [Form::First, Form::Second];
+
+    pub fn of(number: u32) -> Option<Form> {
+        Form::BOTH.into_iter().find(|&form| form as u32 == number)
+    }
+
+    /// How many words a node takes.
+    pub fn stride(self, family: u8) -> usize {
+        match (self, family) {
+            (Form::First, _) => 1,
+            (Form::Second, 4) => 2,
+            (Form::Second, _) => 5,
+        }
+    }
+
+    /// The nodes of a list.
+    pub fn nodes(self, w: u8, l: &List) -> u64 {
+        match self {
+            Form::First => lists::nodes(w, l),
+            Form::Second => (2 * l.len() as u64).saturating_sub(1),
+        }
+    }
+
+    /// The nodes that a lookup counts.
+    pub fn steps(self, w: u8, l: &List, n: Member) -> u32 {
+        match self {
+            Form::First => lists::steps(w, l, n),
+            Form::Second => lists::kept_steps(w, l, n),
+        }
+    }
+}
 
 #[derive(Clone, Debug, PartialEq, Eq)]
 pub struct Set {
@@ -16,6 +59,7 @@ pub struct Set {
 #[derive(Clone, Debug, PartialEq, Eq)]
 pub struct State {
     pub family: u8,
+    pub form: Form,
     pub nodes: u32,
     pub sets: Vec<Set>,
 }
@@ -25,27 +69,44 @@ pub fn least(sets: u64, nodes: u64, j: u64) -> u64 {
     64 + 8 * sets + 8 * nodes + 256 * j
 }
 
-/// Words 0 to 5 and the length: the family, the sets and the nodes.
-pub fn header(w: &[u32]) -> Option<(u8, usize, u32)> {
-    if w.len() < 64 || w[0] != MARK || !(w[1] == 4 || w[1] == 6) || w[5] != 0 {
+/// What words 0 to 5 say.
+pub struct Header {
+    pub family: u8,
+    pub form: Form,
+    pub sets: usize,
+    pub nodes: u32,
+}
+
+impl Header {
+    /// Where the first node stands.
+    pub fn base(&self) -> usize {
+        64 + 8 * self.sets
+    }
+}
+
+/// The header, where it and the length are right.
+pub fn header(w: &[u32]) -> Option<Header> {
+    if w.len() < 64 || w[0] != MARK || !(w[1] == 4 || w[1] == 6) {
         return None;
     }
-    let (sets, nodes) = (w[2] as u64, w[3] as u64);
+    let (form, sets, nodes) = (Form::of(w[5])?, w[2] as u64, w[3] as u64);
     if !(1..=64).contains(&sets) || !(1..=4_194_304).contains(&nodes) || w[4] as u64 > sets || (w.len() as u64) < least(sets, nodes, w[4] as u64) {
         return None;
     }
-    Some((w[1] as u8, sets as usize, w[3]))
+    Some(Header { family: w[1] as u8, form, sets: sets as usize, nodes: w[3] })
 }
 
-struct Reading<'a> {
-    words: &'a [u32],
-    base: usize,
-    nodes: u64,
-    width: u8,
+/// The words of nodes.
+pub struct Reading<'a> {
+    pub words: &'a [u32],
+    pub family: u8,
+    pub base: usize,
+    pub nodes: u64,
+    pub width: u8,
 }
 
 impl Reading<'_> {
-    /// The trie at node i, whose path is the first `depth` bits of `at`; gives the number behind it.
+    /// The trie at node i in the first form, whose path is the first `depth` bits of `at`; gives the number behind it.
     fn trie(&self, i: u64, depth: u8, at: u128, list: &mut List) -> Option<u64> {
         if i > self.nodes {
             return None;
@@ -82,11 +143,11 @@ fn is_indexed(w: &[u32], s: usize, before: u64, list: &List) -> Option<bool> {
 }
 
 pub fn decode(w: &[u32]) -> Option<State> {
-    let (family, sets, nodes_) = header(w)?;
-    let r = Reading { words: w, base: 64 + 8 * sets, nodes: nodes_ as u64, width: width(family) };
-    let mut state = State { family, nodes: nodes_, sets: vec![] };
+    let h = header(w)?;
+    let r = Reading { words: w, family: h.family, base: h.base(), nodes: h.nodes as u64, width: width(h.family) };
+    let mut state = State { family: h.family, form: h.form, nodes: h.nodes, sets: vec![] };
     let (mut next, mut claimed, mut indexes) = (1u64, 0u64, 0u64);
-    for s in 0..sets {
+    for s in 0..h.sets {
         let (root, share, limit, mark) = (w[64 + 8 * s] as u64, w[65 + 8 * s], w[66 + 8 * s], w[67 + 8 * s]);
         let mut list = List::new();
         let first = next;
@@ -94,18 +155,24 @@ pub fn decode(w: &[u32]) -> Option<State> {
             if root != next {
                 return None;
             }
-            next = r.trie(next, 0, 0, &mut list)?;
+            next = match h.form {
+                Form::First => r.trie(next, 0, 0, &mut list)?,
+                Form::Second => kept::trie(&r, next, (0, 0), &mut list)?,
+            };
         }
         let held = next - first;
-        if share > limit || held > limit as u64 || mark > 1 || (mark == 1 && meets_inner(family, &list)) {
+        if share > limit || held > limit as u64 || mark > 1 || (mark == 1 && meets_inner(h.family, &list)) {
             return None;
         }
         claimed += held.max(share as u64);
         let indexed = is_indexed(w, s, indexes, &list)?;
+        if indexed && h.form == Form::Second {
+            return None;
+        }
         indexes += indexed as u64;
         state.sets.push(Set { share, limit, public: mark == 1, indexed, list });
     }
-    if claimed > nodes_ as u64 || w[4] as u64 != indexes {
+    if claimed > h.nodes as u64 || w[4] as u64 != indexes {
         return None;
     }
     Some(state)
@@ -131,7 +198,7 @@ pub fn index(w: u8, list: &List) -> Vec<u32> {
     (0..256).map(word).collect()
 }
 
-/// The members below a path, in address order, as words in preorder.
+/// The members below a path, in address order, as words of the first form.
 fn encode_at(w: u8, depth: u8, members: &[(u128, u8)], out: &mut Vec<u32>) {
     if members[0].1 == depth {
         out.push(0);
@@ -159,7 +226,7 @@ pub fn encode(w: &mut [u32], s: &State) {
     for (k, set) in s.sets.iter().enumerate() {
         let mut members: Vec<(u128, u8)> = set.list.iter().map(|m| (m.1, m.0)).collect();
         members.sort();
-        w[64 + 8 * k] = if members.is_empty() { 0 } else { words.len() as u32 + 1 };
+        w[64 + 8 * k] = if members.is_empty() { 0 } else { (words.len() / s.form.stride(s.family)) as u32 + 1 };
         w[65 + 8 * k] = set.share;
         w[66 + 8 * k] = set.limit;
         w[67 + 8 * k] = set.public as u32;
@@ -170,15 +237,17 @@ pub fn encode(w: &mut [u32], s: &State) {
             w[68 + 8 * k] = indexes as u32;
             w[at..at + 256].copy_from_slice(&index(width(s.family), &set.list));
         }
-        if !members.is_empty() {
-            encode_at(width(s.family), 0, &members, &mut words);
+        match s.form {
+            _ if members.is_empty() => {}
+            Form::First => encode_at(width(s.family), 0, &members, &mut words),
+            Form::Second => kept::encode(s.family, &members, &mut words),
         }
     }
     w[base..base + words.len()].copy_from_slice(&words);
 }
 
 pub fn held(s: &State, k: usize) -> u64 {
-    nodes(width(s.family), &s.sets[k].list)
+    s.form.nodes(width(s.family), &s.sets[k].list)
 }
 
 pub fn room(s: &State, k: usize) -> u64 {

@@ -50,6 +50,13 @@ pub fn steps(w: u8, l: &List, n: Member) -> u32 {
     (0..=n.0).filter(|&k| l.iter().any(|m| m.0 >= k && cleared(w, k, m.1) == cleared(w, k, n.1))).count() as u32
 }
 
+/// How many members and branch points lead the query: a branch point is followed by 0 in one member and by 1 in another.
+pub fn kept_steps(w: u8, l: &List, n: Member) -> u32 {
+    let goes_on = |m: &Member, k: u8, bit: u128| m.0 > k && cleared(w, k, m.1) == cleared(w, k, n.1) && m.1 >> (w - 1 - k) & 1 == bit;
+    let branches = |k: u8| [0, 1].into_iter().all(|bit| l.iter().any(|m| goes_on(m, k, bit)));
+    (0..=n.0).filter(|&k| l.contains(&(k, cleared(w, k, n.1))) || branches(k)).count() as u32
+}
+
 pub fn add(w: u8, l: &List, n: Member) -> List {
     if supernet(w, l, n).is_some() {
         return l.clone();

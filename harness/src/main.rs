@@ -3,17 +3,29 @@
 #![cfg_attr(not(feature = "calls"), allow(dead_code))]
 mod bench;
 #[cfg(feature = "calls")]
+mod by_hand;
+#[cfg(feature = "calls")]
+mod damage;
+#[cfg(feature = "calls")]
 mod differential;
 mod exports;
 mod files;
+#[cfg(feature = "calls")]
+mod forms;
+mod inputs;
+mod kept;
 mod layout;
 mod lists;
 mod many;
 mod model;
 mod oracle;
+mod paths;
 mod plan;
 mod runs;
 mod salvage;
+#[cfg(feature = "calls")]
+mod sample;
+mod text4;
 mod text6;
 mod wire;
 mod wrecks;
@@ -26,7 +38,7 @@ fn main() {
         #[cfg(feature = "calls")]
         (Some("differential"), Some(&[calls, seed])) => !differential::main(calls, seed) as i32,
         #[cfg(feature = "calls")]
-        (Some("sample"), Some(&[frames, seed])) => !differential::sample(frames, seed) as i32,
+        (Some("sample"), Some(&[frames, seed])) => !sample::sample(frames, seed) as i32,
         (Some("wrecks"), Some(&[most, short])) => !wrecks::main(most, short) as i32,
         _ => {
             eprintln!("usage: harness differential CALLS SEED, harness sample FRAMES SEED, harness bench OPTIONS, or harness wrecks MOST SHORT (`run` has the options)");

@@ -1,12 +1,14 @@
-//! What each call has to answer and to leave, by document 01, requests M-101, M-102, M-103, M-105, M-107, M-108, M-109 and M-112, and docs/CALLS.md: refusals,
-//! room, limits, shares, reports, files, text, damaged memory.
+//! What each call has to answer and to leave, by document 01, requests M-101, M-102, M-103, M-105, M-107, M-108, M-109, M-111 and M-112, and docs/CALLS.md:
+//! refusals, room, limits, shares, reports, files, text, damaged memory.
 use crate::files::{file, read_file, read_lines};
-use crate::text6::{read_line6, text6};
-use crate::layout::{decode, encode, header, held, least, room, State, MARK};
+use crate::layout::{decode, encode, held, least, room, Form, State, MARK};
 use crate::lists::{self, cleared, width, List, Member};
 use crate::many;
+use crate::paths::{path, root};
 use crate::runs;
 use crate::salvage;
+use crate::text4::{read_either, read_line, text4};
+use crate::text6::{read_line6, text6};
 use crate::wire::*;
 
 pub fn is_family(f: u8) -> bool {
@@ -31,7 +33,7 @@ fn net_no(n: &Net) -> u8 {
 }
 
 /// The refusal of a network as an argument in a pool of the family.
-fn in_pool(family: u8, n: &Net) -> u8 {
+pub fn in_pool(family: u8, n: &Net) -> u8 {
     if n.family != family { 6 } else { net_no(n) }
 }
 
@@ -72,16 +74,15 @@ fn found(family: u8, m: Option<Member>) -> Answer {
     }
 }
 
-fn numbers(tail: &[u8], from: usize, count: usize) -> Vec<u32> {
-    (from..from + count).map(|k| (0..4).map(|j| (*tail.get(4 * k + j).unwrap_or(&0) as u32) << (8 * j)).sum()).collect()
-}
-
 fn layout(w: &mut [u32], c: &Call) -> Answer {
     let (family, sets, nodes) = (c.net.family, c.a as u64, c.b as u64);
     let shares = numbers(&c.tail, 0, c.net.len as usize);
     let limits = numbers(&c.tail, c.net.len as usize, (c.c % 256) as usize);
     let indexes = c.net.hi.count_ones();
+    // no set is indexed in the second form
+    let form = Form::of(c.c / 256).filter(|&form| form == Form::First || indexes == 0);
     let right = is_family(family)
+        && form.is_some()
         && (1..=64).contains(&sets)
         && (1..=4_194_304).contains(&nodes)
         && (sets == 64 || c.net.hi >> sets == 0)
@@ -94,7 +95,7 @@ fn layout(w: &mut [u32], c: &Call) -> Answer {
         return Answer::refused(1);
     }
     w[..least(sets, nodes, indexes as u64) as usize].fill(0);
-    w[..5].copy_from_slice(&[MARK, family as u32, c.a, c.b, indexes]);
+    w[..6].copy_from_slice(&[MARK, family as u32, c.a, c.b, indexes, c.c / 256]);
     for k in 0..sets as usize {
         w[65 + 8 * k] = shares[k];
         w[66 + 8 * k] = limits[k];
@@ -117,7 +118,7 @@ pub fn change(w: &mut [u32], mut s: State, k: u32, no: u8, list: impl FnOnce(&St
         return Answer::refused(no);
     }
     let l = list(&s);
-    let n = lists::nodes(width(s.family), &l);
+    let n = s.form.nodes(width(s.family), &l);
     if s.sets[k].public && lists::meets_inner(s.family, &l) {
         return Answer::refused(14);
     }
@@ -181,100 +182,10 @@ fn combine(w: &mut [u32], s: State, c: &Call, f: fn(u8, &List, &List) -> List) -
     change(w, s, c.a, no, |s| f(width(s.family), &s.sets[c.b as usize].list, &s.sets[c.c as usize].list))
 }
 
-/// The number of the root of a set, once the header is right and the set is there.
-fn root(w: &[u32], set: u32) -> Result<(u8, usize, u64, u64), u8> {
-    let (family, sets, nodes) = header(w).ok_or(2)?;
-    if set as usize >= sets {
-        return Err(3);
-    }
-    Ok((family, 64 + 8 * sets, nodes as u64, w[64 + 8 * set as usize] as u64))
-}
-
-/// What a path shows: the length of the member met on the way down, if there is one, and how many nodes were read.
-type Shown = (Option<u8>, u32);
-
-/// Where a path begins: at a node that is so many bits down, or it shows all there is.
-enum Begin {
-    At(u64, u8),
-    Shows(Shown),
-}
-
-/// At the root of a set.
-fn at_root(root: u64, nodes: u64) -> Result<Begin, u8> {
-    match root {
-        0 => Ok(Begin::Shows((None, 0))),
-        root if root > nodes => Err(2),
-        root => Ok(Begin::At(root, 0)),
-    }
-}
-
-/// At a word of an index, by M-108: 16 more than the depth of an absence, or a node's depth and 32 times how far behind the root it is. One of less than eight
-/// bits is a member, which has to be a leaf.
-fn at_index(w: &[u32], base: usize, nodes: u64, root: u64, x: u64) -> Result<Begin, u8> {
-    if (16..=24).contains(&x) {
-        return Ok(Begin::Shows((None, x as u32 - 16)));
-    }
-    let (i, depth) = (root + x / 32, (x % 32) as u8);
-    if !(1..=nodes).contains(&i) || depth > 8 {
-        return Err(2);
-    }
-    match depth {
-        8 => Ok(Begin::At(i, depth)),
-        _ if w[base + (i - 1) as usize] == 0 => Ok(Begin::Shows((Some(depth), depth as u32 + 1))),
-        _ => Err(2),
-    }
-}
-
-/// At the index where the set has one and the query is of eight bits or more. The tag of a set says which of the indexes is its own, counted from 1.
-fn begin(w: &[u32], set: u32, nodes: u64, root: u64, n: &Net) -> Result<Begin, u8> {
-    let (tag, indexes) = (w[68 + 8 * set as usize], w[4]);
-    if tag == 0 || n.len < 8 {
-        return at_root(root, nodes);
-    }
-    if tag > indexes {
-        return Err(2);
-    }
-    let byte = (address(n) >> (width(n.family) - 8)) as usize;
-    let index = least(w[2] as u64, nodes, tag as u64 - 1) as usize;
-    at_index(w, 64 + 8 * w[2] as usize, nodes, root, w[index + byte] as u64)
-}
-
-/// A lookup reads its own path, and at each node both children's numbers.
-fn path(w: &[u32], set: u32, n: &Net) -> Result<Shown, u8> {
-    let (family, base, nodes, root) = root(w, set)?;
-    match in_pool(family, n) {
-        0 => {}
-        no => return Err(no),
-    }
-    let (mut i, from) = match begin(w, set, nodes, root, n)? {
-        Begin::Shows(all) => return Ok(all),
-        Begin::At(i, depth) => (i, depth),
-    };
-    let (wide, a) = (width(family), address(n));
-    for depth in from.. {
-        let x = w[base + (i - 1) as usize] as u64;
-        if x == 0 {
-            return Ok((Some(depth), depth as u32 + 1));
-        }
-        if i + x % 2 > nodes || i + x / 2 > nodes {
-            return Err(2);
-        }
-        if depth == n.len {
-            return Ok((None, depth as u32 + 1));
-        }
-        let step = if a >> (wide - 1 - depth) & 1 == 1 { x / 2 } else { x % 2 };
-        if step == 0 {
-            return Ok((None, depth as u32 + 1));
-        }
-        i += step;
-    }
-    unreachable!()
-}
-
 fn is_empty(w: &[u32], set: u32) -> Answer {
     match root(w, set) {
         Err(no) => Answer::refused(no),
-        Ok((_, _, nodes, root)) => answered(if root > nodes { 2 } else { 0 }, || told(root == 0)),
+        Ok((h, root)) => answered(if root > h.nodes as u64 { 2 } else { 0 }, || told(root == 0)),
     }
 }
 
@@ -295,54 +206,12 @@ fn rows(s: &State, c: &Call, wide: usize, of: impl FnOnce(&List) -> Vec<u64>) ->
     Answer { tail: lent.iter().flat_map(|r| r.to_le_bytes()).collect(), ..a }
 }
 
-fn words(a: u128) -> [u64; 2] {
-    [(a >> 64) as u64, a as u64]
-}
-
 fn next(s: &State, c: &Call) -> Answer {
     if c.a as usize >= s.sets.len() {
         return Answer::refused(3);
     }
     let no = if c.b == 0 { 0 } else { in_pool(s.family, &c.net) };
     answered(no, || found(s.family, lists::next(&s.sets[c.a as usize].list, if c.b == 0 { None } else { Some(member(&c.net)) })))
-}
-
-/// `dec-octet` of RFC 3986, section 3.2.2, alternative by alternative.
-pub fn dec_octet(s: &[u8]) -> bool {
-    matches!(
-        s,
-        [b'0'..=b'9']
-            | [b'1'..=b'9', b'0'..=b'9']
-            | [b'1', b'0'..=b'9', b'0'..=b'9']
-            | [b'2', b'0'..=b'4', b'0'..=b'9']
-            | [b'2', b'5', b'0'..=b'5']
-    )
-}
-
-/// The length: 0 to 32, and 0 alone begins with 0.
-fn size(s: &[u8]) -> bool {
-    matches!(s, [b'0'..=b'9'] | [b'1' | b'2', b'0'..=b'9'] | [b'3', b'0'..=b'2'])
-}
-
-/// The number of digits that follow the rule.
-pub fn number_of(s: &str, rule: fn(&[u8]) -> bool) -> Option<u64> {
-    if rule(s.as_bytes()) { s.parse().ok() } else { None }
-}
-
-/// The numbers as the line has them.
-pub fn read_line(line: &[u8]) -> Option<Net> {
-    let (a, n) = std::str::from_utf8(line).ok()?.split_once('/')?;
-    let parts: Vec<u64> = a.split('.').map(|p| number_of(p, dec_octet)).collect::<Option<_>>()?;
-    if parts.len() != 4 {
-        return None;
-    }
-    let lo = parts.iter().fold(0, |x, &p| x * 256 + p);
-    Some(Net { family: 4, hi: 0, lo, len: number_of(n, size)? as u8 })
-}
-
-/// The numbers of a line of either family.
-pub fn read_either(line: &[u8]) -> Option<Net> {
-    read_line(line).or_else(|| read_line6(line))
 }
 
 fn save(s: &State, c: &Call) -> Answer {
@@ -399,8 +268,7 @@ fn write_line(c: &Call) -> Answer {
     let n = &c.net;
     let a = answered(net_no(n), || {
         let v = member(n).1;
-        let dotted = || format!("{}.{}.{}.{}", v >> 24 & 255, v >> 16 & 255, v >> 8 & 255, v & 255);
-        let text = format!("{}/{}", if n.family == 4 { dotted() } else { text6(v) }, n.len);
+        let text = format!("{}/{}", if n.family == 4 { text4(v) } else { text6(v) }, n.len);
         answered(if text.len() > out.len() { 11 } else { 0 }, || {
             out[..text.len()].copy_from_slice(text.as_bytes());
             Answer { y: trimmed(n), ..number(text.len() as u32) }
@@ -454,9 +322,10 @@ pub fn apply(w: &mut [u32], c: &Call) -> Answer {
             return match path(w, c.a, &c.net) {
                 Err(no) => Answer::refused(no),
                 Ok((len, read)) => {
-                    // on sound memory by the list, on any other by the path
+                    // on sound memory by the list, which is what the path shows; on any other by the path
                     let wide = width(c.net.family);
-                    let x = decode(w).map_or(read, |s| lists::steps(wide, &s.sets[c.a as usize].list, member(&c.net)));
+                    let x = decode(w).map_or(read, |s| s.form.steps(wide, &s.sets[c.a as usize].list, member(&c.net)));
+                    assert_eq!(x, read, "{c:?}");
                     let m = len.map(|k| (k, cleared(wide, k, address(&c.net))));
                     let a = if c.code == CONTAINS { told(m.is_some()) } else { found(c.net.family, m) };
                     Answer { x, y: trimmed(&c.net), ..a }

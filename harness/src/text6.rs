@@ -1,5 +1,5 @@
 //! IPv6 lines for the model: read by RFC 4291 section 2.2, written by RFC 5952 section 4; and what Rust's standard library says of an address.
-use crate::model::{dec_octet, number_of};
+use crate::text4::{dec_octet, number_of};
 use crate::wire::Net;
 use std::net::Ipv6Addr;
 

@@ -150,3 +150,13 @@ extern "C" {
 pub fn run(pool: &mut [u32], rows: &mut [u64], calls: &[u8], out: &mut [u8]) -> u64 {
     unsafe { marlbrace_run(pool.as_mut_ptr(), pool.len(), rows.as_mut_ptr(), rows.len(), calls.as_ptr(), calls.len(), out.as_mut_ptr(), out.len()) }
 }
+
+/// So many numbers of a tail, from one on; 0 where it has none.
+pub fn numbers(tail: &[u8], from: usize, count: usize) -> Vec<u32> {
+    (from..from + count).map(|k| (0..4).map(|j| (*tail.get(4 * k + j).unwrap_or(&0) as u32) << (8 * j)).sum()).collect()
+}
+
+/// The two words of an address.
+pub fn words(a: u128) -> [u64; 2] {
+    [(a >> 64) as u64, a as u64]
+}

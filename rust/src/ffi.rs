@@ -30,6 +30,19 @@ extern "C" {
         limits_len: usize,
         indexed: u64,
     ) -> u64;
+    fn marlbrace_layout_form(
+        pool: *mut u32,
+        pool_len: usize,
+        family: u8,
+        form: u32,
+        sets: u32,
+        nodes: u32,
+        shares: *const u32,
+        shares_len: usize,
+        limits: *const u32,
+        limits_len: usize,
+        indexed: u64,
+    ) -> u64;
     fn marlbrace_free(pool: *const u32, pool_len: usize) -> u64;
     fn marlbrace_held(pool: *const u32, pool_len: usize, set: u32) -> u64;
     fn marlbrace_networks(pool: *const u32, pool_len: usize, set: u32) -> u64;
@@ -121,6 +134,13 @@ pub(crate) fn layout_indexed(pool: &mut [u32], family: u8, nodes: u32, shares: &
     let sets = u32::try_from(shares.len()).unwrap_or(u32::MAX);
     let (s, l) = (shares.as_ptr(), limits.as_ptr());
     granted(unsafe { marlbrace_layout_indexed(pool.as_mut_ptr(), pool.len(), family, sets, nodes, s, shares.len(), l, limits.len(), indexed) })
+}
+
+/// As `layout`, in the form 0 or 1.
+pub(crate) fn layout_form(pool: &mut [u32], family: u8, form: u32, nodes: u32, shares: &[u32], limits: &[u32]) -> Answer {
+    let sets = u32::try_from(shares.len()).unwrap_or(u32::MAX);
+    let (s, l) = (shares.as_ptr(), limits.as_ptr());
+    granted(unsafe { marlbrace_layout_form(pool.as_mut_ptr(), pool.len(), family, form, sets, nodes, s, shares.len(), l, limits.len(), 0) })
 }
 
 macro_rules! reads {
@@ -251,6 +271,11 @@ pub(crate) fn ranges(pool: &[u32], set: u32) -> Result<Vec<(Row, Row)>, Refusal>
 /// The family of a pool, a word of its header (docs/LAYOUT.md).
 pub(crate) fn family(pool: &[u32]) -> u8 {
     pool.get(1).map_or(0, |&family| family as u8)
+}
+
+/// The form of a pool, a word of its header too.
+pub(crate) fn form(pool: &[u32]) -> u32 {
+    pool.get(5).copied().unwrap_or(0)
 }
 
 /// The file of a set.

@@ -31,9 +31,11 @@ mod pool;
 mod range;
 mod refusal;
 mod room;
+mod set;
 
 pub use files::{compare, salvage, Compared, Salvaged};
 pub use net::{IpNet, LINE};
-pub use pool::{Plan, Pool, Set, SetMut};
+pub use pool::{Form, Plan, Pool};
 pub use range::IpRange;
 pub use refusal::Refusal;
+pub use set::{Set, SetMut};

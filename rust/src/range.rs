@@ -1,5 +1,5 @@
 use crate::room::{one_set, usual_nodes, with_room, FEW};
-use crate::{entries, IpNet, Plan, Pool, Refusal};
+use crate::{entries, Form, IpNet, Plan, Pool, Refusal};
 use std::fmt;
 use std::net::IpAddr;
 
@@ -19,9 +19,10 @@ use std::net::IpAddr;
 /// # }
 /// ```
 ///
-/// A set has at most 4,194,304 nodes ([`IpRange::nodes`]): that is 2,097,152 networks side by side, or about 280,000 single addresses far apart. What would
-/// have more is refused with [`Refusal::OverLimit`] or [`Refusal::NoRoom`], and nothing has changed. `collect` and `extend` have no way to say so and panic;
-/// [`IpRange::try_from_iter`] and [`IpRange::try_extend`] answer it.
+/// A set has at most 2,097,152 networks, whatever they are. It begins in the first form and goes on in the second, which is slower, where it would have more
+/// than 4,194,304 nodes in the first ([`IpRange::form`], [`IpRange::nodes`]): about 280,000 single addresses far apart, or 2,097,152 networks side by side, are
+/// still in the first. What would have more networks is refused with [`Refusal::OverLimit`] or [`Refusal::NoRoom`], and nothing has changed. `collect` and
+/// `extend` have no way to say so and panic; [`IpRange::try_from_iter`] and [`IpRange::try_extend`] answer it.
 ///
 /// An empty set has either family: it takes that of the first network. Where two families meet the call is refused with [`Refusal::WrongFamily`].
 #[derive(Clone)]
@@ -32,14 +33,14 @@ pub struct IpRange {
 impl IpRange {
     /// An empty set.
     pub fn new() -> IpRange {
-        IpRange { pool: one_set(4, FEW).expect("a layout within the rules") }
+        IpRange { pool: one_set(Form::First, 4, FEW).expect("a layout within the rules") }
     }
 
     /// Adds a network: where no member contains it, the members inside it go and it joins. Each call checks the whole set; many networks are better added by
     /// [`IpRange::try_extend`], all at once.
     pub fn add(&mut self, net: IpNet) -> Result<(), Refusal> {
         if net.family() != self.family() && self.is_empty() {
-            self.pool = one_set(net.family(), FEW)?;
+            self.pool = one_set(Form::First, net.family(), FEW)?;
         }
         self.change(0, |pool| pool.set_mut(0).add(net))
     }
@@ -66,7 +67,7 @@ impl IpRange {
         if one.family() == self.family() || !self.is_empty() {
             return self.change(nodes as u64, |pool| pool.set_mut(0).add_range(first, last));
         }
-        let mut other = IpRange { pool: one_set(one.family(), nodes)? };
+        let mut other = IpRange { pool: one_set(Form::First, one.family(), nodes)? };
         other.add_range(first, last)?;
         *self = other;
         Ok(())
@@ -144,7 +145,8 @@ impl IpRange {
         self.combine_parts(other, IpNet::all(self.family()), |pool| pool.exclude(0, 1, 2))
     }
 
-    /// The same with the members left apart, as iprange's `exclude` does. Here the nodes of the two sets and of the result are together at most 4,194,304.
+    /// The same with the members left apart, as iprange's `exclude` does. Here both sets and the result have to fit in one pool, of 4,194,304 nodes, in the
+    /// second form where they do not fit in the first.
     pub fn exclude_apart(&self, other: &IpRange) -> Result<IpRange, Refusal> {
         self.combine(other, |pool| pool.exclude_apart(0, 1, 2))
     }
@@ -169,7 +171,13 @@ impl IpRange {
         self.pool.set(0).len().expect(SOUND)
     }
 
-    /// How many nodes its list takes: the different strings of leading bits of its networks.
+    /// The form that it is kept in: the first, or the second since it once did not fit in the first.
+    pub fn form(&self) -> Form {
+        self.pool.form()
+    }
+
+    /// How many nodes its list takes in the form that it has: in the first the different strings of leading bits of its networks, in the second one less than
+    /// twice its networks, and none where it is empty.
     pub fn nodes(&self) -> u32 {
         self.pool.set(0).nodes().expect(SOUND)
     }
@@ -187,8 +195,8 @@ impl IpRange {
     /// The set of a set file. The file is judged whole: bytes that break a rule are refused.
     pub fn from_bytes(file: &[u8]) -> Result<IpRange, Refusal> {
         let family = if file.get(3) == Some(&6) { 6 } else { 4 };
-        with_room(usual_nodes(family, entries::count(family, file)), |nodes| {
-            let mut pool = one_set(family, nodes)?;
+        with_room(Form::First, usual_nodes(family, entries::count(family, file)), |form, nodes| {
+            let mut pool = one_set(form, family, nodes)?;
             pool.set_mut(0).from_bytes(file)?;
             Ok(IpRange { pool })
         })
@@ -249,13 +257,13 @@ impl IpRange {
         self
     }
 
-    /// Does a change, in a larger pool where it is refused for its nodes: with twice as many, or as many more as are asked for.
+    /// Does a change, in a larger pool where it is refused for its nodes: with twice as many, or as many more as are asked for. In the second form it stays.
     fn change(&mut self, more: u64, call: impl Fn(&mut Pool) -> Result<u32, Refusal>) -> Result<(), Refusal> {
         match call(&mut self.pool) {
             Err(Refusal::OverLimit) => {
                 let (family, file) = (self.family(), self.to_vec());
-                self.pool = with_room(self.nodes() as u64 + more.max(self.nodes() as u64), |nodes| {
-                    let mut pool = one_set(family, nodes)?;
+                self.pool = with_room(self.form(), self.nodes() as u64 + more.max(self.nodes() as u64), |form, nodes| {
+                    let mut pool = one_set(form, family, nodes)?;
                     pool.set_mut(0).from_bytes(&file)?;
                     call(&mut pool)?;
                     Ok(pool)
@@ -287,13 +295,14 @@ impl IpRange {
         IpRange::from_bytes(&entries::apart(block.family(), self.iter().filter_map(part).collect()))
     }
 
-    /// Combines this set, number 1 of a pool, and the other, number 2, into number 0.
+    /// Combines this set, number 1 of a pool, and the other, number 2, into number 0; in the second form from the start where one of them is in it.
     fn combine(&self, other: &IpRange, call: Call) -> Result<IpRange, Refusal> {
         let family = if self.is_empty() { other.family() } else { self.family() };
         let files = [self, other].map(|set| if set.is_empty() { entries::apart(family, vec![]) } else { set.to_vec() });
+        let form = if self.form() == Form::First { other.form() } else { Form::Second };
         let nodes = 2 * self.nodes() as u64 + 3 * other.nodes() as u64;
-        let result = with_room(nodes, |nodes| {
-            let mut pool = Pool::new(family, nodes, &[Plan::new(0, nodes); 3])?;
+        let result = with_room(form, nodes, |form, nodes| {
+            let mut pool = Pool::new_in_form(form, family, nodes, &[Plan::new(0, nodes); 3])?;
             pool.set_mut(1).from_bytes(&files[0])?;
             pool.set_mut(2).from_bytes(&files[1])?;
             call(&mut pool)?;
@@ -353,43 +362,4 @@ impl fmt::Debug for IpRange {
 }
 
 #[cfg(test)]
-mod tests {
-    use super::*;
-    use crate::room::MOST;
-    use std::collections::BTreeSet;
-    use std::net::Ipv4Addr;
-
-    fn set(addresses: &BTreeSet<u32>) -> IpRange {
-        let mut set = IpRange::new();
-        set.extend(addresses.iter().map(|&address| Ipv4Addr::from(address).into()));
-        set
-    }
-
-    /// A fourth of 4,096 addresses: two such sets do not fit in one pool of as many nodes.
-    #[test]
-    fn in_parts_as_by_addresses() {
-        let some = |seed: u32| -> BTreeSet<u32> { (0..4096).filter(|k| (k * k * 7 + k * seed + k / 5) % 1009 < 252).map(|k| 0xc0a8_0000 + k).collect() };
-        let (x, y) = (some(3), some(17));
-        let (a, b) = (set(&x), set(&y));
-        assert!(a.nodes() + b.nodes() > MOST && a.exclude_apart(&b).is_err());
-        let both = a.merge(&b).unwrap();
-        assert_eq!((0..4096).map(|k| 0xc0a8_0000 + k).filter(|&k| both.contains(Ipv4Addr::from(k).into())).collect::<BTreeSet<u32>>(), &x | &y);
-        assert_eq!((both.clone().simplified(), both.exclude(&a).unwrap().exclude(&b)), (both, Ok(IpRange::new())));
-        assert_eq!(a.intersect(&b), Ok(set(&(&x & &y)).iter().collect()));
-        assert_eq!(a.exclude(&b), Ok(set(&(&x - &y)).iter().collect()));
-        let mut all = IpRange::new();
-        all.add(IpNet::all(4)).unwrap();
-        assert_eq!(all.intersect(&a), Ok(a.iter().collect()));
-        assert_eq!(all.exclude(&a).unwrap().exclude(&all), Ok(IpRange::new()));
-    }
-
-    #[test]
-    fn nothing_changes_where_a_pool_has_no_more_nodes() {
-        let mut full = IpRange::new();
-        let added = (0..4096).map(|k| Ipv4Addr::from(k << 20).into()).take_while(|&net| full.add(net).is_ok()).count();
-        assert_eq!((full.len() as usize, full.nodes() > MOST - 32), (added, true));
-        let before = full.clone();
-        assert_eq!(full.add(Ipv4Addr::from((added as u32) << 20).into()), Err(Refusal::OverLimit));
-        assert_eq!(full, before);
-    }
-}
+mod tests;

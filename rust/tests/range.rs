@@ -1,5 +1,5 @@
 //! IpRange: that it grows, that building at once gives what adding one by one gives, and what it does where it cannot go on.
-use marlbrace::{IpNet, IpRange, Refusal};
+use marlbrace::{Form, IpNet, IpRange, Refusal};
 use std::collections::BTreeSet;
 use std::net::{Ipv4Addr, Ipv6Addr};
 
@@ -105,13 +105,31 @@ fn it_grows_as_it_needs_to() -> Done {
 }
 
 #[test]
-fn beyond_the_most_nodes_it_is_refused_and_stays() -> Done {
-    // 112 nodes of its own for each
+fn where_the_first_form_has_no_room_it_goes_on_in_the_second() -> Done {
+    // 112 nodes of its own for each in the first form
     let many = |count: u128| (0..count).map(|k| Ipv6Addr::from(k << 112 | 1).into());
-    let mut set = IpRange::try_from_iter(many(1))?;
-    let before = set.clone();
-    assert_eq!(set.try_extend(many(40_000)), Err(Refusal::OverLimit));
-    assert_eq!(set, before);
+    let mut set = IpRange::try_from_iter(many(30_000))?;
+    assert_eq!((set.form(), set.len()), (Form::First, 30_000));
+    set.try_extend(many(40_000))?;
+    assert_eq!((set.form(), set.len(), set.nodes()), (Form::Second, 40_000, 79_999));
+    assert!(set.iter().eq(many(40_000)) && set.contains_all(&many(40_001).collect::<Vec<_>>()).ends_with(&[true, false]));
+    let both = set.merge(&IpRange::try_from_iter([net("::/1")])?)?;
+    assert_eq!((both.form(), both.len(), set.exclude(&both)?), (Form::First, 7_233, IpRange::new()));
+    Ok(())
+}
+
+#[test]
+fn beyond_the_most_networks_it_is_refused_and_stays() -> Done {
+    // 11 nodes of its own for each in the first form
+    let many = |count: u32| (0..count).map(|k| Ipv4Addr::from(k << 11).into());
+    let mut set = IpRange::try_from_iter(many(2_097_152))?;
+    assert_eq!((set.form(), set.len(), set.nodes()), (Form::Second, 2_097_152, 4_194_303));
+    assert_eq!(set.add(net("0.0.0.2/32")), Err(Refusal::OverLimit));
+    assert!(set.iter().eq(many(2_097_152)));
+    let mut one = IpRange::try_from_iter([net("0.0.0.2/32")])?;
+    assert_eq!((one.try_extend(many(2_097_152)), one.len()), (Err(Refusal::OverLimit), 1));
+    set.add(net("0.0.0.0/31"))?;
+    assert_eq!(set.len(), 2_097_152);
     Ok(())
 }
 

@@ -35,19 +35,19 @@ changeOf w c =
     (cond (eqb (c .code) 26) (changed w (c .a) (planRules (c .a) (c .b) (c .c)) (λ S. planned (setAt S (c .a)) (c .b) (c .c)))
     (changed w (c .a) (markRules (c .a)) (λ S. marked (setAt S (c .a)))))))))))
 
--- the shares and the limits that stand in the tail
+-- the shares and the limits that stand in the tail; c has the limits' count in its lowest byte, and above it the form
 abbrev pub sharesOf : Call → List ℕ → List ℕ
 sharesOf c s = numbersFrom s 35 (c .net .len)
 
 abbrev pub limitsOf : Call → List ℕ → List ℕ
 limitsOf c s = numbersFrom s (35 + 4 * c .net .len) (c .c % 256)
 
--- the answer of layout, and the words that it leaves
-abbrev pub laidBy : List ℕ → ℕ → ℕ → ℕ → List ℕ → List ℕ → ℕ → Reply × List ℕ
-laidBy w f n m xs ys x = let p = setup f 0 n m xs ys x in (noReply (layoutNo w p), cond (eqb (layoutNo w p) 0) (laid w p) w)
+-- the answer of layout, and the words that it leaves; o is the form
+abbrev pub laidBy : List ℕ → ℕ → ℕ → ℕ → ℕ → List ℕ → List ℕ → ℕ → Reply × List ℕ
+laidBy w f o n m xs ys x = let p = setup f o n m xs ys x in (noReply (layoutNo w p), cond (eqb (layoutNo w p) 0) (laid w p) w)
 
 unfoldable pub layoutOf : List ℕ → Call → List ℕ → Reply × List ℕ
-layoutOf w c s = laidBy w (c .net .family) (c .a) (c .b) (sharesOf c s) (limitsOf c s) (c .net .hi)
+layoutOf w c s = laidBy w (c .net .family) (c .c / 256) (c .a) (c .b) (sharesOf c s) (limitsOf c s) (c .net .hi)
 
 unfoldable pub writeOf : List ℕ → Call → List ℕ → Reply × List ℕ
 writeOf w c s = (noReply 0, put w (c .a) (numbersFrom s 35 (c .tail / 4)))

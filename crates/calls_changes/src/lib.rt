@@ -31,12 +31,13 @@ pub fn change(pool: &mut [u32], c: Call) -> Reply
     }
 }
 
-// Lays the pool out, with the shares and then the limits of the tail; hi has the marks of the indexed sets.
+// Lays the pool out, in the form that c has above its lowest byte, with the shares and then the limits of the tail; hi has the marks of the indexed sets.
 pub fn lay(pool: &mut [u32], c: Call, s: &[u8]) -> Reply
     ensures { λ r. ⌜ (r, now (pool .exit)) ≡ layoutOf (now (pool .entry)) c (now (s .entry)) ⌝ }
 {
     let n = c.net.len as usize;
     let m = (c.c % 256) as usize;
+    let form = c.c / 256;
     let mut shares = [0u32; ROW];
     let mut limits = [0u32; ROW];
     store_words(&mut shares, 0, s, CALL, n);
@@ -44,7 +45,7 @@ pub fn lay(pool: &mut [u32], c: Call, s: &[u8]) -> Reply
     of_answer(pool::layout(
         pool,
         c.net.family,
-        0,
+        form,
         c.a,
         c.b,
         &shares[..n],

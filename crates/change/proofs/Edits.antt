@@ -2,8 +2,8 @@
 -- stands, and what writing it asks. Assumes nothing.
 use mathlib.Core.Path.{_≡_, refl, sym, ap, _∙_}
 use mathlib.Core.Bool.{Bool, true, false}
-use mathlib.Core.List.{List, [], _∷_, _++_}
-use Prim.Native.Nat.{ℕ, zero, suc, _+_, _-_, _*_, _≤_, _<_}
+use mathlib.Core.List.{List, [], _++_}
+use Prim.Native.Nat.{ℕ, _+_, _-_, _*_, _≤_, _<_}
 use native.Mathlib.Omega.{arith}
 use lib.ListN.{length, getD}
 use borrow.Author.Tests.{eqb-true, not-false}
@@ -28,10 +28,8 @@ use Rattle.nodes.specs.Segments.{Segment, Spliced}
 use Rattle.nodes.specs.declared.seats.Seat.{Seat}
 use Rattle.nodes.proofs.Has.{has-at, has-join}
 use Rattle.trie_insert.specs.Insert.{Held, InsertSize, Insertable, Inserted}
-use Rattle.trie_insert.proofs.Insertion.{size-insert}
 use Rattle.trie_remove.specs.Removal.{begin, Removable}
 use Rattle.trie_remove.proofs.Splices.{left-root}
-use Rattle.trie_remove.proofs.Remains.{size-removeT}
 use Rattle.branch_points.specs.KeptTries.{keptSize}
 use Rattle.branch_points.proofs.Sizes.{size-deep}
 use Rattle.branch_points.proofs.Counts.{keptSize-le}
@@ -40,27 +38,21 @@ use Rattle.kept_nodes.proofs.Places.{length-keptEnc}
 use Rattle.kept_steps.specs.Segments.{KeptSegment, KeptSpliced}
 use Rattle.kept_plan.specs.Change.{changeT, Way, Changes}
 use Rattle.pool_state.specs.Kept.{heldL}
-use Rattle.pool_state.specs.States.{SetState, State, held, used, claimedBut, roomOf}
+use Rattle.pool_state.specs.States.{State, held, used, roomOf}
 use Rattle.pool_state.specs.Decode.{base, sound, decode}
-use Rattle.pool_state.specs.Rules.{noSet, seatOf}
+use Rattle.pool_state.specs.Rules.{seatOf}
 use Rattle.pool_state.specs.Changes.{setAt, netRules}
 use Rattle.pool_state.specs.Steps.{behindAt, strideIn, spotIn, encIn}
 use Rattle.pool_state.specs.declared.Survey.{Survey}
-use Rattle.pool_state.proofs.Claims.{used-claimed, claimedBut-is, isState-claimed}
+use Rattle.pool_state.proofs.Claims.{claimedBut-is, isState-claimed}
 use Rattle.pool_state.proofs.Leaves.{netRules-within}
 use Rattle.pool_state.proofs.Seen.{Seen, placeOf, behind, seen, seen-as, seen-state, seen-header, seen-figures, wordsL, strideS, strideIn-is, spotIn-on, behindAt-is, behind-has, behind-length}
-use Rattle.pool_state.proofs.Changed.{withWords}
+use Rattle.pool_state.proofs.Changed.{withWords, used-but}
 use Rattle.pool_state.proofs.OnTries.{trieAt, form-first, form-second, seen-list, seen-size, seen-segment, held-listOf, words-listOf, trie-words, shift-trie}
 use Rattle.pool_state.proofs.OnKept.{kept-stride, kept-spot, kept-room, kept-words, kept-held, kept-size, kept-at}
 use Rattle.change.proofs.Listed.{encIn-is}
 use Rattle.change.specs.Steps.{Ready, listBy, Counts, Edits, Edited}
-
--- The other sets use no more than they claim.
-used-but : (k : ℕ) (ss : List SetState) → k < length ss → used ss ≤ claimedBut k ss + held (getD ss k noSet)
-unfolding used claimedBut
-used-but k [] lt = absurd (omega arith)
-used-but zero (s ∷ ss) lt = omega (arith, used-claimed ss)
-used-but (suc k) (s ∷ ss) lt = omega (arith, used-but k ss (omega arith))
+use Rattle.kept_change.proofs.Whole.{made-le}
 
 -- a network that is right is one of the pool's family
 right-net : (n : Net) (S : State) → firstNo (netRules n S) ≡ 0 → (n .family ≡ S .family) × (refusalOf n ≡ 0)
@@ -68,11 +60,6 @@ unfolding netRules
 right-net n S e =
     let c = firstNo-zero (netRules n S) e in
     (eqb-true (n .family) (S .family) (not-false _ (c .0)), eqb-true (refusalOf n) 0 (not-false _ (c .1 .0)))
-
--- a change makes at most twice as many nodes more as there are bits
-made-le : (x : Bool) (r : Bits) (t : Trie) → size (changeT x r t) ≤ size t + 2 * length r + 1
-made-le true r t = omega (arith, size-insert r t)
-made-le false r t = omega (arith, size-removeT r t)
 
 module _ {w : List ℕ} {k : ℕ} {n : Net} {v : Survey} {s : PrefixBits} (h : Ready w k n v s) (x : Bool) (S : State) (d : decode w ≡ sound S) where
   abbrev r : Bits

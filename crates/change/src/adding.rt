@@ -10,7 +10,7 @@ use nets::Refusal;
 use pool_change::judging::is_public;
 use pool_change::judging::judge;
 use pool_change::relinking::granted;
-use pool_check::claims::claim_at;
+use pool_sets::claims::claim_at;
 use pool_state::Survey;
 use pool_state::Verdict;
 ghost use mathlib.Core.Path.{_≡_};

@@ -12,7 +12,7 @@ use pool_change::judging::judge;
 use pool_change::relinking::granted;
 use pool_change::relinking::shift_behind;
 use pool_check::seats::seat_of;
-use pool_check::stride_of;
+use pool_header::stride_of;
 use pool_state::Answer;
 use pool_state::Seated;
 use pool_state::Verdict;

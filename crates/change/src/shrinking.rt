@@ -1,7 +1,7 @@
 // Simplifying a set where it stands, in the form of the pool.
 use kept_simplify::simplifying::simplify;
 use nodes::seats::Seat;
-use pool_check::most_levels;
+use pool_header::most_levels;
 use pool_state::Survey;
 use trie_blocks::joining::next_join;
 use trie_blocks::simplifying;

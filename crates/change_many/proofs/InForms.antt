@@ -1,5 +1,5 @@
 -- A result in a pool of either form: its words and nodes, what stands in the seat of a set, and what counting and writing ask of it. Assumes nothing.
-use mathlib.Core.Bool.{Bool, true, false, true≢false}
+use mathlib.Core.Bool.{Bool, true, false}
 use mathlib.Core.List.{List, [], _++_, append-nil}
 use mathlib.Core.Path.{_≡_, refl, sym, ap, _∙_}
 use Prim.Native.Nat.{ℕ, suc, _+_, _-_, _*_, _≤_}
@@ -25,7 +25,7 @@ use Rattle.pool_state.specs.Decode.{base, formIn}
 use Rattle.pool_state.specs.Rules.{seatOf}
 use Rattle.pool_state.specs.Changes.{setAt, listAt}
 use Rattle.pool_state.specs.declared.Survey.{Survey}
-use Rattle.pool_state.proofs.Kept.{heldL-listOf, heldL-keptOf, encL-listOf, encL-keptOf, sameForm-is, spotL-first, spotL-second}
+use Rattle.pool_state.proofs.Kept.{heldL-listOf, heldL-keptOf, encL-listOf, encL-keptOf, spotL-first, spotL-second, is-first, is-second}
 use Rattle.pool_state.proofs.Claims.{indexable-at, indexable-first}
 use Rattle.pool_state.proofs.Seen.{Seen, placeOf, behind, wordsL, strideS, seen-state, seen-header, seen-form, seen-figures, own-form}
 use Rattle.pool_state.proofs.Changed.{withWords, put-low, settle-asks}
@@ -45,18 +45,6 @@ length-listOf second f t = ap length (encL-keptOf t f) ∙ length-keptEnc f [] t
 pub held-few : (F : Form) (t : Trie) → heldL F (listOf t) ≤ size t
 held-few first t = omega (arith, heldL-listOf t)
 held-few second t = omega (arith, heldL-keptOf t, keptSize-le t)
-
--- The form, by the test for the first.
-not-first : (F : Form) → sameForm F first ≡ false → F ≡ second
-not-first first e = absurd (true≢false e)
-not-first second e = refl
-
-module _ (F : Form) {r : Bool} (e : r ≡ sameForm F first) where
-  is-first : r ≡ true → F ≡ first
-  is-first q = sameForm-is F first (sym e ∙ q)
-
-  is-second : r ≡ false → F ≡ second
-  is-second q = not-first F (sym e ∙ q)
 
 -- Counting and writing, by the form.
 module _ {w : List ℕ} {s : Seat} {d : List ℕ} {f : ℕ} {l : List Bits} {t : Trie} (g : SourcesIn w s d f l t) {r : Bool} (e : r ≡ sameForm (formIn w) first) where

@@ -3,7 +3,7 @@
 use mathlib.Core.Bool.{Bool, true, false, not, _||_}
 use mathlib.Core.List.{List, [], _∷_, _++_}
 use mathlib.Core.Path.{_≡_, refl, sym, ap, _∙_}
-use Prim.Native.Nat.{ℕ, _+_, _-_, _*_, _≤_, _<_}
+use Prim.Native.Nat.{ℕ, _+_, _*_, _≤_, _<_}
 use native.Mathlib.Nat.{mul-le-mul-left}
 use native.Mathlib.Omega.{arith}
 use lib.Dec.{leb}
@@ -37,8 +37,8 @@ use Rattle.pool_state.specs.Steps.{spotBy, behindAt, Shiftable, strideIn, encIn
 use Rattle.pool_state.specs.declared.Survey.{Survey}
 use Rattle.pool_state.proofs.Claims.{isList-listAt, admits-listAt}
 use Rattle.pool_state.proofs.Decoded.{decode-header, decode-state}
-use Rattle.pool_state.proofs.Seen.{Seen, seen, seen-as, seen-header, seen-form, seen-figures, own-form, own-has, own-length, spotIn-on, strideIn-is, placeOf, behind-has, behindAt-is, wordsL, strideS}
-use Rattle.pool_state.proofs.Changed.{withWords, words-first, words-last, shift-asks}
+use Rattle.pool_state.proofs.Seen.{Seen, seen, seen-as, seen-header, seen-form, seen-figures, own-form, own-has, own-length, strideIn-is, placeOf, behind-has, behindAt-is, wordsL, strideS}
+use Rattle.pool_state.proofs.Changed.{withWords, words-first, words-last, shift-asks, spot-after}
 use Rattle.pool_state.proofs.OnTries.{trieAt}
 use Rattle.pool_state.proofs.Counted.{Counted}
 use Rattle.setfile_format.specs.Files.{file, readFile, fileOf}
@@ -88,11 +88,6 @@ module _ (w : List ℕ) (S : State) (k : ℕ) (d : decode w ≡ sound S) where
       let l = listAt S k in
       let e = admits-listAt S k (decode-state w S d) in
       admits-same (setAt S k .public) (isPublic f l) (isPublic f (excludeL l ns)) (isPublic f l) e (λ q. isPublic-exclude f l ns q ∙ sym q) ∙ e
-
--- where the node stands that comes behind n nodes of the set
-next : {w : List ℕ} {S : State} {k : ℕ} {v : Survey} (h : Seen w S k v) (n : ℕ) → spotBy (strideS S) (base (getD w 2 0)) (v .at + n) ≡ placeOf w v + strideS S * n
-unfolding spotL strideIn
-next {w} {S} {k} {v} h n = ap (λ s. spotBy s (base (getD w 2 0)) (v .at + n)) (sym (strideIn-is h)) ∙ sym (spotIn-on h n)
 
 -- What is written.
 module _ {w : List ℕ} {k : ℕ} {v : Survey} {d : List ℕ} {f : ℕ} {x : Bool} {n : ℕ} {S : State} {l : List Bits} (h : PourFits w k v d f x n S l) where
@@ -162,7 +157,7 @@ module _ {w : List ℕ} {k : ℕ} {v : Survey} {d : List ℕ} {f : ℕ} {x : Boo
           let z : u ≡ put w p ys = e ∙ moved-is w in
           let low : (i : ℕ) → i < 64 → getD u i 0 ≡ getD w i 0 = λ i a. rw z (getD-put-before w p ys i (omega arith)) in
           let m : strideS S * v .held ≤ strideS S * n = mul-le-mul-left (strideS S) (omega arith) in
-          let a : spotBy (strideS S) (base (getD w 2 0)) (v .at + n) ≡ placeOf w v + strideS S * n = next known n in
+          let a : spotBy (strideS S) (base (getD w 2 0)) (v .at + n) ≡ placeOf w v + strideS S * n = spot-after known n in
           let far : Apart (placeOf w v) (length (wordsL S (listAt S k))) p (length ys) = λ j b1 b2 b3 b4. omega (arith, own-length known, m, a) in
           record {
             long = ap length z ∙ length-put w p ys;

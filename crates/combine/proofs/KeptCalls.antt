@@ -1,10 +1,10 @@
 -- A combination in the second form: what the sources mean, and then the result, counted and written (`Counted` of pool_state's proofs/Counted.antt says what becomes of it). Assumes nothing.
 use mathlib.Core.Bool.{Bool}
-use mathlib.Core.List.{List, [], _∷_}
+use mathlib.Core.List.{List, []}
 use mathlib.Core.Path.{_≡_, refl, sym, ap, _∙_}
-use Prim.Native.Nat.{ℕ, zero, suc, _+_, _*_, _≤_, _<_}
+use Prim.Native.Nat.{ℕ, suc, _*_, _≤_, _<_}
 use native.Mathlib.Omega.{arith}
-use lib.ListN.{length, getD}
+use lib.ListN.{getD}
 use Rattle.nets.specs.Bits.{Bits}
 use Rattle.nets.specs.Tries.{Trie, size, levels, listOf}
 use Rattle.nets.specs.Networks.{width}
@@ -14,14 +14,13 @@ use Rattle.branch_points.proofs.Counts.{keptSize-le}
 use Rattle.branch_points.proofs.Sizes.{size-deep}
 use Rattle.kept_nodes.specs.Words.{stride, keptEnc}
 use Rattle.pool_state.specs.Kept.{second}
-use Rattle.pool_state.specs.States.{SetState, State, held, used, claimedBut, roomOf, admits}
-use Rattle.pool_state.specs.Rules.{noSet}
+use Rattle.pool_state.specs.States.{State, held, used, roomOf, admits}
 use Rattle.pool_state.specs.Changes.{setAt, listAt}
 use Rattle.pool_state.specs.declared.Survey.{Survey}
-use Rattle.pool_state.proofs.Claims.{used-claimed, claimedBut-is, isState-claimed}
+use Rattle.pool_state.proofs.Claims.{claimedBut-is, isState-claimed}
 use Rattle.pool_state.proofs.Seen.{Seen, seen-state, seen-header, seen-figures, strideIn-is, strideS}
 use Rattle.pool_state.proofs.Seats.{seat-family}
-use Rattle.pool_state.proofs.Changed.{withWords, words-first, shift-asks}
+use Rattle.pool_state.proofs.Changed.{withWords, words-first, shift-asks, used-but}
 use Rattle.pool_state.proofs.Counted.{Counted}
 use Rattle.pool_state.proofs.OnTries.{trieAt, form-second}
 use Rattle.pool_state.proofs.OnKept.{kept-room, kept-stride, kept-spot, kept-length, KeptResult, kept-counted}
@@ -30,13 +29,6 @@ use Rattle.combine.specs.Steps.{combineL, Started, KeptReads, KeptAdmits
 use Rattle.combine.specs.declared.asking.Sources.{Sources}
 use Rattle.combine.proofs.Calls.{state, here, right, few-levels, listOf-op, size-opOn}
 use Rattle.combine.proofs.Sources.{KeptSource, kept-source}
-
--- what the sets use is claimed by the others, but for the nodes of set k
-used-but : (k : ℕ) (ss : List SetState) → k < length ss → used ss ≤ claimedBut k ss + held (getD ss k noSet)
-unfolding used claimedBut
-used-but k [] lt = absurd (omega arith)
-used-but zero (s ∷ ss) lt = omega (arith, used-claimed ss)
-used-but (suc k) (s ∷ ss) lt = omega (arith, used-but k ss (omega arith))
 
 module _ {op : ℕ} {w : List ℕ} {to first second : ℕ} {v : Survey} {s : Sources} (c : Started op w to first second v s) (ne : getD w 5 0 ≡ 0 → ⊥) where
   abbrev pub S : State

@@ -1,9 +1,9 @@
 // The first steps of a combination, and its refusals.
 use nets::Refusal;
-use pool_check::HEAD;
-use pool_check::RECORD;
-use pool_check::most_levels;
 use pool_check::seats::seat_of;
+use pool_header::HEAD;
+use pool_header::RECORD;
+use pool_header::most_levels;
 use pool_state::Seated;
 use pool_state::Survey;
 ghost use mathlib.Core.Path.{_≡_};

@@ -8,7 +8,7 @@ use pool_change::judging::is_public;
 use pool_change::judging::judge;
 use pool_change::relinking::granted;
 use pool_change::relinking::shift_behind;
-use pool_check::stride_of;
+use pool_header::stride_of;
 use pool_state::Answer;
 use pool_state::Survey;
 use pool_state::Verdict;

@@ -1,10 +1,10 @@
 // Comparing two sets of a pool.
 use comparing::same_nodes;
 use nets::Refusal;
-use pool_check::HEAD;
-use pool_check::RECORD;
 use pool_check::seats::seat_of;
-use pool_check::stride_of;
+use pool_header::HEAD;
+use pool_header::RECORD;
+use pool_header::stride_of;
 use pool_state::Seated;
 use pool_state::Told;
 ghost use mathlib.Core.Path.{_≡_};

@@ -46,6 +46,23 @@ pub extern "C" fn marlbrace_layout_indexed(
     packed(of_answer(pool::layout(pool, family, 0, sets, nodes, shares, limits, indexed)))
 }
 
+// The same with every choice: the form too, 0 for the first and 1 for the second, in which no set is indexed.
+#[no_mangle]
+pub extern "C" fn marlbrace_layout_form(
+    pool: &mut [u32],
+    family: u8,
+    form: u32,
+    sets: u32,
+    nodes: u32,
+    shares: &[u32],
+    limits: &[u32],
+    indexed: u64,
+) -> u64
+    ensures { λ r. ⌜ Tells (Laid (now (pool .entry)) (setup family form sets nodes (now (shares .entry)) (now (limits .entry)) indexed)) oneReply r (now (pool .exit)) ⌝ }
+{
+    packed(of_answer(pool::layout(pool, family, form, sets, nodes, shares, limits, indexed)))
+}
+
 // Adds a network to a set.
 #[no_mangle]
 pub extern "C" fn marlbrace_add(

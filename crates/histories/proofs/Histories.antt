@@ -159,13 +159,13 @@ module _ (S : State) (cs : List Call) where
 
 -- "IPv6 pool, 100 nodes, shares 40 and 30, limits 60 and 80, both sets empty. On set 1, adding a /59 (60 nodes) is granted; a /60 or /79 instead gets 10, a /80 gets 9. With the
 -- /59 there, set 0 may add a /39; a /40 gets 10."
-abbrev pool100 : State
+abbrev pub pool100 : State
 pool100 = emptyState (setup 6 0 2 100 (40 ∷ 30 ∷ []) (60 ∷ 80 ∷ []) 0)
 
-abbrev net : ℕ → Net
+abbrev pub net : ℕ → Net
 net n = record { family = 6; hi = 0; lo = 0; len = n }
 
-abbrev adds : ℕ → ℕ → Call
+abbrev pub adds : ℕ → ℕ → Call
 adds k n = relist (add k (net n))
 
 pub worked-pool : (answersFrom pool100 (adds 1 59 ∷ []) ≡ (0, 60) ∷ [])

@@ -12,15 +12,15 @@ use Rattle.nodes.specs.Words.{Has}
 use Rattle.pool_state.specs.Kept.{indexL}
 use Rattle.pool_state.specs.States.{State, indexedOf}
 use Rattle.pool_state.specs.Decode.{indexesAt, sound, decode}
-use Rattle.pool_state.specs.Changes.{setAt, listAt, netRules}
+use Rattle.pool_state.specs.Changes.{setAt, listAt}
 use Rattle.pool_state.proofs.Indexed.{indexes-at}
 use Rattle.pool_state.proofs.Whole.{decode-whole}
 use Rattle.lookup.specs.Rules.{supernetRule, containsRule}
-use Rattle.lookup.proofs.OnLists.{supernetRule-sound, containsRule-sound}
 use Rattle.histories.specs.Calls.{Call}
-use Rattle.histories.specs.Histories.{stateFrom, History}
+use Rattle.histories.specs.Histories.{stateFrom, History, SameList}
 use Rattle.histories.proofs.Step.{stateAfter-indexed}
 use Rattle.histories.proofs.Histories.{history-sound}
+use Rattle.histories.proofs.SameReadings.{same-supernet, same-contains}
 
 pub index-stays : (S : State) (cs : List Call) (k : ℕ) → setAt (stateFrom S cs) k .indexed ≡ setAt S k .indexed
 unfolding stateFrom
@@ -40,12 +40,11 @@ index-right {S = S} d {cs} {v = v} h k lt e =
 -- "Answers equal those without the index on every sound pool": they are the same wherever two sound pools agree on the family, on the form, on whether there is the set, and on its list.
 module _ (w v : List ℕ) {S T : State} (d : decode w ≡ sound S) (e : decode v ≡ sound T) (k : ℕ) (family : S .family ≡ T .family) (form : S .form ≡ T .form)
     (known : leb (length (S .sets)) k ≡ leb (length (T .sets)) k) (list : listAt S k ≡ listAt T k) where
-  net-rules : (n : Net) → netRules n S ≡ netRules n T
-  unfolding netRules
-  net-rules n = rw family
+  lists : SameList k S T
+  lists = record { family = family; known = known; list = list }
 
   pub index-unseen : (n : Net) → supernetRule w k n ≡ supernetRule v k n
-  index-unseen n = rw (supernetRule-sound w S d k n, supernetRule-sound v T e k n, known, net-rules n, family, form, list)
+  index-unseen n = same-supernet w v d e lists form n
 
   pub index-unheard : (n : Net) → containsRule w k n ≡ containsRule v k n
-  index-unheard n = rw (containsRule-sound w S d k n, containsRule-sound v T e k n, known, net-rules n, form, list)
+  index-unheard n = same-contains w v d e lists form n

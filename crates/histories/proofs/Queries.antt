@@ -22,7 +22,8 @@ use Rattle.pool_state.proofs.Decoded.{decode-header}
 use Rattle.lookup.specs.Rules.{onRoot, Held, containsRule, lookupNo, unheld, stepsOf}
 use Rattle.lookup_many.specs.Rules.{queryAt, inOne, answersOf, allNo, answersAfter}
 use Rattle.histories.specs.Calls.{Call}
-use Rattle.histories.specs.Histories.{stateFrom, History, callsOn, AllAlone, SameAt}
+use Rattle.histories.specs.Histories.{stateFrom, History, callsOn, AllAlone, SameAt, SameList}
+use Rattle.histories.proofs.Step.{sameAt-list}
 use Rattle.histories.proofs.Histories.{history-sound}
 use Rattle.histories.proofs.TwoHistories.{same-after}
 use Rattle.histories.proofs.Readings.{history-contains}
@@ -53,6 +54,11 @@ allNo-sound w S d k f qs n =
     go false true false = refl
     go false false c = refl
 
+pub allNo-same : (w v : List ℕ) {S T : State} → decode w ≡ sound S → decode v ≡ sound T → {k : ℕ} → SameList k S T → (f : ℕ) (qs : List ℕ) (n : ℕ) → allNo w k f qs n ≡ allNo v k f qs n
+allNo-same w v {S} {T} d q {k} s f qs n =
+    let r : firstNo (allRules k f qs n S) ≡ firstNo (allRules k f qs n T) = rw (s .known, s .family) in
+    allNo-sound w S d k f qs n ∙ r ∙ sym (allNo-sound v T q k f qs n)
+
 -- what contains answers, query by query
 abbrev heldIn : State → ℕ → Net → ℕ × Held
 heldIn S k n = let l = listAt S k in answered (lookupNo S k n) unheld (containsL l (netBits n), (stepsOf (S .form) l (netBits n), hasBitPast n))
@@ -79,9 +85,6 @@ module _ {w z : List ℕ} {S T : State} {cs ds : List Call} {rs ss : List (ℕ �
   pub two-contains-all : (allNo u k f qs (length x) ≡ allNo v k f qs (length x)) × (answersAfter x u k f qs ≡ answersAfter x v k f qs)
   unfolding answersAfter answersOf
   two-contains-all =
-      let n = length x in
-      let s = same-after d q k same-at h g a e in
-      let r : firstNo (allRules k f qs n (stateFrom S cs)) ≡ firstNo (allRules k f qs n (stateFrom T ds)) = rw (s .known, s .family) in
-      let o = allNo-sound u (stateFrom S cs) (history-sound d h) k f qs n ∙ r ∙ sym (allNo-sound v (stateFrom T ds) (history-sound q g) k f qs n) in
+      let o = allNo-same u v (history-sound d h) (history-sound q g) (sameAt-list (same-after d q k same-at h g a e)) f qs (length x) in
       let each : ℕ → ℕ = λ i. inOne (containsRule v k (queryAt f qs i)) in
       (o, rw (o, fill-same _ each (λ i. ap inOne (two-contains d q k same-at h g a e (queryAt f qs i))) (length qs / 3) 0))

@@ -1,5 +1,5 @@
 -- One call from a state: the number of its answer, and the state that it leaves. Three laws have a case for each call that relists: the refusals of its arguments stand in the table before those of the limit
--- and the room (rules-other), its result is a list (isList-resultOf), and where it names one set it depends on that set alone (call-same). Assumes nothing.
+-- and the room (rules-other), its result is a list (isList-resultOf), and it depends on the lists of the sets that it names alone (call-lists). Assumes nothing.
 use mathlib.Core.Path.{_≡_, refl, ap, ap₂, _∙_}
 use mathlib.Core.Bool.{Bool, true, false, not, cond, _&&_}
 use mathlib.Core.List.{List, [], _∷_, _++_}
@@ -45,7 +45,7 @@ use Rattle.change_many.proofs.Lists.{isList-poured}
 use Rattle.change_many.proofs.Outcomes.{isList-file}
 use Rattle.setfile.proofs.LoadOutcomes.{isList-load}
 use Rattle.histories.specs.Calls.{Relist, Call, add, remove, simplify, merge, intersect, exclude, excludeApart, load, pour, addRange, relist, replan, makePublic, writes, target, namesOne, argsOf, argsNo, resultOf, rulesOf, nextOf, callNo, answerOf, stateAfter, Outcome}
-use Rattle.histories.specs.Histories.{SameAt}
+use Rattle.histories.specs.Histories.{SameAt, SameList}
 
 within-listAt : (S : State) (k : ℕ) → isState S ≡ true → within (width (S .family)) (listAt S k) ≡ true
 within-listAt S k e = isList-within (width (S .family)) (listAt S k) (isList-listAt S k e)
@@ -108,47 +108,54 @@ isList-resultOf (load k d) S e a = isList-load d k S a
 isList-resultOf (pour x k d) S e a = isList-poured (width (S .family)) (listAt S k) (fileList (readFile d)) (isList-listAt S k e) (isList-file d S a) x
 isList-resultOf (addRange k s) S e a = isList-addRange (width (S .family)) (listAt S k) (rangeOf s) (isList-listAt S k e)
 
--- Two states that agree on a set.
-pub sameAt-list : {k : ℕ} {S T : State} → SameAt k S T → listAt S k ≡ listAt T k
-sameAt-list h = ap (λ (s : SetState). s .list) (h .set)
+-- Two states that agree on a set, or on its list.
+pub sameAt-list : {k : ℕ} {S T : State} → SameAt k S T → SameList k S T
+sameAt-list h = record { family = h .family; known = h .known; list = ap (λ (s : SetState). s .list) (h .set) }
 
-pub net-same : (n : Net) (k : ℕ) (S T : State) → SameAt k S T → netRules n S ≡ netRules n T
+pub net-same : (n : Net) (k : ℕ) (S T : State) → SameList k S T → netRules n S ≡ netRules n T
 unfolding netRules
 net-same n k S T h = rw (h .family)
 
-load-same : (x : File) (k : ℕ) (S T : State) → SameAt k S T → loadRules x k S ≡ loadRules x k T
+load-same : (x : File) (k : ℕ) (S T : State) → SameList k S T → loadRules x k S ≡ loadRules x k T
 unfolding loadRules
 load-same broken k S T h = refl
-load-same (file f l) k S T h = rw (h .family, sameAt-list h)
+load-same (file f l) k S T h = rw (h .family, h .list)
 
-file-same : (x : File) (k : ℕ) (S T : State) → SameAt k S T → fileRules x S ≡ fileRules x T
+file-same : (x : File) (k : ℕ) (S T : State) → SameList k S T → fileRules x S ≡ fileRules x T
 unfolding fileRules
 file-same broken k S T h = refl
 file-same (file f l) k S T h = rw (h .family)
 
-span-same : (s : Span) (k : ℕ) (S T : State) → SameAt k S T → spanRules s S ≡ spanRules s T
+span-same : (s : Span) (k : ℕ) (S T : State) → SameList k S T → spanRules s S ≡ spanRules s T
 unfolding spanRules
 span-same s k S T h = rw (h .family)
 
-combine-same : (L : List Bits → List Bits → List Bits) (to a b : ℕ) (S T : State) → (eqb a to && eqb b to) ≡ true → SameAt to S T
+-- on the lists of all sets that the call c names: where it names one set, of that one
+abbrev SameNamed : Relist → State → State → Type 0
+SameNamed c S T = (j : ℕ) → (namesOne c ≡ true → j ≡ writes c) → SameList j S T
+
+combine-same : (L : List Bits → List Bits → List Bits) (to a b : ℕ) (S T : State) → ((j : ℕ) → ((eqb a to && eqb b to) ≡ true → j ≡ to) → SameList j S T)
     → (combineRules to a b S ≡ combineRules to a b T) × (L (listAt S a) (listAt S b) ≡ L (listAt T a) (listAt T b))
 unfolding combineRules
-combine-same L to a b S T e h =
-    let x = eqb-true a to (and-left (eqb a to) (eqb b to) e) in
-    let y = eqb-true b to (and-right (eqb a to) (eqb b to) e) in
-    rw (x, y, h .known, sameAt-list h) (refl, refl)
+combine-same L to a b S T h =
+    let x = h a (λ e. eqb-true a to (and-left (eqb a to) (eqb b to) e)) in
+    let y = h b (λ e. eqb-true b to (and-right (eqb a to) (eqb b to) e)) in
+    rw (h to (λ e. refl) .list, x .known, x .list, y .known, y .list) (refl, refl)
+
+pub call-lists : (c : Relist) (S T : State) → SameNamed c S T → (argsOf c S ≡ argsOf c T) × (resultOf c S ≡ resultOf c T)
+call-lists (add k n) S T h = let g = h k (λ e. refl) in (net-same n k S T g, rw (g .list))
+call-lists (remove k n) S T h = let g = h k (λ e. refl) in (net-same n k S T g, rw (g .list))
+call-lists (simplify k) S T h = (refl, rw (h k (λ e. refl) .list))
+call-lists (merge to a b) S T h = combine-same mergeL to a b S T h
+call-lists (intersect to a b) S T h = combine-same intersectL to a b S T h
+call-lists (exclude to a b) S T h = combine-same differenceL to a b S T h
+call-lists (excludeApart to a b) S T h = combine-same excludeL to a b S T h
+call-lists (load k d) S T h = (load-same (readFile d) k S T (h k (λ e. refl)), refl)
+call-lists (pour x k d) S T h = let g = h k (λ e. refl) in (file-same (readFile d) k S T g, ap (λ l. pouredL x l (fileList (readFile d))) (g .list))
+call-lists (addRange k s) S T h = let g = h k (λ e. refl) in (span-same s k S T g, ap₂ (λ f l. addRangeL (width f) l (rangeOf s)) (g .family) (g .list))
 
 pub call-same : (c : Relist) (S T : State) → namesOne c ≡ true → SameAt (writes c) S T → (argsOf c S ≡ argsOf c T) × (resultOf c S ≡ resultOf c T)
-call-same (add k n) S T e h = (net-same n k S T h, rw (sameAt-list h))
-call-same (remove k n) S T e h = (net-same n k S T h, rw (sameAt-list h))
-call-same (simplify k) S T e h = (refl, rw (sameAt-list h))
-call-same (merge to a b) S T e h = combine-same mergeL to a b S T e h
-call-same (intersect to a b) S T e h = combine-same intersectL to a b S T e h
-call-same (exclude to a b) S T e h = combine-same differenceL to a b S T e h
-call-same (excludeApart to a b) S T e h = combine-same excludeL to a b S T e h
-call-same (load k d) S T e h = (load-same (readFile d) k S T h, refl)
-call-same (pour x k d) S T e h = (file-same (readFile d) k S T h, ap (λ l. pouredL x l (fileList (readFile d))) (sameAt-list h))
-call-same (addRange k s) S T e h = (span-same s k S T h, ap₂ (λ f l. addRangeL (width f) l (rangeOf s)) (h .family) (sameAt-list h))
+call-same c S T e h = call-lists c S T (λ j f. rw (f e) (sameAt-list h))
 
 -- A result within the share is judged by the mark and the limit of its set alone.
 abbrev pub ownRules : State → ℕ → List Bits → List Rule

@@ -84,7 +84,7 @@ module _ (c : Relist) {S T : State} (i : isState S ≡ true) (j : isState T ≡ 
 -- a call that makes the set public-only depends on that set alone
 marks-same : (k : ℕ) {S T : State} → SameAt k S T → callNo S (makePublic k) ≡ callNo T (makePublic k)
 unfolding changeRules markRules
-marks-same k h = rw (h .known, sameAt-list h)
+marks-same k h = rw (h .known, sameAt-list h .list)
 
 -- no replan is among them
 call-alone-same : (c : Call) {S T : State} → SameAt (target c) S T → CallAlone S c → CallAlone T c

@@ -7,6 +7,7 @@
 --   Alone S c                 in the state S the call c, which relists, names no other set than the one that it writes, and its result fits that set's share
 --   AllAlone S k cs           each call on set k relists it so or makes it public-only: from the state S on none of the calls cs replans it
 --   SameAt k S T              the states S and T agree on set k: the family, the form, whether there is such a set, and all that is of it
+--   SameList k S T            they agree on its list: the family, whether there is such a set, and its list
 use mathlib.Core.Bool.{true, cond}
 use mathlib.Core.List.{List, [], _∷_}
 use mathlib.Core.Path.{_≡_}
@@ -15,7 +16,7 @@ use lib.Dec.{eqb, leb}
 use lib.ListN.{length}
 use Rattle.pool_state.specs.Kept.{heldL}
 use Rattle.pool_state.specs.States.{State}
-use Rattle.pool_state.specs.Changes.{setAt}
+use Rattle.pool_state.specs.Changes.{setAt, listAt}
 use Rattle.histories.specs.Calls.{Relist, Call, relist, replan, makePublic, writes, target, namesOne, argsNo, resultOf, answerOf, stateAfter, Outcome}
 
 unfoldable pub stateFrom : State → List Call → State
@@ -57,3 +58,8 @@ pub record SameAt (k : ℕ) (S T : State) : Type 0 where
   pub form : S .form ≡ T .form
   pub known : leb (length (S .sets)) k ≡ leb (length (T .sets)) k
   pub set : setAt S k ≡ setAt T k
+
+pub record SameList (k : ℕ) (S T : State) : Type 0 where
+  pub family : S .family ≡ T .family
+  pub known : leb (length (S .sets)) k ≡ leb (length (T .sets)) k
+  pub list : listAt S k ≡ listAt T k

@@ -1,34 +1,31 @@
 -- Down the bits of the network and back: what each plan asks of what does it, and that it makes of the trie what the change does. Assumes nothing.
-use mathlib.Core.Bool.{Bool, true, false, cond}
+use mathlib.Core.Bool.{Bool, true, false}
 use mathlib.Core.List.{List, [], _∷_, _++_, append-assoc}
-use mathlib.Core.Path.{_≡_, refl, sym, ap, _∙_}
+use mathlib.Core.Path.{_≡_, sym, ap, _∙_}
 use Prim.Native.Nat.{ℕ, suc, _+_, _-_, _*_, _≤_, _<_}
 use native.Mathlib.Omega.{arith}
 use lib.ListN.{length, length-append}
 use Rattle.nets.specs.Bits.{Bits}
 use Rattle.nets.specs.Networks.{width, netFrom}
 use Rattle.nets.specs.declared.Net.{Net}
-use Rattle.nets.specs.Tries.{Trie, none, node, leaf, size, side, insertT}
+use Rattle.nets.specs.Tries.{Trie, none, leaf, size, side, insertT}
 use Rattle.nets.specs.TrieOps.{removeT}
 use Rattle.nets.proofs.Numbers.{width-le}
-use Rattle.nodes.specs.Words.{put}
 use Rattle.nodes.proofs.Has.{has-same}
 use Rattle.nodes.proofs.Put.{length-put}
 use Rattle.nodes.proofs.Tries.{some}
 use Rattle.trie_paths.specs.Spans.{snoc}
-use Rattle.trie_paths.proofs.Paths.{length-snoc}
 use Rattle.branch_points.specs.KeptTries.{keptSize}
 use Rattle.trie_insert.proofs.Insertion.{size-insert}
 use Rattle.trie_remove.proofs.Remains.{size-removeT}
 use Rattle.branch_points.proofs.Sizes.{keptSize-some, size-deep}
 use Rattle.branch_points.proofs.Counts.{keptSize-le}
-use Rattle.kept_nodes.specs.Words.{stride, keptEnc, spot}
+use Rattle.kept_nodes.specs.Words.{keptEnc, spot}
 use Rattle.kept_nodes.proofs.Places.{spot-within}
 use Rattle.kept_steps.specs.Segments.{KeptSegment, KeptSpliced, ownSize}
 use Rattle.kept_steps.proofs.Halves.{behind, size-is}
 use Rattle.kept_plan.specs.Change.{changeT, Way, flatWords, Flattened, Forks, Drops, Downs, Changes}
-use Rattle.kept_acts.specs.Acts.{Acts, Halves, Became, forkWords, dropWords, dropSize, flatSize, linkable, relinkEnd, relinked, Relinks}
-use Rattle.kept_plan.proofs.Changed.{both-words}
+use Rattle.kept_acts.specs.Acts.{Acts, Halves, Became, forkWords, dropWords, dropSize, flatSize, relinkEnd, relinked, Relinks}
 use Rattle.kept_plan.proofs.Plans.{way-len}
 use Rattle.kept_change.proofs.Results.{fork-size, fork-words, drop-both, drop-size, drop-words, half, made, half-here, down-size, down-spliced}
 use Rattle.kept_blocks.proofs.Remaining.{remain-size}
@@ -94,7 +91,7 @@ module _ {f : ℕ} {w : List ℕ} {b n i e u : ℕ} {p r : Bits} {t : Trie} {res
     size-down y z ey ez = let s = down-size g k in let d = down-half in omega (arith, g .end)
 
 -- a change makes at most twice as many nodes more as there are bits
-made-le : (x : Bool) (r : Bits) (t : Trie) → size (changeT x r t) ≤ size t + 2 * length r + 1
+pub made-le : (x : Bool) (r : Bits) (t : Trie) → size (changeT x r t) ≤ size t + 2 * length r + 1
 made-le true r t = omega (arith, size-insert r t)
 made-le false r t = omega (arith, size-removeT r t)
 

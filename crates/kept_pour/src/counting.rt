@@ -10,7 +10,7 @@ ghost use Rattle.kept_pour.specs.Passing.{Counts};
 use crate::parts::Turn;
 use crate::parts::flat_size;
 use crate::parts::nodes_of;
-use crate::parts::over;
+use crate::parts::nodes_over;
 use crate::parts::step;
 use kept_build::Tallied;
 use kept_build::tally;
@@ -61,7 +61,7 @@ pub fn count(
             let g = second(s, h);
             let r = count(w, b, n, a, m, into, bytes, cursors, g);
             let behind = r.head;
-            let nodes = over(l.nodes, r.nodes);
+            let nodes = nodes_over(l.nodes, r.nodes);
             Tallied {
                 nodes,
                 head: behind,

@@ -90,7 +90,7 @@ pub fn flat_size(full: bool) -> usize
 }
 
 // The nodes over halves of x and y nodes: one more where both have some.
-pub fn over(x: usize, y: usize) -> usize
+pub fn nodes_over(x: usize, y: usize) -> usize
     requires { ⌜ x + y < 9223372036854775808 ⌝ }
     ensures { λ r. ⌜ ((l u : Trie) → x ≡ keptSize l → y ≡ keptSize u → r ≡ keptSize (glue false l u)) ⌝ }
 {

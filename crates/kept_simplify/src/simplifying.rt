@@ -62,7 +62,7 @@ fn settle(w: &mut [u32], family: u8, b: usize, i: usize, s: Net, k: usize)
 
 // Writes node o with the string s over its halves, the second of m nodes and the first of k; x and y are the strings of their first nodes. Answers the nodes
 // of all.
-fn over(
+fn write_over(
     w: &mut [u32],
     family: u8,
     b: usize,
@@ -146,7 +146,7 @@ fn shrink(
     let first = net_at(w, family, b, n, h.middle as u32);
     let after = join_from(w, family, b, n, h.middle, e, next);
     let l = shrink(w, family, b, n, h.middle, e, o + 1 + r, after);
-    over(w, family, b, o, h.path, h.second, first, r, l)
+    write_over(w, family, b, o, h.path, h.second, first, r, l)
 }
 
 // Simplifies the trie that stands from node i up to node e, where it stands, and answers its nodes. The words behind these stay as they are.

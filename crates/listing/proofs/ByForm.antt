@@ -1,7 +1,7 @@
 -- What stands in a seat, in either form: a law for each return of `seated`'s functions by the form, and what holds of the trie in both. Assumes nothing.
-use mathlib.Core.Bool.{Bool, true, false, not, true≢false, false≢true}
+use mathlib.Core.Bool.{Bool, true, false, not}
 use mathlib.Core.List.{List}
-use mathlib.Core.Path.{_≡_, refl, sym, ap, _∙_}
+use mathlib.Core.Path.{_≡_, refl, sym, ap}
 use Prim.Native.Nat.{ℕ, zero, suc, _-_, _≤_, _<_}
 use native.Mathlib.Omega.{arith}
 use borrow.Author.Tests.{leb-true}
@@ -29,6 +29,7 @@ use Rattle.kept_list.proofs.Scanned.{holds-first}
 use Rattle.kept_spots.specs.Onward.{KeptStandsIn, KeptGoes}
 use Rattle.kept_spots.proofs.Onward as kept
 use Rattle.listing.specs.Seated.{HeldIn, LayableIn, GoesIn}
+use Rattle.pool_state.proofs.Kept.{is-first, is-second}
 
 -- The returns of `is_first`.
 pub first-few : (w : List ℕ) → length w ≤ 5 → true ≡ sameForm (formIn w) first
@@ -38,21 +39,13 @@ pub first-said : (x : ℕ) → eqb x 0 ≡ sameForm (formOf x) first
 first-said zero = refl
 first-said (suc x) = eqb·suc-zero x
 
--- The form, by its answer.
-same-first : (F : Form) → sameForm F first ≡ true → F ≡ first
-same-first first e = refl
-same-first second e = absurd (false≢true e)
-
-same-second : (F : Form) → sameForm F first ≡ false → F ≡ second
-same-second first e = absurd (true≢false e)
-same-second second e = refl
-
+-- What is held there, by its answer.
 module _ {w : List ℕ} {s : Seat} {t : Trie} (h : HeldIn w s t) {r : Bool} (e : r ≡ sameForm (formIn w) first) where
   pub held-first : r ≡ true → StandsIn w s t
-  held-first q = h .stands (same-first (formIn w) (sym e ∙ q))
+  held-first q = h .stands (is-first (formIn w) e q)
 
   pub held-second : r ≡ false → KeptStandsIn w s t
-  held-second q = h .kept (same-second (formIn w) (sym e ∙ q))
+  held-second q = h .kept (is-second (formIn w) e q)
 
 by-form : {X : Type 0} (F : Form) → (F ≡ first → X) → (F ≡ second → X) → X
 by-form first a b = a refl

@@ -26,8 +26,8 @@ use Rattle.pool_state.specs.declared.Answer.{Answer}
 use Rattle.pool_state.specs.declared.Answer.the-variants as answer
 use Rattle.pool_state.proofs.Kept.{form-some}
 use Rattle.lookup.specs.Rules.{onRoot, pathOf, query, lookup, memberOf, isMember, supernetRule, containsRule, emptyAt, emptyRule}
-use Rattle.lookup.specs.declared.walking.Shown.{Shown}
-use Rattle.lookup.specs.declared.walking.Shown.the-variants.{Refused}
+use Rattle.trie_lookup.specs.declared.Shown.{Shown}
+use Rattle.trie_lookup.specs.declared.Shown.the-variants.{Refused}
 use Rattle.lookup.proofs.Cuts.{Cut, lookup-cut}
 
 -- The header and the set.

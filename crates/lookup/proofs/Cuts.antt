@@ -1,8 +1,8 @@
 -- A member that a path shows is at most as long as the query: the query cut to its length is a network, and never more nodes are read than the query has bits, plus one. Assumes nothing.
 use mathlib.Core.Bool.{Bool, true, false, cond, _&&_, _||_}
-use mathlib.Core.List.{List, [], _∷_}
+use mathlib.Core.List.{List}
 use mathlib.Core.Path.{_≡_, refl, _∙_}
-use Prim.Native.Nat.{ℕ, zero, suc, _+_, _-_, _/_, _%_, _≤_}
+use Prim.Native.Nat.{ℕ, zero, suc, _+_, _≤_}
 use native.Mathlib.Omega.{arith}
 use lib.Dec.{eqb, leb, ltb}
 use lib.ListN.{length, getD, take, drop, length-drop}
@@ -15,7 +15,6 @@ use Rattle.nets.specs.declared.Refusal.the-variants.{Damaged, NoSet, WrongFamil
 use Rattle.nets.proofs.Strings.{cond-both}
 use Rattle.nets.proofs.Numbers.{refusalOf-is, is-refusalOf, length-netBits}
 use Rattle.nets.proofs.Answers.{withLenNo-net}
-use Rattle.nodes.specs.Words.{wordAt}
 use Rattle.kept_nodes.specs.Parse.{lenAt, distAt, stringAt}
 use Rattle.kept_lookup.specs.Walks.{keptWalk, keptWalkFrom}
 use Rattle.kept_lookup.specs.declared.Shown as kept-shown
@@ -24,56 +23,11 @@ use Rattle.pool_state.specs.Kept.{Form, first, second}
 use Rattle.pool_state.specs.Decode.{recordAt, base, formIn, isHeader}
 use Rattle.pool_state.specs.Rules.{tagIn}
 use Rattle.pool_state.specs.Steps.{indexIn}
-use Rattle.lookup.specs.Walks.{areNodes, toward, shows, walk, walkFrom, isNode, nodeShows, standsOn}
+use Rattle.trie_lookup.specs.Walks.{walkFrom, standsOn}
 use Rattle.lookup.specs.Rules.{onRoot, shownOf, pathOf, query, lookup, memberOf, supernetRule}
-use Rattle.lookup.specs.declared.walking.Shown.{Shown}
-use Rattle.lookup.specs.declared.walking.Shown.the-variants.{Member, Nothing, Refused}
-
--- the member that is shown has at most m bits, and at most m + 1 nodes were read
-abbrev AtMost : ℕ → Shown → Type 0
-AtMost m (Member d s) = (d ≤ m) × (s ≤ m + 1)
-AtMost m (Nothing s) = s ≤ m + 1
-AtMost m (Refused r) = Unit
-
-module _ (w : List ℕ) (b n m : ℕ) where
-  shows-within : (d i x : ℕ) (s : Shown) → d ≤ m → AtMost m s → AtMost m (shows n d i x s)
-  shows-within d i x s le h =
-      cond-both (AtMost m) (eqb x 0) (Member d (d + 1)) (cond (areNodes n i x) s (Refused Damaged)) (le, omega arith) (cond-both (AtMost m) (areNodes n i x) s (Refused Damaged) h tt)
-
-  walk-within : (q : Bits) (d i : ℕ) → d + length q ≤ m → AtMost m (walk w b n d i q)
-  unfolding walk
-  walk-within [] d i le = shows-within d i (wordAt w b i) (Nothing (d + 1)) (omega arith) (omega arith)
-  walk-within (c ∷ q) d i le =
-      let x = toward c (wordAt w b i) in
-      shows-within d i (wordAt w b i) (cond (eqb x 0) (Nothing (d + 1)) (walk w b n (d + 1) (i + x) q)) (omega arith)
-      (cond-both (AtMost m) (eqb x 0) (Nothing (d + 1)) (walk w b n (d + 1) (i + x) q) (omega arith) (walk-within q (d + 1) (i + x) (omega arith)))
-
-  walkFrom-within : (q : Bits) (r : ℕ) → length q ≤ m → AtMost m (walkFrom w b n q r)
-  unfolding walkFrom
-  walkFrom-within q r le =
-      cond-both (AtMost m) (eqb r 0) (Nothing 0) (cond (leb r n) (walk w b n 0 r q) (Refused Damaged)) (omega arith)
-      (cond-both (AtMost m) (leb r n) (walk w b n 0 r q) (Refused Damaged) (walk-within q 0 r (omega arith)) tt)
-
-  nodeShows-within : (d i : ℕ) (q : Bits) → d ≤ 8 → 8 + length q ≤ m → AtMost m (nodeShows w b n d i q)
-  unfolding nodeShows
-  nodeShows-within d i q le fit =
-      cond-both (AtMost m) (eqb d 8) (walk w b n 8 i q) (cond (eqb (wordAt w b i) 0) (Member d (d + 1)) (Refused Damaged)) (walk-within q 8 i fit)
-      (cond-both (AtMost m) (eqb (wordAt w b i) 0) (Member d (d + 1)) (Refused Damaged) (omega arith, omega arith) tt)
-
-  standsOn-within : (r x : ℕ) (q : Bits) → 8 + length q ≤ m → AtMost m (standsOn w b n r x q)
-  unfolding standsOn
-  standsOn-within r x q fit = go (leb 16 x) (leb x 24) (leb (x % 32) 8) refl refl
-    where
-      inner : (d : Bool) → leb (x % 32) 8 ≡ d → AtMost m (cond (d && isNode n (r + x / 32)) (nodeShows w b n (x % 32) (r + x / 32) q) (Refused Damaged))
-      inner false z = tt
-      inner true z =
-          cond-both (AtMost m) (isNode n (r + x / 32)) (nodeShows w b n (x % 32) (r + x / 32) q) (Refused Damaged) (nodeShows-within (x % 32) (r + x / 32) q (leb-true (x % 32) 8 z) fit) tt
-
-      go : (a c d : Bool) → leb x 24 ≡ c → leb (x % 32) 8 ≡ d
-          → AtMost m (cond (a && c) (Nothing (x - 16)) (cond (d && isNode n (r + x / 32)) (nodeShows w b n (x % 32) (r + x / 32) q) (Refused Damaged)))
-      go true true d e f = omega (arith, leb-true x 24 e)
-      go true false d e f = inner d f
-      go false c d e f = inner d f
+use Rattle.trie_lookup.specs.declared.Shown.{Shown}
+use Rattle.trie_lookup.specs.declared.Shown.the-variants.{Member, Nothing, Refused}
+use Rattle.trie_lookup.proofs.Within.{AtMost, walkFrom-within, standsOn-within}
 
 first-within : (w : List ℕ) (m k : ℕ) (q : Bits) → length q ≤ m → AtMost m (pathOf first w k q)
 unfolding pathOf

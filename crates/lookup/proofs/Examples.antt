@@ -16,9 +16,9 @@ use Rattle.kept_nodes.specs.Parse.{netFound, stringAt}
 use Rattle.kept_lookup.specs.Walks.{keptWalk, keptWalkFrom}
 use Rattle.pool_state.specs.Kept.{second, readL}
 use Rattle.pool_state.specs.Decode.{mark, damaged, isForm, isHeader, readSet, readSets, readPool, decode}
-use Rattle.lookup.specs.Walks.{walk, walkFrom, nodeShows, standsOn}
+use Rattle.trie_lookup.specs.Walks.{walk, walkFrom, nodeShows, standsOn}
 use Rattle.lookup.specs.Rules.{unsought, onRoot, pathOf, query, lookup, supernetRule, emptyRule}
-use Rattle.lookup.specs.declared.walking.Shown.the-variants.{Member, Nothing, Refused}
+use Rattle.trie_lookup.specs.declared.Shown.the-variants.{Member, Nothing, Refused}
 
 -- an IPv4 pool of three nodes with one set, by the number of its root and the words of its nodes: 5, 0, 0 hold 0.0.0.0/1 and 128.0.0.0/1
 abbrev words : ℕ → List ℕ → List ℕ

@@ -1,10 +1,9 @@
--- The laws of the lookups, from the bottom up: the walk by the tests of the code, the rules by those of the calls, the answers, and the lists of a sound pool.
-pub mod Turns
+-- The laws of the lookups, from the bottom up: where a path begins, the rules by the tests of the calls, the answers, and the lists of a sound pool.
 pub mod Beginnings
 pub mod Cuts
 pub mod Asked
 pub mod Replies
-pub mod Searched
+pub mod Firsts
 pub mod Seconds
 pub mod OnLists
 pub mod Examples

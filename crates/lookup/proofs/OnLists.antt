@@ -40,15 +40,16 @@ use Rattle.pool_state.proofs.OnTries.{decode-at}
 use Rattle.pool_state.proofs.OnKept.{decode-kept}
 use Rattle.branch_points.specs.BranchPoints.{keptStepsL}
 use Rattle.branch_points.proofs.Steps.{keptStepsL-le}
-use Rattle.lookup.specs.Walks.{walkFrom, standsOn}
+use Rattle.trie_lookup.specs.Walks.{walkFrom, standsOn}
 use Rattle.lookup.specs.Rules.{unsought, unheld, onRoot, pathOf, query, lookup, memberOf, isMember, supernetRule, containsRule, emptyAt, emptyRule, setNo, lookupNo, stepsOf, foundAs}
-use Rattle.lookup.specs.declared.walking.Shown.{Shown}
-use Rattle.lookup.specs.declared.walking.Shown.the-variants.{Refused}
+use Rattle.trie_lookup.specs.declared.Shown.{Shown}
+use Rattle.trie_lookup.specs.declared.Shown.the-variants.{Refused}
 use Rattle.nodes.specs.Words.{Has}
 use Rattle.nodes.proofs.Has.{has-at}
 use Rattle.trie_index.specs.Index.{standing, indexT}
 use Rattle.trie_index.proofs.Fill.{length-fill, getD-fill}
-use Rattle.lookup.proofs.Searched.{shown, At, walkFrom-search, standing-search}
+use Rattle.trie_lookup.proofs.Searched.{shown, At, standing-search}
+use Rattle.lookup.proofs.Firsts.{walkFrom-search}
 use Rattle.lookup.proofs.Seconds.{kept-search}
 
 -- The member that is found is the query, cut to the member's length.

@@ -9,8 +9,8 @@ use Rattle.pool_state.specs.Rules.{toldAs}
 use Rattle.pool_state.specs.declared.Told.{Told}
 use Rattle.pool_state.proofs.Determined.{toldAs-one}
 use Rattle.lookup.specs.Rules.{lookup, supernetAs, containsAs, memberOf, isMember, supernetRule, containsRule, emptyRule}
-use Rattle.lookup.specs.declared.walking.Shown.{Shown}
-use Rattle.lookup.specs.declared.walking.Shown.the-variants.{Member, Nothing, Refused}
+use Rattle.trie_lookup.specs.declared.Shown.{Shown}
+use Rattle.trie_lookup.specs.declared.Shown.the-variants.{Member, Nothing, Refused}
 use Rattle.lookup.specs.declared.Covering.{Covering}
 use Rattle.lookup.specs.declared.Covering.the-variants as covering
 use Rattle.lookup.specs.declared.Contained.{Contained}

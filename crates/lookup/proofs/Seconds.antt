@@ -20,8 +20,8 @@ use Rattle.pool_state.specs.Decode.{recordAt, base, rootAt, isHeader}
 use Rattle.pool_state.proofs.Header.{isHeader-header, header-rooms}
 use Rattle.pool_state.proofs.Kept.{room-second}
 use Rattle.lookup.specs.Rules.{shownOf, pathOf}
-use Rattle.lookup.specs.declared.walking.Shown.{Shown}
-use Rattle.lookup.proofs.Searched.{shown, insertT-some}
+use Rattle.trie_lookup.specs.declared.Shown.{Shown}
+use Rattle.trie_lookup.proofs.Searched.{shown, insertT-some}
 
 -- The call: the nodes and the root of the set, and a network of the pool's family.
 module _ (w : List ℕ) (k : ℕ) {b n r : ℕ} (g : (b ≡ base (getD w 2 0)) × (n ≡ getD w 3 0) × (r ≡ getD w (recordAt k) 0)) (q : Net) (same : q .family ≡ getD w 1 0) where

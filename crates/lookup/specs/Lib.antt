@@ -1,3 +1,2 @@
--- What a reader must believe of the lookups: the walk down the words, and the rule of each call.
-pub mod Walks
+-- What a reader must believe of the lookups: the rule of each call.
 pub mod Rules

@@ -31,9 +31,9 @@ use Rattle.pool_state.specs.Decode.{recordAt, base, formIn, isHeader}
 use Rattle.pool_state.specs.Rules.{unknown, tagIn}
 use Rattle.pool_state.specs.Steps.{indexIn}
 use Rattle.pool_state.specs.Changes.{netRules}
-use Rattle.lookup.specs.Walks.{walkFrom, standsOn}
-use Rattle.lookup.specs.declared.walking.Shown.{Shown}
-use Rattle.lookup.specs.declared.walking.Shown.the-variants.{Member, Nothing, Refused}
+use Rattle.trie_lookup.specs.Walks.{walkFrom, standsOn}
+use Rattle.trie_lookup.specs.declared.Shown.{Shown}
+use Rattle.trie_lookup.specs.declared.Shown.the-variants.{Member, Nothing, Refused}
 use Rattle.lookup.specs.declared.Covering.{Covering}
 use Rattle.lookup.specs.declared.Covering.the-variants as covering
 use Rattle.lookup.specs.declared.Contained.{Contained}

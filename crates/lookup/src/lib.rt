@@ -5,7 +5,7 @@ use nets::Taken;
 use nets::has_bit_past;
 use pool_state::Answer;
 use pool_state::Told;
-use walking::Shown;
+use trie_lookup::Shown;
 use walking::lookup;
 use walking::root;
 ghost use mathlib.Core.Bool.{true};

@@ -1,10 +1,10 @@
 // The path of a query in the second form: from the root on, as no set is indexed there.
 use crate::beginning::grounds;
-use crate::walking::Shown;
 use kept_lookup::Shown as KeptShown;
 use kept_lookup::kept_walk_from;
 use nets::Net;
 use nets::Refusal;
+use trie_lookup::Shown;
 ghost use mathlib.Core.Bool.{true};
 ghost use mathlib.Core.Path.{_≡_};
 ghost use Prim.Native.Nat.{_<_};

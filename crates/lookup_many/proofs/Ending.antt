@@ -21,11 +21,11 @@ use Rattle.nodes.specs.Parse.{Room}
 use Rattle.nodes.proofs.Put.{length-put}
 use Rattle.pool_state.specs.Decode.{base, isHeader}
 use Rattle.pool_state.proofs.Header.{isHeader-header, header-room}
-use Rattle.lookup.specs.Walks.{walk, walkFrom}
+use Rattle.trie_lookup.specs.Walks.{walk, walkFrom}
 use Rattle.lookup.specs.Rules.{query, isMember}
-use Rattle.lookup.specs.declared.walking.Shown.{Shown}
-use Rattle.lookup.specs.declared.walking.Shown.the-variants.{Refused}
-use Rattle.lookup.proofs.Turns.{walkFrom-node}
+use Rattle.trie_lookup.specs.declared.Shown.{Shown}
+use Rattle.trie_lookup.specs.declared.Shown.the-variants.{Refused}
+use Rattle.trie_lookup.proofs.Turns.{walkFrom-node}
 use Rattle.lookup.proofs.Asked.{prefix-bits, prefix-few, query-refused, query-path}
 use Rattle.lookup_many.specs.Rules.{queryAt, inOne, asked}
 use Rattle.lookup_many.specs.Lanes.{clipped, On, Goes, FourOn, FourGo, laneOf, fourOf, rootIn, placeIn, Seat, Fits}

@@ -8,7 +8,7 @@ use Rattle.nets.specs.Bits.{bits}
 use Rattle.nets.specs.Networks.{width, netBits, inRange, refusalOf, hasBitPast}
 use Rattle.nodes.specs.Words.{put}
 use Rattle.pool_state.specs.Decode.{mark, isForm, isHeader}
-use Rattle.lookup.specs.Walks.{walk, walkFrom}
+use Rattle.trie_lookup.specs.Walks.{walk, walkFrom}
 use Rattle.lookup.specs.Rules.{onRoot, pathOf, query, lookup, containsRule}
 use Rattle.trie_index.specs.Index.{fill}
 use Rattle.lookup_many.specs.Rules.{inOne, answersOf, allNo}

@@ -10,8 +10,8 @@ use Rattle.nets.specs.declared.PrefixBits.{PrefixBits}
 use Rattle.nets.specs.declared.NextBit.the-variants.{Bit}
 use Rattle.nodes.specs.Words.{wordAt}
 use Rattle.nodes.specs.Parse.{Room}
-use Rattle.lookup.specs.Walks.{toward, walk}
-use Rattle.lookup.proofs.Turns.{Down, Inner, Turned, turned-less, turned-within, turned-on}
+use Rattle.trie_lookup.specs.Walks.{toward, walk}
+use Rattle.trie_lookup.proofs.Turns.{Down, Inner, Turned, turned-less, turned-within, turned-on}
 use Rattle.lookup_many.specs.Lanes.{On, Goes, FourOn, FourGo, leftOf}
 use Rattle.lookup_many.specs.declared.lanes.Lane.{Lane}
 use Rattle.lookup_many.specs.declared.lanes.Four.{Four}

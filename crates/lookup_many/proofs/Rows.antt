@@ -17,8 +17,8 @@ use Rattle.nodes.proofs.Put.{put-nil, length-put, set-put, put-behind-at}
 use Rattle.nets.specs.declared.Refusal.{Refusal}
 use Rattle.nets.specs.declared.Refusal.the-variants.{WrongFamily, BadNetwork}
 use Rattle.lookup.specs.Rules.{query, unheld, isMember}
-use Rattle.lookup.specs.declared.walking.Shown.{Shown}
-use Rattle.lookup.specs.declared.walking.Shown.the-variants.{Member, Nothing, Refused}
+use Rattle.trie_lookup.specs.declared.Shown.{Shown}
+use Rattle.trie_lookup.specs.declared.Shown.the-variants.{Member, Nothing, Refused}
 use Rattle.lookup_many.specs.Rules.{queryAt, bit, inOne, asked, askedOf}
 use Rattle.trie_index.specs.Index.{fill}
 use Rattle.trie_index.proofs.Fill.{length-fill, fill-append, set-rest}

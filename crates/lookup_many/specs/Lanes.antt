@@ -18,7 +18,7 @@ use Rattle.nets.specs.Refusals.{answered}
 use Rattle.nets.specs.declared.Net.{Net}
 use Rattle.pool_state.specs.Decode.{recordAt, base, isHeader}
 use Rattle.pool_state.specs.Rules.{tagIn}
-use Rattle.lookup.specs.Walks.{walk}
+use Rattle.trie_lookup.specs.Walks.{walk}
 use Rattle.lookup_many.specs.Rules.{queryAt}
 use Rattle.lookup_many.specs.declared.lanes.Lane.{Lane}
 use Rattle.lookup_many.specs.declared.lanes.Four.{Four}

@@ -1,8 +1,8 @@
 // A query of a row, its answer as one number, and queries answered one by one.
-use lookup::walking::Shown;
 use lookup::walking::query;
 use nets::Net;
 use nets::has_bit_past;
+use trie_lookup::Shown;
 ghost use mathlib.Core.Bool.{true};
 ghost use mathlib.Core.Path.{_≡_};
 ghost use Prim.Native.Nat.{_+_, _-_, _*_, _/_, _≤_, _<_};

@@ -1,8 +1,8 @@
 // Making a set of a pool public-only, for good: from then on its list overlaps no inner network. Where a call is refused, no word changes.
 use nets::Refusal;
-use pool_check::HEAD;
-use pool_check::RECORD;
 use pool_check::seats::seat_of;
+use pool_header::HEAD;
+use pool_header::RECORD;
 use pool_state::Answer;
 use pool_state::Seated;
 ghost use Rattle.pool_state.specs.Rules.{answerAs};

@@ -1,7 +1,7 @@
 -- The words that a pool needs, by the tests of the call; and a granted layout, by what each of its writes leaves. Assumes nothing.
 use mathlib.Core.Path.{_≡_, ap, _∙_}
 use mathlib.Core.Bool.{true, false}
-use mathlib.Core.List.{List, [], _∷_}
+use mathlib.Core.List.{List}
 use Prim.Native.Nat.{ℕ, _≤_, _<_}
 use lib.ListN.{length, replicate}
 use borrow.Author.Tests.{le-leb, lt-leb, eq-eqb, ne-eqb}
@@ -33,7 +33,7 @@ pub layout-done : (w : List ℕ) (p : Setup) → isSetup (length w) p ≡ true �
 layout-done w p h {j} {n} {m} {u} {v} {y} {z} ej en a b c em d =
     layout-granted w p h n u v y z (en ∙ ap (leastWords (p .sets) (p .nodes)) ej) a b c (d ∙ ap (λ k. overIndexes y k 0 0 (blanks (p .sets) (p .indexed))) em)
 
--- The form: it is offered, and in the second no set is to be indexed.
+-- The form: it is one, and in the second no set is to be indexed.
 module _ (o x : ℕ) where
   pub formed-not : isForm o ≡ false → false ≡ isFormed o x
   unfolding isFormed

@@ -1,11 +1,11 @@
 // The parts of layout: the rules of a setup, the cleared buffer, the header, the records of empty sets, their tags and indexes.
 use nets::families::is_family;
-use pool_check::HEAD;
-use pool_check::MARK;
-use pool_check::RECORD;
-use pool_check::is_form;
-use pool_check::is_size;
-use pool_check::least_words;
+use pool_header::HEAD;
+use pool_header::MARK;
+use pool_header::RECORD;
+use pool_header::is_form;
+use pool_header::is_size;
+use pool_header::least_words;
 use trie_index::INDEX;
 use trie_index::write_index;
 ghost use mathlib.Core.Path.{_≡_};
@@ -74,7 +74,7 @@ pub fn shares_fit(sets: u32, nodes: u32, shares: &[u32], limits: &[u32]) -> bool
     true
 }
 
-// The form is offered, and no set is to be indexed in the second.
+// It is a form, and no set is to be indexed in the second.
 fn is_formed(form: u32, indexed: u64) -> bool
     ensures { λ r. ⌜ r ≡ isFormed form indexed ⌝ }
 {

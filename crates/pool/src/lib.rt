@@ -1,13 +1,13 @@
 // The pool: up to 64 sets of networks in one lent slice of words. docs/LAYOUT.md has every word.
 use nets::Refusal;
 use nodes::reading::zeros_at;
-use pool_check::HEAD;
-use pool_check::RECORD;
-use pool_check::is_size;
-use pool_check::least_words;
 use pool_check::seats::seat_in;
 use pool_check::seats::seat_of;
 use pool_check::survey;
+use pool_header::HEAD;
+use pool_header::RECORD;
+use pool_header::is_size;
+use pool_header::least_words;
 pub use pool_state::Answer;
 pub use pool_state::Report;
 use pool_state::Seated;

@@ -1,5 +1,5 @@
 -- The pass over the tags and the indexes by the tests of the code: what is left of them decides. Assumes nothing.
-use mathlib.Core.Path.{_≡_, refl, sym, ap, _∙_, subst}
+use mathlib.Core.Path.{_≡_, refl, sym, ap, _∙_}
 use mathlib.Core.Bool.{Bool, true, false, not, cond, _&&_, false≢true}
 use mathlib.Core.List.{List, [], _∷_}
 use Prim.Native.Nat.{ℕ, suc, _+_, _*_, _≤_, _<_}
@@ -12,7 +12,7 @@ use lib.Seq.{drop-cons}
 use borrow.Author.Tests.{eq-eqb, ne-eqb, not-true, not-false}
 use Rattle.nets.specs.Bits.{Bits, digit}
 use Rattle.nets.specs.Networks.{width}
-use Rattle.nets.specs.Tries.{Trie, none, trieOf}
+use Rattle.nets.specs.Tries.{Trie, trieOf}
 use Rattle.nodes.proofs.Has.{has-head}
 use Rattle.trie_index.specs.Index.{indexT, isAt, Rooted}
 use Rattle.pool_state.specs.Kept.{indexL, first}
@@ -21,7 +21,7 @@ use Rattle.pool_state.specs.Decode.{recordAt, base, leastWords, rootAt, tagOf, 
 use Rattle.pool_state.specs.Rules.{noSet, noSurvey, firstNode, tagIn, surveyOf}
 use Rattle.pool_state.specs.declared.Survey.{Survey}
 use Rattle.pool_state.proofs.Kept.{StandsL, stands-trie, trie-some}
-use Rattle.pool_state.proofs.Header.{IsHeader, isHeader-header, header-room}
+use Rattle.pool_state.proofs.Header.{IsHeader, isHeader-header}
 use Rattle.pool_state.proofs.Holds.{HoldsSet, cons-some, holds-at}
 use Rattle.pool_state.proofs.Encoded.{sound-header, reads-sound}
 use Rattle.pool_state.proofs.Indexed.{areIndexes-count}

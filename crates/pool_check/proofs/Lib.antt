@@ -1,5 +1,2 @@
--- The pass over a pool: its verdict is decode, turn by turn of the loop; first over the sets, then over their tags and indexes.
-pub mod Scan
-pub mod Pass
-pub mod Rights
+-- The pass over the tags and indexes of the sets, which completes the check.
 pub mod Indexes

@@ -1,9 +1,9 @@
 // The first step of every call on a set. What refuses all of them stands here alone.
-use crate::HEAD;
-use crate::RECORD;
 use crate::survey;
 use nets::Refusal;
 use nodes::seats::Seat;
+use pool_header::HEAD;
+use pool_header::RECORD;
 use pool_state::Seated;
 use pool_state::Survey;
 ghost use mathlib.Core.Path.{_≡_};

@@ -14,7 +14,7 @@ use Rattle.nets.specs.Lists.{isList}
 use Rattle.nets.specs.Networks.{width}
 use Rattle.nets.specs.Tries.{Trie, size}
 use Rattle.nodes.specs.Words.{put, Has, Apart, place, enc}
-use Rattle.pool_state.specs.Kept.{heldL, encL, indexL, first, formOf, strideL, spotL}
+use Rattle.pool_state.specs.Kept.{heldL, encL, indexL, first, formOf, spotL}
 use Rattle.pool_state.specs.States.{SetState, State, held, used, indexedOf, claimedBut, roomOf}
 use Rattle.pool_state.specs.Decode.{recordAt, base, leastWords, rootAt, nodeWords, overSets, tagOf, indexWords, overIndexes, indexesAt, over, sound, decode}
 use Rattle.pool_state.specs.Rules.{noSet, firstNode, surveyOf, tagIn}
@@ -23,7 +23,6 @@ use Rattle.pool_state.specs.Steps.{behindAt, Shiftable, relinked, Movabl
 use Rattle.pool_state.specs.declared.Survey.{Survey}
 use Rattle.nodes.proofs.Put.{put-nil, put-behind, put-behind-at, put-before-at, length-put, getD-put-before, getD-put-out}
 use Rattle.nodes.proofs.Has.{has-put, put-has, has-front, has-same, has-at}
-use Rattle.nodes.proofs.Tries.{length-enc}
 use Rattle.pool_state.proofs.Claims.{isState-claimed, used-claimed, claimedBut-is, indexable-at, indexable-first}
 use Rattle.pool_state.proofs.WithSet.{Fits, length-setsWith, withSet-least, isState-withSet}
 use Rattle.pool_state.proofs.Relinked.{relinked-put, length-relinked, getD-relinked, overRecords-relinked}
@@ -57,7 +56,7 @@ abbrev pub withWords : List ℕ → State → ℕ → Survey → List ℕ → Li
 withWords w S k v xs = put w (placeOf w v) (xs ++ behind S k)
 
 -- The sets behind it can move: the other sets use no more than they claim.
-used-but : (k : ℕ) (ss : List SetState) → k < length ss → used ss ≤ claimedBut k ss + held (getD ss k noSet)
+pub used-but : (k : ℕ) (ss : List SetState) → k < length ss → used ss ≤ claimedBut k ss + held (getD ss k noSet)
 unfolding used claimedBut
 used-but k [] lt = absurd (omega arith)
 used-but zero (s ∷ ss) lt = omega (arith, used-claimed ss)
@@ -174,11 +173,15 @@ module _ {w : List ℕ} {S : State} {k : ℕ} {v : Survey} (h : Seen w S k v) (l
         ∙ ap (λ z. overIndexes z (indexesAt S) 0 0 (setsWith k y (S .sets))) overSets-change
         ∙ ap (λ n. overIndexes (overSets w (withSet S k y)) (leastWords n (S .nodes) 0) 0 0 (setsWith k y (S .sets))) (sym (length-setsWith k y (S .sets)))
 
+-- where the node stands that comes behind n nodes of the set
+pub spot-after : {w : List ℕ} {S : State} {k : ℕ} {v : Survey} (h : Seen w S k v) (n : ℕ) → spotBy (strideS S) (base (getD w 2 0)) (v .at + n) ≡ placeOf w v + strideS S * n
+unfolding spotL strideIn
+spot-after {w} {S} {k} {v} h n = ap (λ s. spotBy s (base (getD w 2 0)) (v .at + n)) (sym (strideIn-is h)) ∙ sym (spotIn-on h n)
+
 -- The two orders of writing the words of n nodes: the sets behind are moved first, and then they are written; or they are moved last, where they are no more than they were.
 module _ {w : List ℕ} {S : State} {k : ℕ} {v : Survey} (h : Seen w S k v) (xs : List ℕ) (n : ℕ) (q : length xs ≡ strideS S * n) where
   next : spotBy (strideS S) (base (getD w 2 0)) (v .at + n) ≡ placeOf w v + length xs
-  unfolding spotL strideIn
-  next = ap (λ s. spotBy s (base (getD w 2 0)) (v .at + n)) (sym (strideIn-is h)) ∙ sym (spotIn-on h n) ∙ ap (λ m. placeOf w v + m) (sym q)
+  next = spot-after h n ∙ ap (λ m. placeOf w v + m) (sym q)
 
   pub words-first : {u x : List ℕ} → u ≡ put w (spotBy (strideS S) (base (getD w 2 0)) (v .at + n)) (behindAt (strideS S) w (base (getD w 2 0)) v) → x ≡ put u (placeOf w v) xs
       → x ≡ withWords w S k v xs

@@ -13,7 +13,7 @@ use Rattle.nets.specs.Lists.{isList, nodesL}
 use Rattle.nets.specs.Networks.{isFamily, width}
 use Rattle.nets.proofs.Strings.{and-left, and-right}
 use Rattle.pool_state.specs.Kept.{Form, first, sameForm, heldL}
-use Rattle.pool_state.specs.States.{SetState, State, held, claim, used, claimed, claimedBut, freeOf, roomOf, admits, indexable, keepsRules, isSize, isSet, areSets, isOffered, isState}
+use Rattle.pool_state.specs.States.{SetState, State, held, claim, used, claimed, claimedBut, freeOf, roomOf, admits, indexable, keepsRules, isSize, isSet, areSets, isState}
 use Rattle.pool_state.proofs.Kept.{sameForm-is, sameForm-refl}
 use Rattle.pool_state.specs.Rules.{noSet}
 
@@ -32,7 +32,7 @@ isSize-is s n e =
     )
 
 abbrev numbers : State → Bool
-numbers S = isFamily (S .family) && (isOffered (S .form) && isSize (length (S .sets)) (S .nodes))
+numbers S = isFamily (S .family) && isSize (length (S .sets)) (S .nodes)
 
 abbrev lists : State → Bool
 lists S = areSets (S .form) (S .family) (S .sets) && leb (claimed (S .sets)) (S .nodes)
@@ -40,20 +40,11 @@ lists S = areSets (S .form) (S .family) (S .sets) && leb (claimed (S .sets)) (S 
 module _ (S : State) (e : isState S ≡ true) where
   pub isState-family : isFamily (S .family) ≡ true
   unfolding isState
-  isState-family = and-left (isFamily (S .family)) (isOffered (S .form) && isSize (length (S .sets)) (S .nodes)) (and-left (numbers S) (lists S) e)
-
-  form-size : (isOffered (S .form) && isSize (length (S .sets)) (S .nodes)) ≡ true
-  unfolding isState
-  form-size = and-right (isFamily (S .family)) (isOffered (S .form) && isSize (length (S .sets)) (S .nodes)) (and-left (numbers S) (lists S) e)
-
-  pub isState-offered : isOffered (S .form) ≡ true
-  isState-offered = and-left (isOffered (S .form)) (isSize (length (S .sets)) (S .nodes)) form-size
-
-  pub isState-form : S .form ≡ first
-  isState-form = sameForm-is (S .form) first isState-offered
+  isState-family = and-left (isFamily (S .family)) (isSize (length (S .sets)) (S .nodes)) (and-left (numbers S) (lists S) e)
 
   pub isState-size : isSize (length (S .sets)) (S .nodes) ≡ true
-  isState-size = and-right (isOffered (S .form)) (isSize (length (S .sets)) (S .nodes)) form-size
+  unfolding isState
+  isState-size = and-right (isFamily (S .family)) (isSize (length (S .sets)) (S .nodes)) (and-left (numbers S) (lists S) e)
 
   pub isState-sets : areSets (S .form) (S .family) (S .sets) ≡ true
   unfolding isState

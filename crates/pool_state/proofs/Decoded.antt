@@ -14,8 +14,8 @@ use Rattle.nets.specs.Lists.{isList}
 use Rattle.nets.specs.Networks.{width}
 use Rattle.nets.proofs.Strings.{and-left, and-right}
 use Rattle.nodes.specs.Words.{put, Has}
-use Rattle.pool_state.specs.Kept.{encL, Form, first, second, sameForm, formNo, formOf, strideL}
-use Rattle.pool_state.specs.States.{State, used, claimed, indexedOf, isSet, areSets, isState, isOffered}
+use Rattle.pool_state.specs.Kept.{encL, Form, first, second, sameForm, formOf, strideL}
+use Rattle.pool_state.specs.States.{State, used, claimed, isSet, areSets, isState}
 use Rattle.pool_state.specs.Decode.{recordAt, base, leastOf, rootAt, nodeWords, over, sound, decode, isForm}
 use Rattle.pool_state.specs.Rules.{noSet, firstNode, total, Setup, layoutNo, emptySets, emptyState, laid, withinLimits, wordsOf, isSetup, isFormed}
 use Rattle.nodes.proofs.Put.{length-put}
@@ -23,7 +23,7 @@ use Rattle.nodes.proofs.Has.{has-head, has-at}
 use Rattle.pool_state.proofs.Kept.{StandsL, heldL-nil, spotL-one}
 use Rattle.pool_state.proofs.Claims.{isState-sets, isState-claimed, used-claimed, areSets-cons}
 use Rattle.pool_state.proofs.Setups.{Kept, isSetup-kept, length-emptySets, indexedOf-emptySets}
-use Rattle.pool_state.proofs.Holds.{HoldsSet, length-nodeWords, nodeWords-at, firstNode-is, holds-at}
+use Rattle.pool_state.proofs.Holds.{HoldsSet, length-nodeWords, nodeWords-at, holds-at}
 use Rattle.pool_state.proofs.Whole.{HeaderOf, whole-header, whole-decode, decode-whole, over-whole, whole-over}
 
 module _ (w : List ℕ) (S : State) (e : decode w ≡ sound S) where
@@ -121,12 +121,7 @@ module _ (w : List ℕ) (p : Setup) (e : layoutNo w p ≡ 0) where
   kept : Kept (length w) p
   kept = layoutNo-kept w p e
 
-  -- the form is offered, and none is marked in the second
-  kept-form : isOffered (formOf (p .form)) ≡ true
-  unfolding isForm isFormed
-  kept-form =
-      and-right (eqb (p .form) (formNo (formOf (p .form)))) (isOffered (formOf (p .form))) (and-left (isForm (p .form)) (eqb (p .form) 0 || eqb (p .indexed) 0) (kept .form))
-
+  -- none is marked in the second form
   kept-unmarked : Unmarked (formOf (p .form)) (p .indexed)
   unfolding isFormed
   kept-unmarked = go (p .form) (and-right (isForm (p .form)) (eqb (p .form) 0 || eqb (p .indexed) 0) (kept .form))
@@ -142,7 +137,7 @@ module _ (w : List ℕ) (p : Setup) (e : layoutNo w p ≡ 0) where
   unfolding isState
   laid-state =
       let x = emptySets-is (formOf (p .form)) (p .family) (p .shares) (p .limits) (p .indexed) kept-unmarked (kept .within) in
-      rw (kept .family, kept-form, laid-sets, kept .size, x .0, x .1) (le-leb (total (p .shares)) (p .nodes) (kept .total))
+      rw (kept .family, laid-sets, kept .size, x .0, x .1) (le-leb (total (p .shares)) (p .nodes) (kept .total))
 
   pub laid-least : leastOf (emptyState p) ≡ wordsOf p
   laid-least =

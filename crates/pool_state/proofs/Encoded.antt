@@ -3,7 +3,7 @@
 use mathlib.Core.Path.{_≡_, refl, _∙_, subst, ap, sym}
 use mathlib.Core.Bool.{Bool, true, false, cond}
 use mathlib.Core.List.{List, [], _∷_}
-use Prim.Native.Nat.{ℕ, suc, _+_, _≤_, _*_}
+use Prim.Native.Nat.{ℕ, _+_, _≤_, _*_}
 use native.Mathlib.Omega.{arith}
 use lib.Dec.{leb, eqb}
 use lib.ListN.{length, getD}
@@ -15,7 +15,7 @@ use Rattle.pool_state.specs.Decode.{mark, recordAt, base, leastWords, ov
 use Rattle.nodes.proofs.Put.{length-put}
 use Rattle.nodes.proofs.Has.{has-put, put-has, has-head, has-at, has-same}
 use Rattle.pool_state.proofs.Kept.{spotL-one}
-use Rattle.pool_state.proofs.Claims.{isState-offered, isState-family, isState-size, isState-sets, isState-claimed, used-claimed}
+use Rattle.pool_state.proofs.Claims.{isState-family, isState-size, isState-sets, isState-claimed, used-claimed}
 use Rattle.pool_state.proofs.Header.{IsHeader, isHeader-header, header-rooms}
 use Rattle.pool_state.proofs.Holds.{has-one, has-four, nodeWords-few, recordOf, Records, records-put, Holds, readSets-of, readSets-holds}
 
@@ -58,7 +58,7 @@ module _ {w : List ℕ} {S : State} (h : Sound w S) where
 
   sound-isForm : isForm (getD w 5 0) ≡ true
   unfolding isForm
-  sound-isForm = rw (has-head (h .form), formOf-no (S .form), formNo-same (S .form)) (isState-offered S (h .state))
+  sound-isForm = rw (has-head (h .form), formOf-no (S .form), formNo-same (S .form))
 
   pub sound-header : Header w S
   unfolding isHeader
@@ -91,7 +91,7 @@ unfolding isState
 header-sound {w} p xs r c =
     let h = readSets-holds (getD w 1 0) w (base (getD w 2 0)) (getD w 3 0) (header-rooms p) (getD w 2 0) 0 1 xs (omega arith) (omega arith) (omega arith) r in
     record {
-      state = rw (p .family, p .offered, h .1, p .size, h .0 .rules, c);
+      state = rw (p .family, h .1, p .size, h .0 .rules, c);
       few = rw (h .1) (p .indexed);
       long = rw (h .1) (p .long);
       header = rw (h .1) (rw (p .marked) at (has-four w 0 (omega arith)));

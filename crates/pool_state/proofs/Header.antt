@@ -10,7 +10,7 @@ use borrow.Author.Tests.{le-leb, lt-leb, eq-eqb, ne-eqb, leb-true, eqb-true}
 use Rattle.nets.proofs.Strings.{and-left, and-right}
 use Rattle.nodes.specs.Parse.{Room}
 use Rattle.pool_state.specs.Kept.{formNo, RoomL}
-use Rattle.pool_state.specs.States.{isSize, isOffered}
+use Rattle.pool_state.specs.States.{isSize}
 use Rattle.nets.specs.Networks.{isFamily}
 use Rattle.pool_state.specs.Decode.{mark, base, leastWords, formIn, isForm, isHeader}
 use Rattle.pool_state.proofs.Claims.{Sized, isSize-is}
@@ -51,7 +51,6 @@ pub record IsHeader (w : List ℕ) : Type 0 where
   pub marked : getD w 0 0 ≡ mark
   pub family : isFamily (getD w 1 0) ≡ true
   pub form : getD w 5 0 ≡ formNo (formIn w)
-  pub offered : isOffered (formIn w) ≡ true
   pub size : isSize (getD w 2 0) (getD w 3 0) ≡ true
   pub sized : Sized (getD w 2 0) (getD w 3 0)
   pub indexed : getD w 4 0 ≤ getD w 2 0
@@ -72,8 +71,7 @@ isHeader-header w e =
     record {
       marked = eqb-true (getD w 0 0) mark (and-left a b f);
       family = and-left (isFamily (getD w 1 0)) (isForm (getD w 5 0)) (and-right a b f);
-      form = eqb-true (getD w 5 0) (formNo (formIn w)) (and-left (eqb (getD w 5 0) (formNo (formIn w))) (isOffered (formIn w)) o);
-      offered = and-right (eqb (getD w 5 0) (formNo (formIn w))) (isOffered (formIn w)) o;
+      form = eqb-true (getD w 5 0) (formNo (formIn w)) o;
       size = and-left c (i && d) g;
       sized = isSize-is (getD w 2 0) (getD w 3 0) (and-left c (i && d) g);
       indexed = leb-true (getD w 4 0) (getD w 2 0) (and-left i d h);

@@ -18,7 +18,7 @@ use Rattle.pool_state.specs.States.{SetState, held, used, keepsRules, is
 use Rattle.pool_state.specs.Decode.{recordAt, rootAt, nodeWords, ReadSets, badSets, okSets, formIn, readSet, setOf, isRight, setBefore, readSets}
 use Rattle.pool_state.specs.Rules.{noSet, firstNode}
 use Rattle.nodes.proofs.Has.{has-put, has-front, has-back, has-head, has-at, has-join}
-use Rattle.pool_state.proofs.Kept.{spotL-on, spotL-end, strideL-words, StandsL, length-encL, nil-stands, readL-of, readL-stands}
+use Rattle.pool_state.proofs.Kept.{spotL-on, spotL-end, strideL-words, StandsL, length-encL, nil-stands, readL-of, readL-stands, never-read}
 use Rattle.pool_state.proofs.Claims.{isSet-list, isSet-rules, areSets-form, areSets-head, areSets-tail, areSets-cons}
 
 -- The words of a set, and of sets.
@@ -173,9 +173,6 @@ readSets-of w b n v s i (x ∷ xs) pos h =
     readSets-step w b n v (length xs) s i (x .list) (readSet-of pos g) ∙ rw (isRight-of pos g, setOf-of pos g, e)
 
 -- and what is read stands there.
-never-read : (l : List Bits) → badList ≡ okList l → ⊥
-never-read l e = let z : _≡_ {A = ℕ} 0 1 = cc in omega arith
-
 never-sets : (xs : List SetState) → badSets ≡ okSets xs → ⊥
 never-sets xs e = let z : _≡_ {A = ℕ} 0 1 = cc in omega arith
 

@@ -1,7 +1,7 @@
 -- What the laws of a pool ask of a form: a list has as many words as its nodes times the stride, it is read exactly where its words stand (`StandsL`), and no list's words begin another's.
 -- Given here for both forms, from the laws of tries in words. Assumes nothing.
 use mathlib.Core.Path.{_≡_, refl, sym, ap, _∙_, subst}
-use mathlib.Core.Bool.{Bool, true, false, cond, false≢true}
+use mathlib.Core.Bool.{Bool, true, false, cond, false≢true, true≢false}
 use mathlib.Core.List.{List, [], _∷_, _++_, map}
 use Prim.Native.Nat.{ℕ, zero, suc, _+_, _-_, _*_, _≤_}
 use native.Mathlib.Nat.{mul-add, one-mul, mul-le-mul-right}
@@ -10,7 +10,7 @@ use native.Mathlib.Omega.{arith}
 use lib.ListN.{length}
 use Rattle.nets.specs.Bits.{Bits, before, equal}
 use Rattle.nets.specs.Lists.{isList, insertIn, inOrder, leadings, allLeadings, nodesL, member}
-use Rattle.nets.specs.Networks.{isFamily, width}
+use Rattle.nets.specs.Networks.{width}
 use Rattle.nets.specs.Tries.{Trie, none, size, levels, listOf, trieOf}
 use Rattle.nets.proofs.Nodes.{nodesL-listOf, nodesL-empty}
 use Rattle.nets.proofs.TrieOf.{isList-within, levels-trieOf, listOf-trieOf, trieOf-listOf, isList-listOf}
@@ -19,16 +19,15 @@ use Rattle.nodes.specs.Parse.{Room, Read, bad, ok, parse, after, Stands}
 use Rattle.nodes.proofs.Has.{has-at}
 use Rattle.nodes.proofs.Tries.{length-enc}
 use Rattle.nodes.proofs.Parsed.{parse-of, stands}
-use Rattle.nodes.proofs.Unique.{unique}
 use Rattle.branch_points.specs.BranchPoints.{keptNodesL, keptL}
 use Rattle.branch_points.specs.KeptTries.{keptSize}
 use Rattle.branch_points.proofs.Counts.{keptNodesL-listOf, keptNodesL-twice, keptNodesL-empty}
 use Rattle.kept_nodes.specs.Words.{stride, spot, keptEnc}
 use Rattle.kept_nodes.specs.Parse.{KeptRoom, keptParse, keptAfter, KeptStands}
-use Rattle.kept_nodes.proofs.Places.{stride-4, stride-6, spot-first, length-keptEnc}
+use Rattle.kept_nodes.proofs.Places.{stride-4, stride-6, length-keptEnc}
 use Rattle.kept_nodes.proofs.Parsed as kept
 use Rattle.kept_nodes.proofs.Unique as kept-one
-use Rattle.pool_state.specs.Kept.{Form, first, second, formOf, sameForm, heldL, encL, strideL, spotL, RoomL, ReadList, badList, okList, listRead, readL, endL}
+use Rattle.pool_state.specs.Kept.{Form, first, second, formOf, sameForm, heldL, encL, strideL, spotL, RoomL, badList, okList, listRead, readL, endL}
 use Rattle.branch_points.proofs.Members.{member-keptL}
 use Rattle.nets.proofs.Strings.{equal-refl}
 
@@ -41,6 +40,18 @@ sameForm-is second second e = refl
 pub sameForm-refl : (F : Form) → sameForm F F ≡ true
 sameForm-refl first = refl
 sameForm-refl second = refl
+
+-- The form, by the test for the first.
+not-first : (F : Form) → sameForm F first ≡ false → F ≡ second
+not-first first e = absurd (true≢false e)
+not-first second e = refl
+
+module _ (F : Form) {r : Bool} (e : r ≡ sameForm F first) where
+  pub is-first : r ≡ true → F ≡ first
+  is-first q = sameForm-is F first (sym e ∙ q)
+
+  pub is-second : r ≡ false → F ≡ second
+  is-second q = not-first F (sym e ∙ q)
 
 pub form-some : (x : ℕ) → (x ≡ 0 → ⊥) → formOf x ≡ second
 form-some zero ne = absurd (ne refl)
@@ -250,16 +261,12 @@ readL-of second {v} {w} {b} {n} {i} {l} pos ne h =
 okList-one : {l m : List Bits} → okList l ≡ okList m → l ≡ m
 okList-one e = cc
 
-never : (l : List Bits) → badList ≡ okList l → ⊥
-never l e = let z : _≡_ {A = ℕ} 0 1 = cc in omega arith
+pub never-read : (l : List Bits) → badList ≡ okList l → ⊥
+never-read l e = let z : _≡_ {A = ℕ} 0 1 = cc in omega arith
 
 listRead-ok : (x : Read) (l : List Bits) → listRead x ≡ okList l → (t : Trie) × (x ≡ ok t) × (listOf t ≡ l)
-listRead-ok bad l e = absurd (never l e)
+listRead-ok bad l e = absurd (never-read l e)
 listRead-ok (ok t) l e = (t, refl, cc)
-
-pub readL-trie : (v : ℕ) (w : List ℕ) (b n i : ℕ) (l : List Bits) → readL first v w b n i ≡ okList l → (t : Trie) × (parse w b n (suc (width v)) i ≡ ok t) × (listOf t ≡ l)
-unfolding readL
-readL-trie v w b n i l e = listRead-ok (parse w b n (suc (width v)) i) l e
 
 -- the list of a trie that stands there does
 module _ {v : ℕ} {w : List ℕ} {b n i : ℕ} (t : Trie) (l : List Bits) (e : listOf t ≡ l) where

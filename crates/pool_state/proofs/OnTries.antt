@@ -2,7 +2,7 @@
 -- result that is a trie, counted and judged (`Result`). Assumes nothing.
 use mathlib.Core.Path.{_≡_, refl, sym, ap, _∙_, subst}
 use mathlib.Core.Bool.{Bool, true, cond}
-use mathlib.Core.List.{List, [], _++_}
+use mathlib.Core.List.{List, _++_}
 use Prim.Native.Nat.{ℕ, suc, _+_, _≤_, _<_, _*_, _-_}
 use native.Mathlib.Omega.{arith}
 use lib.ListN.{length, getD}
@@ -11,31 +11,28 @@ use Rattle.nets.specs.Networks.{width}
 use Rattle.nets.specs.Refusals.{number, Rule, firstNo}
 use Rattle.nets.specs.Tries.{Trie, none, node, size, levels, isNone, listOf, trieOf}
 use Rattle.nets.specs.declared.Refusal.{Refusal}
-use Rattle.nets.proofs.Answers.{number-some}
 use Rattle.nets.proofs.TrieOf.{listOf-trieOf, trieOf-listOf}
 use Rattle.nodes.specs.Words.{put, Has, place, enc}
 use Rattle.nodes.specs.Parse.{Stands}
 use Rattle.nodes.specs.Segments.{Segment}
 use Rattle.nodes.proofs.Has.{has-at, has-join}
 use Rattle.nodes.proofs.Tries.{length-enc, some}
-use Rattle.pool_state.specs.Kept.{heldL, encL, first, strideL, second, formOf}
+use Rattle.pool_state.specs.Kept.{heldL, first, second, formOf}
 use Rattle.pool_state.specs.States.{SetState, State, held, roomOf, admits, isSet}
 use Rattle.pool_state.specs.Decode.{recordAt, base, rootAt, sound, decode}
-use Rattle.pool_state.specs.Rules.{noSet, firstNode, verdictAs}
-use Rattle.pool_state.specs.Changes.{setAt, listAt, grantRules, relistRules, relistSet, Relisted}
+use Rattle.pool_state.specs.Rules.{noSet, firstNode}
+use Rattle.pool_state.specs.Changes.{setAt, listAt, Relisted}
 use Rattle.pool_state.specs.Steps.{Judges, behindAt, Settle, Settled, spotBy, spotIn, Shiftable}
 use Rattle.pool_state.specs.declared.Survey.{Survey}
 use Rattle.pool_state.specs.declared.Verdict.{Verdict}
 use Rattle.pool_state.specs.declared.Verdict.the-variants as verdict
-use Rattle.pool_state.proofs.Kept.{size-trieOf, stands-trie, heldL-listOf, encL-listOf, encL-trie, StandsL, strideL-is, strideL-one, spotL-first, form-some}
-use Rattle.pool_state.proofs.Claims.{isSet-list, isState-form}
+use Rattle.pool_state.proofs.Kept.{stands-trie, heldL-listOf, encL-listOf, StandsL, strideL-is, spotL-first, form-some}
+use Rattle.pool_state.proofs.Claims.{isSet-list}
 use Rattle.pool_state.proofs.Holds.{rootAt-some}
-use Rattle.pool_state.proofs.Decoded.{decode-set, decode-list, decode-state}
-use Rattle.pool_state.proofs.Seen.{Seen, placeOf, behind, seen-header, seen-figures, own-has, own-length, behind-has, behind-length, wordsL, strideS, seen-form, own-form, seen-state}
+use Rattle.pool_state.proofs.Decoded.{decode-set, decode-list}
+use Rattle.pool_state.proofs.Seen.{Seen, behind, seen-figures, own-has, behind-has, behind-length, wordsL, strideS, seen-form, own-form}
 use Rattle.pool_state.proofs.Beside.{its, beside-root}
-use Rattle.pool_state.proofs.Judged.{grant-within}
-use Rattle.pool_state.proofs.Changed.{withWords, words-first, words-last, settle-asks, shift-asks}
-use Rattle.pool_state.proofs.Returns.{Owes, changed, change-judged, relist-granted}
+use Rattle.pool_state.proofs.Changed.{withWords, words-first, words-last, shift-asks}
 use Rattle.pool_state.proofs.Counted.{Counted, counted-refused, counted-fits, counted-settles, counted-granted}
 use native.Mathlib.Nat.{one-mul}
 
@@ -58,9 +55,6 @@ module _ {w : List ℕ} {S : State} {k : ℕ} {v : Survey} (h : Seen w S k v) wh
 
   pub form-second : (getD w 5 0 ≡ 0 → ⊥) → S .form ≡ second
   form-second ne = sym (seen-form h) ∙ form-some (getD w 5 0) ne
-
-  pub offered-first : S .form ≡ first
-  offered-first = isState-form S (seen-state h)
 
   pub seen-list : listOf (trieAt S k) ≡ setAt S k .list
   seen-list = set-listOf (S .family) (setAt S k) (decode-set w S (h .decoded) k (h .known) .rules)

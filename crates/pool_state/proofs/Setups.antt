@@ -19,7 +19,7 @@ use Rattle.nodes.specs.Parse.{Room}
 use Rattle.trie_index.specs.Index.{indexT, Rooted}
 use Rattle.pool_state.proofs.Kept.{heldL-nil, encL-nil}
 use Rattle.pool_state.specs.Kept.{Form, first, formNo, formOf, heldL, indexL}
-use Rattle.pool_state.specs.States.{indexedOf, isSize, isOffered}
+use Rattle.pool_state.specs.States.{indexedOf, isSize}
 use Rattle.nets.specs.Networks.{isFamily}
 use Rattle.pool_state.specs.Decode.{mark, recordAt, leastWords, overRecords, nodeWords, overSets, tagOf, overIndexes, over, isForm}
 use Rattle.pool_state.specs.Rules.{withinLimits, total, sharesFit, Setup, marksFit, marks, wordsOf, isFormed, isSetup, layoutNo, emptySets, blanks, laid, Laid}
@@ -322,8 +322,7 @@ module _ (w : List ℕ) (p : Setup) where
   formed-no : isFormed (p .form) (p .indexed) ≡ true → p .form ≡ formNo (formOf (p .form))
   unfolding isForm isFormed
   formed-no e =
-      let a = eqb (p .form) (formNo (formOf (p .form))) in
-      eqb-true (p .form) (formNo (formOf (p .form))) (and-left a (isOffered (formOf (p .form))) (and-left (isForm (p .form)) (eqb (p .form) 0 || eqb (p .indexed) 0) e))
+      eqb-true (p .form) (formNo (formOf (p .form))) (and-left (isForm (p .form)) (eqb (p .form) 0 || eqb (p .indexed) 0) e)
 
   laid-is : isFormed (p .form) (p .indexed) ≡ true → length (p .shares) ≡ p .sets → length (p .limits) ≡ p .sets →
       laid w p

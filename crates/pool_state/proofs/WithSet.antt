@@ -16,7 +16,7 @@ use Rattle.pool_state.specs.States.{SetState, State, held, claim, used, 
 use Rattle.pool_state.specs.Decode.{leastOf}
 use Rattle.pool_state.specs.Rules.{noSet}
 use Rattle.pool_state.specs.Changes.{setAt, listAt, setsWith, withSet, fits, setWith}
-use Rattle.pool_state.proofs.Claims.{isState-family, isState-size, isState-sets, isState-claimed, areSets-head, areSets-tail, claimedBut-is, isState-offered, areSets-form, areSets-cons, indexable-at, form-at}
+use Rattle.pool_state.proofs.Claims.{isState-family, isState-size, isState-sets, isState-claimed, areSets-head, areSets-tail, claimedBut-is, areSets-form, areSets-cons, indexable-at, form-at}
 use Rattle.pool_state.specs.Kept.{Form}
 
 -- Sets.
@@ -149,7 +149,6 @@ module _ (S : State) (k : ℕ) (e : isState S ≡ true) (lt : k < length (S .set
         let s : isSet (S .family) x ≡ true = rw (i, indexable-as q m, le-leb (x .share) (x .limit) (f .share), le-leb (held x) (x .limit) (f .held)) (f .public) in
         rw (
           isState-family S e,
-          isState-offered S e,
           length-setsWith k x (S .sets),
           isState-size S e,
           areSets-setsWith (S .form) (S .family) k x (S .sets) (isState-sets S e) (q ∙ form-at (S .form) (S .family) k (S .sets) lt (isState-sets S e)) s,

@@ -17,7 +17,7 @@ use Rattle.nets.specs.Networks.{isFamily}
 use Rattle.nodes.specs.Words.{put}
 use Rattle.trie_index.specs.Index.{isAt}
 use Rattle.pool_state.specs.Kept.{Form, formNo, formOf, heldL, encL, indexL, ReadList, badList, okList, readL}
-use Rattle.pool_state.specs.States.{SetState, State, held, claimed, indexedOf, keepsRules, isSize, isOffered}
+use Rattle.pool_state.specs.States.{SetState, State, held, claimed, indexedOf, keepsRules, isSize}
 
 abbrev pub mark : ℕ
 mark = 1296126540
@@ -80,12 +80,12 @@ pub data ReadSets : Type 0 where
   badSets : ReadSets
   okSets : List SetState → ReadSets
 
--- the form of a pool, and whether the word is that of one that is offered
+-- the form of a pool, and whether a word is that of a form
 abbrev pub formIn : List ℕ → Form
 formIn w = formOf (getD w 5 0)
 
 unfoldable pub isForm : ℕ → Bool
-isForm x = eqb x (formNo (formOf x)) && isOffered (formOf x)
+isForm x = eqb x (formNo (formOf x))
 
 unfoldable pub isHeader : List ℕ → Bool
 isHeader w =

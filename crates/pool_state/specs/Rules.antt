@@ -106,7 +106,7 @@ marks (suc m) x = x % 2 + marks m (x / 2)
 abbrev pub wordsOf : Setup → ℕ
 wordsOf p = leastWords (p .sets) (p .nodes) (marks (p .sets) (p .indexed))
 
--- the form is offered, and in the second no set is to be indexed
+-- it is a form, and in the second no set is to be indexed
 unfoldable pub isFormed : ℕ → ℕ → Bool
 isFormed o x = isForm o && (eqb o 0 || eqb x 0)
 

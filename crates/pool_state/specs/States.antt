@@ -7,7 +7,7 @@
 --   freeOf S          the pool's nodes less the nodes of all lists
 --   roomOf S k        the pool's nodes less, for every other set than k, its claim
 --   admits f s l      the set s of a pool of the family f may have the list l, as far as its mark goes: a public-only set keeps clear of the inner networks
---   isState S         the rules: a family, a form that is offered, 1 to 64 sets, 1 to 4,194,304 nodes, each list kept in the pool's form, a list of the family's width within its
+--   isState S         the rules: a family, 1 to 64 sets, 1 to 4,194,304 nodes, each list kept in the pool's form, a list of the family's width within its
 --                     limit, an indexed one in the first form, each share at most its limit, each public-only set clear of the inner networks, the claims at most the nodes
 use mathlib.Core.Bool.{Bool, true, not, _&&_, _||_}
 use mathlib.Core.List.{List, [], _∷_}
@@ -82,15 +82,11 @@ abbrev pub areSets : Form → ℕ → List SetState → Bool
 areSets F f [] = true
 areSets F f (s ∷ ss) = (sameForm (s .form) F && isSet f s) && areSets F f ss
 
--- the forms that layout offers
-abbrev pub isOffered : Form → Bool
-isOffered F = sameForm F first
-
 -- how many sets and nodes there may be
 abbrev pub isSize : ℕ → ℕ → Bool
 isSize sets nodes = (leb 1 sets && leb sets 64) && (leb 1 nodes && leb nodes 4194304)
 
 unfoldable pub isState : State → Bool
 isState S =
-    (isFamily (S .family) && (isOffered (S .form) && isSize (length (S .sets)) (S .nodes)))
+    (isFamily (S .family) && isSize (length (S .sets)) (S .nodes))
     && (areSets (S .form) (S .family) (S .sets) && leb (claimed (S .sets)) (S .nodes))

@@ -1,9 +1,9 @@
 // Another share and limit for a set of a pool, in place: no list changes. Where a call is refused, no word changes.
 use nets::Refusal;
 use pool_change::judging::room;
-use pool_check::HEAD;
-use pool_check::RECORD;
 use pool_check::seats::seat_of;
+use pool_header::HEAD;
+use pool_header::RECORD;
 use pool_state::Answer;
 use pool_state::Seated;
 use pool_state::Survey;

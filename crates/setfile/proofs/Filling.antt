@@ -1,5 +1,5 @@
 -- The list of a file in a pool of either form: the nodes that it takes, the gap that is left for it once the sets behind have moved, and what filling it writes. Assumes nothing.
-use mathlib.Core.Bool.{Bool, true, false, true≢false}
+use mathlib.Core.Bool.{Bool, true, false}
 use mathlib.Core.List.{List, []}
 use mathlib.Core.Path.{_≡_, refl, sym, ap, _∙_}
 use Prim.Native.Nat.{ℕ, _+_, _-_, _*_, _≤_, _<_}
@@ -18,12 +18,12 @@ use Rattle.pool_state.specs.Kept.{Form, first, second, formOf, sameForm, heldL,
 use Rattle.pool_state.specs.Decode.{base, formIn}
 use Rattle.pool_state.specs.Steps.{spotBy, behindAt, Shiftable, strideIn, spotIn, encIn}
 use Rattle.pool_state.specs.declared.Survey.{Survey}
-use Rattle.pool_state.proofs.Kept.{heldL-is, encL-trie, sameForm-is, spotL-first, spotL-second, spotL-end}
+use Rattle.pool_state.proofs.Kept.{heldL-is, encL-trie, spotL-first, spotL-second, spotL-end, is-first, is-second}
 use Rattle.setfile_format.specs.Files.{file, readFile, headNumber, fileBytes}
 use Rattle.setfile_format.proofs.RoundTrip.{readFile-is}
 use Rattle.setfile_build.specs.Building as build
 use Rattle.kept_build.specs.Building as kept
-use Rattle.setfile.specs.LoadSteps.{FileFits, moved, withFile, Gap}
+use Rattle.setfile.specs.LoadSteps.{FileFits, moved, withFile, FileGap}
 
 -- The nodes and the words of a list in the second form.
 held-kept : (l : List Bits) → heldL second l ≡ keptNodesL l
@@ -33,18 +33,6 @@ held-kept l = refl
 encL-kept : (f : ℕ) (l : List Bits) → encL second f l ≡ keptEnc f [] (trieOf l)
 unfolding encL
 encL-kept f l = refl
-
--- The form, by the test for the first.
-not-first : (F : Form) → sameForm F first ≡ false → F ≡ second
-not-first first e = absurd (true≢false e)
-not-first second e = refl
-
-module _ (F : Form) {r : Bool} (e : r ≡ sameForm F first) where
-  is-first : r ≡ true → F ≡ first
-  is-first q = sameForm-is F first (sym e ∙ q)
-
-  is-second : r ≡ false → F ≡ second
-  is-second q = not-first F (sym e ∙ q)
 
 -- What the list of a file takes.
 module _ (d : List ℕ) {f : ℕ} {l : List Bits} (reads : readFile d ≡ file f l) where
@@ -69,7 +57,7 @@ pub takes-first : (w : List ℕ) {r : Bool} → r ≡ sameForm (formIn w) first 
 takes-first w e q {n} l z = z ∙ sym (ap (λ F. heldL F l) (is-first (formIn w) e q) ∙ heldL-is l)
 
 -- The gap is filled, by the form.
-module _ {w : List ℕ} {b i n : ℕ} {d : List ℕ} {f : ℕ} {l : List Bits} (g : Gap w b i n d f l) {r : Bool} (e : r ≡ sameForm (formIn w) first) where
+module _ {w : List ℕ} {b i n : ℕ} {d : List ℕ} {f : ℕ} {l : List Bits} (g : FileGap w b i n d f l) {r : Bool} (e : r ≡ sameForm (formIn w) first) where
   abbrev written : Form → List ℕ
   written F = put w (spotL F f b i) (encL F f l)
 
@@ -109,7 +97,7 @@ module _ {w : List ℕ} {v : Survey} {d : List ℕ} {f n : ℕ} {l : List Bits} 
   form-stays : formIn z ≡ formIn w
   form-stays = ap (λ x. formOf (getD x 5 0)) e ∙ ap formOf (getD-put-before w (spotBy (strideIn w) b (v .at + n)) (behindAt (strideIn w) w b v) 5 (omega arith))
 
-  pub write-gap : Gap z b (v .at) n d f l
+  pub write-gap : FileGap z b (v .at) n d f l
   write-gap = record {
     nodes = ap (λ F. heldL F l) form-stays ∙ g .nodes;
     first = λ q.

@@ -4,7 +4,7 @@
 --   Admits w k d f c     c says whether set k may have the list of the file d of the pool's family f, as far as its mark goes
 --   FileFits             what writing the file's list asks
 --   withFile             the words that it leaves
---   Gap                  what it asks once the sets behind have moved
+--   FileGap              what it asks once the sets behind have moved
 use mathlib.Core.Bool.{Bool}
 use mathlib.Core.List.{List}
 use mathlib.Core.Path.{_≡_}
@@ -60,7 +60,7 @@ abbrev pub withFile : List ℕ → Survey → ℕ → List Bits → List ℕ
 withFile w v n l = put (moved w (strideIn w) v n) (spotIn w (v .at)) (encIn w l)
 
 -- there is room from node i on for the n nodes of the file's list, in the form that the words say
-pub record Gap (w : List ℕ) (b i n : ℕ) (d : List ℕ) (f : ℕ) (l : List Bits) : Type 0 where
+pub record FileGap (w : List ℕ) (b i n : ℕ) (d : List ℕ) (f : ℕ) (l : List Bits) : Type 0 where
   pub nodes : heldL (formIn w) l ≡ n
   pub first : formIn w ≡ first → build.Fillable w b i d f l
   pub second : formIn w ≡ second → kept.Fillable f w b (i + n) d l

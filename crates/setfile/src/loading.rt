@@ -3,10 +3,10 @@ use listing::seated::is_first;
 use nets::Refusal;
 use pool_change::judging::is_public;
 use pool_change::relinking::shift_behind;
-use pool_check::HEAD;
-use pool_check::RECORD;
 use pool_check::seats::seat_of;
-use pool_check::stride_of;
+use pool_header::HEAD;
+use pool_header::RECORD;
+use pool_header::stride_of;
 use pool_state::Seated;
 use pool_state::Survey;
 use setfile_clear::entries::file_is_clear;
@@ -23,7 +23,7 @@ ghost use Rattle.pool_state.specs.Kept.{heldL, encL, spotL};
 ghost use Rattle.pool_state.specs.Decode.{formIn};
 ghost use Rattle.pool_state.specs.Steps.{Surveyed};
 ghost use Rattle.setfile_format.specs.Files.{readFile, file};
-ghost use Rattle.setfile.specs.LoadSteps.{Asks, Admits, FileFits, withFile, Gap};
+ghost use Rattle.setfile.specs.LoadSteps.{Asks, Admits, FileFits, withFile, FileGap};
 
 // A file that can be loaded: what a pass over the pool found for its set, the family of the file and the nodes that its list takes. Or the refusal.
 pub enum Loadable {
@@ -86,8 +86,8 @@ pub fn is_admitted(pool: &[u32], set: u32, v: Survey, bytes: &[u8], family: u8) 
 
 // Writes the file's list, which takes n nodes, from node i on.
 fn fill(pool: &mut [u32], b: usize, i: usize, n: usize, bytes: &[u8], family: u8)
-    requires { ⌜ ((l : List Bits) × Gap (now pool) b i n (now bytes) family l) ⌝ }
-    ensures { λ _. ⌜ ((l : List Bits) → Gap (now (pool .entry)) b i n (now (bytes .entry)) family l
+    requires { ⌜ ((l : List Bits) × FileGap (now pool) b i n (now bytes) family l) ⌝ }
+    ensures { λ _. ⌜ ((l : List Bits) → FileGap (now (pool .entry)) b i n (now (bytes .entry)) family l
         → now (pool .exit) ≡ put (now (pool .entry)) (spotL (formIn (now (pool .entry))) family b i) (encL (formIn (now (pool .entry))) family l)) ⌝ }
 {
     if is_first(pool) {

@@ -111,13 +111,15 @@ fn three(row: &[u8], place: usize) -> [u32; 3]
     ]
 }
 
-// Lays out for a family, one to three sets and so many nodes, with a share and a limit for each set; behind three of these may stand the marks of the indexed sets.
+// Lays out for a family, one to three sets and so many nodes, with a share and a limit for each set; behind three of these may stand the marks of the indexed sets, and
+// behind these the form.
 fn lay(pool: &mut [u32], row: &[u8]) -> Answer {
     let family = (taken(row, 1) % 256) as u8;
     let sets = taken(row, 2);
     let shares = three(row, 4);
     let limits = three(row, 5);
     let indexed = taken(row, 10) as u64;
+    let form = taken(row, 11);
     if sets > 3 {
         return Answer::Refused(Refusal::BadSetup);
     }
@@ -125,7 +127,7 @@ fn lay(pool: &mut [u32], row: &[u8]) -> Answer {
     pool::layout(
         pool,
         family,
-        0,
+        form,
         sets,
         taken(row, 3),
         &shares[0..n],

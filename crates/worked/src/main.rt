@@ -1,5 +1,5 @@
 // Runs the scope document's worked networks that are not proved as a table through the public calls, with cases at full pools, at the ends of the
-// address words, at refusals, of public-only and of indexed sets: the rows of its input, each against what it must answer.
+// address words, at refusals, of public-only and of indexed sets, and in the second form: the rows of its input, each against what it must answer.
 use lookup::Contained;
 use pool_state::Told;
 use test_counts::Tally;

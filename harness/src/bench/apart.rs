@@ -2,6 +2,7 @@
 use super::case::{alone, seconds, turns, Pool, Took};
 use crate::exports as call;
 use crate::files::{entry_size, file_of};
+use crate::layout::Form;
 use crate::lists::Member;
 use crate::oracle::Numbers;
 use crate::plan::Dice;
@@ -47,7 +48,7 @@ fn in_turns(n: usize, more: impl Iterator<Item = Member>) -> Vec<u8> {
 }
 
 fn loaded(family: u8, rounds: usize, f: &[u8], answer: u64) -> Measured {
-    let empty = Pool::of(family, &[], false);
+    let empty = Pool::of(Form::First, family, &[], false);
     let mut w = empty.words();
     alone_of(family, (f.len() - 16) / entry_size(family), rounds, || {
         empty.again(&mut w);
@@ -91,7 +92,7 @@ fn compare_lengths(rounds: usize, most: usize) -> Vec<Measured> {
 fn read<N: Numbers + Clone + FromStr>(rounds: usize, text: &str) -> Measured {
     let family = if text.contains(':') { 6 } else { 4 };
     let n = text.lines().count();
-    let empty = Pool::of(family, &[], false);
+    let empty = Pool::of(Form::First, family, &[], false);
     let mut w = empty.words();
     let ours = || {
         empty.again(&mut w);

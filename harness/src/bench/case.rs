@@ -2,7 +2,7 @@
 use super::tables::{second, table, Shape};
 use crate::exports::{free, layout_indexed, load};
 use crate::files::file;
-use crate::layout::{encode, Set, State, MARK};
+use crate::layout::{encode, Form, Set, State, MARK};
 use crate::lists::{width, List, Member};
 use crate::oracle::{ranges, Numbers};
 use iprange::IpRange;
@@ -11,13 +11,19 @@ use std::time::{Duration, Instant};
 
 pub const NODES: u32 = 4_194_304;
 
-/// A pool of the most nodes, with four sets: its words up to the last node in use. What is behind them may hold anything.
-pub struct Pool(Vec<u32>);
+/// A pool of the most nodes, with four sets: its words up to the last node in use, and how many these are. What is behind them may hold anything.
+pub struct Pool {
+    words: Vec<u32>,
+    nodes: usize,
+}
 
 const FIRST_NODE: usize = 64 + 8 * 4;
 
-/// The nodes of a list, by neighbours in the order of addresses: each has those that it does not share with the one before it.
-fn nodes(w: u8, l: &List) -> usize {
+/// The nodes of a list. In the first form by neighbours in the order of addresses: each has those that it does not share with the one before it.
+fn nodes(form: Form, w: u8, l: &List) -> usize {
+    if form == Form::Second {
+        return form.nodes(w, l) as usize;
+    }
     let mut members: Vec<Member> = l.iter().copied().collect();
     members.sort_by_key(|m| m.1);
     let shared = |a: u128, b: u128| (a ^ b).leading_zeros() as usize + w as usize - 128;
@@ -27,17 +33,17 @@ fn nodes(w: u8, l: &List) -> usize {
 
 impl Pool {
     /// These lists, and empty sets behind them.
-    pub fn of(family: u8, lists: &[&List], public: bool) -> Pool {
-        let used: usize = lists.iter().map(|l| nodes(width(family), l)).sum();
-        let mut w = vec![0u32; FIRST_NODE + used];
-        w[..4].copy_from_slice(&[MARK, family as u32, 4, NODES]);
+    pub fn of(form: Form, family: u8, lists: &[&List], public: bool) -> Pool {
+        let nodes: usize = lists.iter().map(|l| nodes(form, width(family), l)).sum();
+        let mut words = vec![0u32; FIRST_NODE + form.stride(family) * nodes];
+        words[..6].copy_from_slice(&[MARK, family as u32, 4, NODES, 0, form as u32]);
         let set = |k: usize| Set { share: 0, limit: NODES, public, indexed: false, list: lists.get(k).map_or(List::new(), |&l| l.clone()) };
-        encode(&mut w, &State { family, nodes: NODES, sets: (0..4).map(set).collect() });
-        Pool(w)
+        encode(&mut words, &State { family, form, nodes: NODES, sets: (0..4).map(set).collect() });
+        Pool { words, nodes }
     }
 
     pub fn nodes(&self) -> usize {
-        self.0.len() - FIRST_NODE
+        self.nodes
     }
 
     /// A whole pool, to be lent.
@@ -51,13 +57,13 @@ impl Pool {
     pub fn indexed(family: u8, list: &List) -> Vec<u32> {
         let mut w = vec![0u32; FIRST_NODE + 8 * NODES as usize + 256];
         assert_eq!(layout_indexed(&mut w, family, 4, NODES, NODES, 1), 0);
-        assert_eq!(load(&mut w, 0, &file(family, list)), nodes(width(family), list) as u64);
+        assert_eq!(load(&mut w, 0, &file(family, list)), nodes(Form::First, width(family), list) as u64);
         w
     }
 
     /// The pool as it was.
     pub fn again(&self, w: &mut [u32]) {
-        w[..self.0.len()].copy_from_slice(&self.0);
+        w[..self.words.len()].copy_from_slice(&self.words);
     }
 }
 
@@ -144,6 +150,7 @@ pub struct Second<N: Numbers> {
 
 /// A table, alone in a pool and as an IpRange.
 pub struct Case<N: Numbers> {
+    pub form: Form,
     pub family: u8,
     pub rounds: usize,
     pub list: List,
@@ -155,16 +162,21 @@ pub struct Case<N: Numbers> {
 }
 
 impl<N: Numbers + Clone> Case<N> {
-    pub fn new(shape: Shape, family: u8, n: usize, rounds: usize) -> Case<N> {
+    pub fn new(shape: Shape, form: Form, family: u8, n: usize, rounds: usize) -> Case<N> {
         let list = table(shape, family, n);
-        let pool = Pool::of(family, &[&list], false);
-        Case { family, rounds, range: ranges(&list), words: pool.words(), pool, list, second: OnceCell::new(), check: OnceCell::new() }
+        let pool = Pool::of(form, family, &[&list], false);
+        Case { form, family, rounds, range: ranges(&list), words: pool.words(), pool, list, second: OnceCell::new(), check: OnceCell::new() }
+    }
+
+    /// A pool of its form and family.
+    pub fn pool_of(&self, lists: &[&List], public: bool) -> Pool {
+        Pool::of(self.form, self.family, lists, public)
     }
 
     pub fn second(&self) -> &Second<N> {
         self.second.get_or_init(|| {
             let list = second(self.family, &self.list);
-            Second { range: ranges(&list), pool: Pool::of(self.family, &[&self.list, &list], false), list }
+            Second { range: ranges(&list), pool: self.pool_of(&[&self.list, &list], false), list }
         })
     }
 

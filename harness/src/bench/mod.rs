@@ -7,6 +7,7 @@ mod rows;
 mod tables;
 mod targets;
 
+use crate::layout::Form;
 use crate::oracle::Numbers;
 use apart::{Apart, APART};
 use case::{Case, Took, NODES};
@@ -32,6 +33,7 @@ struct Bench {
     /// One kind of table, or one size, in place of all.
     table: Option<Shape>,
     networks: Option<usize>,
+    forms: Vec<Form>,
     rounds: usize,
     into: Option<PathBuf>,
 }
@@ -43,7 +45,7 @@ fn names() -> String {
 /// The options, or what is wrong with them.
 fn options(words: &[String]) -> Result<Bench, String> {
     let (rows, apart) = (ROWS.iter().collect(), APART.iter().collect());
-    let mut b = Bench { rows, apart, targets: targets::targets(targets::TABLE).unwrap(), table: None, networks: None, rounds: 5, into: None };
+    let mut b = Bench { rows, apart, targets: targets::targets(targets::TABLE).unwrap(), table: None, networks: None, forms: vec![Form::First], rounds: 5, into: None };
     for pair in words.chunks(2) {
         let [option, value] = pair else { return Err(format!("{} takes a word", pair[0])) };
         match option.as_str() {
@@ -57,6 +59,7 @@ fn options(words: &[String]) -> Result<Bench, String> {
             }
             "--table" => b.table = Some(Shape::ALL.into_iter().find(|s| s.name() == value).ok_or("--table takes mix or side")?),
             "--networks" => b.networks = Some(value.parse().ok().filter(|n| (16..=200_000).contains(n)).ok_or("--networks takes a number from 16 to 200000")?),
+            "--form" => b.forms = forms(value).ok_or("--form takes first, second or both")?,
             "--rounds" => b.rounds = value.parse().ok().filter(|n| (1..=1000).contains(n)).ok_or("--rounds takes a number from 1 to 1000")?,
             "--targets" => {
                 let text = std::fs::read_to_string(value).map_err(|e| format!("{value}: {e}"))?;
@@ -72,31 +75,49 @@ fn options(words: &[String]) -> Result<Bench, String> {
     }
 }
 
+/// The forms of such a name.
+fn forms(name: &str) -> Option<Vec<Form>> {
+    match name {
+        "first" => Some(vec![Form::First]),
+        "second" => Some(vec![Form::Second]),
+        "both" => Some(Form::BOTH.to_vec()),
+        _ => None,
+    }
+}
+
 impl Bench {
+    /// The largest alone where both forms are held beside each other.
     fn sizes(&self, all: &[usize]) -> Vec<usize> {
-        self.networks.map_or(all.to_vec(), |n| vec![n])
+        let some = if self.beside() { &all[2..] } else { all };
+        self.networks.map_or(some.to_vec(), |n| vec![n])
     }
 
-    /// Whether the row is measured on such a table.
-    fn fits(&self, r: &Row, shape: Shape, family: u8, n: usize, nodes: usize) -> bool {
-        match r.needs {
+    fn beside(&self) -> bool {
+        self.forms == Form::BOTH
+    }
+
+    /// Whether the row is measured on such a table. In the second form the combinations of IPv6 have room on the largest too.
+    fn fits(&self, r: &Row, shape: Shape, form: Form, family: u8, n: usize, nodes: usize) -> bool {
+        self.forms.iter().all(|f| r.forms.contains(f)) && match r.needs {
             Needs::One => family == 4 || n != TWO_SIX || self.networks.is_some(),
             Needs::Few => n <= FEW,
             Needs::Twice => (family == 4 || n != TWO_SIX || self.networks.is_some()) && 2 * nodes <= NODES as usize,
-            Needs::Two => shape == Shape::Mix && (family == 4 || n <= TWO_SIX),
+            Needs::Two => shape == Shape::Mix && (family == 4 || n <= TWO_SIX || form == Form::Second),
         }
     }
 
     fn table<N: Numbers + Clone>(&self, shape: Shape, family: u8, n: usize, run: fn(&Row) -> fn(&Case<N>) -> Took, out: &mut Vec<Line>) {
-        if !self.rows.iter().any(|r| self.fits(r, shape, family, n, 0)) {
-            return;
-        }
-        let c = Case::<N>::new(shape, family, n, self.rounds);
-        for r in self.rows.iter().filter(|r| self.fits(r, shape, family, n, c.pool.nodes())) {
-            let took = run(r)(&c);
-            let check = if took.nodes > 0 { c.check() } else { 0.0 };
-            out.push(Line { name: r.name, what: r.what, each: r.each, shape: Some(shape), family, networks: n, took, check });
-            println!("{}", out.last().unwrap().whole());
+        for &form in &self.forms {
+            if !self.rows.iter().any(|r| self.fits(r, shape, form, family, n, 0)) {
+                continue;
+            }
+            let c = Case::<N>::new(shape, form, family, n, self.rounds);
+            for r in self.rows.iter().filter(|r| self.fits(r, shape, form, family, n, c.pool.nodes())) {
+                let took = run(r)(&c);
+                let check = if took.nodes > 0 { c.check() } else { 0.0 };
+                out.push(Line { name: r.name, what: r.what, each: r.each, shape: Some(shape), form, family, networks: n, took, check });
+                println!("{}", out.last().unwrap().whole());
+            }
         }
     }
 
@@ -112,9 +133,10 @@ impl Bench {
                 self.table::<Ipv6Net>(shape, 6, n, |r| r.six, &mut out);
             }
         }
-        for r in &self.apart {
+        // those with data of their own are of the first form
+        for r in self.apart.iter().filter(|_| self.forms == [Form::First]) {
             for (family, networks, took) in (r.run)(self.rounds.min(3), self.networks.unwrap_or(usize::MAX)) {
-                out.push(Line { name: r.name, what: r.what, each: r.each, shape: None, family, networks, took, check: 0.0 });
+                out.push(Line { name: r.name, what: r.what, each: r.each, shape: None, form: Form::First, family, networks, took, check: 0.0 });
                 println!("{}", out.last().unwrap().whole());
             }
         }
@@ -133,7 +155,8 @@ pub fn main(words: &[String]) -> i32 {
     };
     let lines = b.measured();
     if let Some(to) = &b.into {
-        report::write(to, &lines, &b.targets).expect("the folder can be written");
+        let written = if b.beside() { report::write_forms(to, &lines) } else { report::write(to, &lines, &b.targets) };
+        written.expect("the folder can be written");
     }
     let missed: Vec<String> = b.targets.iter().flat_map(|t| lines.iter().filter(|l| t.is_for(l)).filter_map(|l| t.missed(l))).collect();
     missed.iter().for_each(|m| eprintln!("harness/run: {m}"));

@@ -2,6 +2,7 @@
 use super::case::{Timed, Took};
 use super::tables::Shape;
 use super::targets::{Bound, Target};
+use crate::layout::Form;
 use std::fmt::Write as _;
 use std::path::Path;
 
@@ -12,6 +13,7 @@ pub struct Line {
     pub each: &'static str,
     /// None where the data are the row's own.
     pub shape: Option<Shape>,
+    pub form: Form,
     pub family: u8,
     pub networks: usize,
     pub took: Took,
@@ -83,8 +85,18 @@ impl Line {
     }
 
     pub fn whole(&self) -> String {
-        let size = grouped(self.networks);
-        format!("| {} | {} | {} | IPv{} | {size} | {} | {} | {} |", self.name, self.what, self.table(), self.family, self.each, self.sides(), self.part())
+        let (size, form) = (grouped(self.networks), if self.form == Form::First { "" } else { ", second form" });
+        format!("| {} | {} | {}{form} | IPv{} | {size} | {} | {} | {} |", self.name, self.what, self.table(), self.family, self.each, self.sides(), self.part())
+    }
+
+    /// The same row of the same table in a form.
+    fn in_form<'a>(&self, lines: &'a [Line], form: Form) -> Option<&'a Line> {
+        lines.iter().find(|l| (l.name, l.shape, l.family, l.networks, l.form) == (self.name, self.shape, self.family, self.networks, form))
+    }
+
+    /// Nodes for each network, by a row that is of nodes.
+    fn nodes(&self) -> f64 {
+        self.took.each as f64 / self.networks as f64
     }
 }
 
@@ -122,7 +134,7 @@ fn mix(lines: &[Line]) -> String {
         writeln!(s, "| {} | {} | IPv{} | {} | {} | {} | {} |", l.name, l.what, l.family, grouped(l.networks), l.each, l.sides(), l.part()).unwrap();
     }
     for l in largest(lines).iter().filter(|l| l.each == "node") {
-        write!(s, "\nNodes of 4 bytes for each network of IPv{}: {:.2}.", l.family, l.took.each as f64 / l.networks as f64).unwrap();
+        write!(s, "\nNodes of 4 bytes for each network of IPv{}: {:.2}.", l.family, l.nodes()).unwrap();
     }
     writeln!(s).unwrap();
     s
@@ -193,6 +205,40 @@ fn curves(lines: &[Line]) -> String {
         writeln!(s, "{} {}{} {} {:.3} {theirs}", l.name, l.table(), l.family, l.networks, l.ours()).unwrap();
     }
     s
+}
+
+/// What a network takes in each form: nodes, the bytes of their words, and the bytes of the smallest buffer, which has eight words for a node.
+fn sizes(lines: &[Line]) -> String {
+    let mut s = "| table | family | networks | form | nodes a network | bytes of nodes a network | bytes of buffer a network |\n".to_string();
+    s += "|---|---|---|---|---|---|---|\n";
+    for l in lines.iter().filter(|l| l.each == "node") {
+        let (form, nodes) = (if l.form == Form::First { "first" } else { "second" }, l.nodes());
+        let (size, own, all) = (grouped(l.networks), 4.0 * l.form.stride(l.family) as f64 * nodes, 32.0 * nodes);
+        writeln!(s, "| {} | IPv{} | {size} | {form} | {nodes:.2} | {own:.1} | {all:.1} |", l.table(), l.family).unwrap();
+    }
+    s
+}
+
+/// The rows of both forms: nanoseconds, in brackets how many times faster than iprange in turns with it, and how many times faster the second form is. Nodes
+/// are not the same in both, so a row of nodes is said for a network.
+fn forms(lines: &[Line]) -> String {
+    let mut s = format!("{}\n| row | what | table | family | networks | ns for each | first | second | second beside first |\n", sizes(lines));
+    s += "|---|---|---|---|---|---|---|---|---|\n";
+    for l in lines.iter().filter(|l| l.form == Form::Second) {
+        let of_nodes = l.each == "node";
+        let ns = |l: &Line| if of_nodes { l.ours() * l.nodes() } else { l.ours() };
+        let cell = |l: &Line| rounded(ns(l)) + &l.times().map_or(String::new(), |t| format!(" ({}x)", rounded(t)));
+        let first = l.in_form(lines, Form::First);
+        let (one, times) = (first.map_or(String::new(), cell), first.map_or(String::new(), |f| format!("{}x", rounded(ns(f) / ns(l)))));
+        let (size, each) = (grouped(l.networks), if of_nodes { "network" } else { l.each });
+        writeln!(s, "| {} | {} | {} | IPv{} | {size} | {each} | {one} | {} | {times} |", l.name, l.what, l.table(), l.family, cell(l)).unwrap();
+    }
+    s
+}
+
+/// The part of docs/BENCHMARK.md that has both forms.
+pub fn write_forms(to: &Path, lines: &[Line]) -> std::io::Result<()> {
+    std::fs::write(to.join("forms.md"), forms(lines))
 }
 
 /// The parts of docs/BENCHMARK.md, each in a file of its name, and the data of the pictures.

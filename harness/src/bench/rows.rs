@@ -3,6 +3,7 @@ use super::case::{seconds, Case, Pool, Took, NODES};
 use super::tables::{queries, some, QUERIES};
 use crate::exports as call;
 use crate::files::file;
+use crate::layout::Form;
 use crate::lists::{meets_inner, List, Member};
 use crate::model::net;
 use crate::oracle::{self, Numbers};
@@ -31,49 +32,54 @@ pub struct Row {
     /// What the nanoseconds are for.
     pub each: &'static str,
     pub needs: Needs,
+    /// Those that it is measured in.
+    pub forms: &'static [Form],
     pub four: fn(&Case<Ipv4Net>) -> Took,
     pub six: fn(&Case<Ipv6Net>) -> Took,
 }
 
 macro_rules! rows {
-    ($($name:ident, $what:literal, $each:literal, $needs:ident;)*) => {
-        &[$(Row { name: stringify!($name), what: $what, each: $each, needs: Needs::$needs, four: $name::<Ipv4Net>, six: $name::<Ipv6Net> }),*]
+    ($($name:ident, $what:literal, $each:literal, $needs:ident, $forms:ident;)*) => {
+        &[$(Row { name: stringify!($name), what: $what, each: $each, needs: Needs::$needs, forms: $forms, four: $name::<Ipv4Net>, six: $name::<Ipv6Net> }),*]
     };
 }
 
+const FIRST: &[Form] = &[Form::First];
+const BOTH: &[Form] = &Form::BOTH;
+
 pub const ROWS: &[Row] = rows! {
-    contains_hit, "contains, hit / contains", "lookup", One;
-    contains_miss, "contains, miss / contains", "lookup", One;
-    contains_indexed_hit, "contains of an indexed set, hit / contains", "lookup", One;
-    contains_indexed_miss, "contains of an indexed set, miss / contains", "lookup", One;
-    indexed_hit, "contains of an indexed set, hit / not indexed", "lookup", One;
-    indexed_miss, "contains of an indexed set, miss / not indexed", "lookup", One;
-    contains_all_hit, "contains_all, hit / contains", "lookup", One;
-    contains_all_miss, "contains_all, miss / contains", "lookup", One;
-    contains_all_loop, "contains_all, hit / a loop of our contains", "lookup", One;
-    supernet, "supernet / supernet", "lookup", One;
-    list, "list / iterate", "network", One;
-    ranges, "ranges", "network", One;
-    walk, "nth: a walk of 1,000 steps / iterate", "network", One;
-    load, "load / collect", "network", One;
-    save, "save", "network", One;
-    add_file, "add_file of half a table to the rest / add", "network of the file", One;
-    add_file_loop, "add_file of half a table to the rest / a loop of our add", "network of the file", Few;
-    remove_file, "remove_file of half a table / remove", "network of the file", One;
-    simplify, "simplify / simplify", "network", One;
-    merge, "merge / merge", "network of both", Two;
-    intersect, "intersect / intersect", "network of both", Two;
-    exclude, "exclude / exclude, simplify", "network of both", Two;
-    exclude_apart, "exclude_apart / exclude", "network of both", Two;
-    copy, "exclude_apart of nothing / clone", "network", Twice;
-    equal, "equal / ==", "network", Twice;
-    merge_public, "merge, public-only / not marked", "network of both", Two;
-    check, "free: the check of the pool", "node", One;
-    held, "held", "call", One;
-    add, "add / add", "call", One;
-    add_public, "add, public-only / not marked", "call", Two;
-    remove, "remove / remove", "call", One;
-    next, "next", "call", One;
+    contains_hit, "contains, hit / contains", "lookup", One, BOTH;
+    contains_miss, "contains, miss / contains", "lookup", One, BOTH;
+    contains_indexed_hit, "contains of an indexed set, hit / contains", "lookup", One, FIRST;
+    contains_indexed_miss, "contains of an indexed set, miss / contains", "lookup", One, FIRST;
+    indexed_hit, "contains of an indexed set, hit / not indexed", "lookup", One, FIRST;
+    indexed_miss, "contains of an indexed set, miss / not indexed", "lookup", One, FIRST;
+    contains_all_hit, "contains_all, hit / contains", "lookup", One, BOTH;
+    contains_all_miss, "contains_all, miss / contains", "lookup", One, FIRST;
+    contains_all_loop, "contains_all, hit / a loop of our contains", "lookup", One, FIRST;
+    supernet, "supernet / supernet", "lookup", One, BOTH;
+    list, "list / iterate", "network", One, BOTH;
+    ranges, "ranges", "network", One, FIRST;
+    walk, "nth: a walk of 1,000 steps / iterate", "network", One, FIRST;
+    load, "load / collect", "network", One, BOTH;
+    save, "save", "network", One, FIRST;
+    add_file, "add_file of half a table to the rest / add", "network of the file", One, FIRST;
+    add_file_loop, "add_file of half a table to the rest / a loop of our add", "network of the file", Few, FIRST;
+    remove_file, "remove_file of half a table / remove", "network of the file", One, FIRST;
+    simplify, "simplify / simplify", "network", One, BOTH;
+    merge, "merge / merge", "network of both", Two, BOTH;
+    intersect, "intersect / intersect", "network of both", Two, BOTH;
+    exclude, "exclude / exclude, simplify", "network of both", Two, BOTH;
+    exclude_apart, "exclude_apart / exclude", "network of both", Two, FIRST;
+    copy, "exclude_apart of nothing / clone", "network", Twice, FIRST;
+    equal, "equal / ==", "network", Twice, BOTH;
+    merge_public, "merge, public-only / not marked", "network of both", Two, FIRST;
+    check, "free: the check of the pool", "node", One, BOTH;
+    held, "held", "call", One, FIRST;
+    add, "add / add", "call", One, BOTH;
+    add_public, "add, public-only / not marked", "call", Two, FIRST;
+    remove, "remove / remove", "call", One, BOTH;
+    next, "next", "call", One, FIRST;
 };
 
 /// An answer that is no refusal.
@@ -182,7 +188,7 @@ fn walk<N: Numbers + Clone>(c: &Case<N>) -> Took {
 fn load<N: Numbers + Clone>(c: &Case<N>) -> Took {
     let f = file(c.family, &c.list);
     let sorted: Vec<N> = c.list.iter().map(|&m| N::of(m)).collect();
-    let empty = Pool::of(c.family, &[], false);
+    let empty = c.pool_of(&[], false);
     let mut w = empty.words();
     let ours = || {
         empty.again(&mut w);
@@ -204,7 +210,7 @@ fn halves(l: &List) -> [List; 2] {
 fn add_file<N: Numbers + Clone>(c: &Case<N>) -> Took {
     let [half, rest] = halves(&c.list);
     let (f, nets) = (file(c.family, &half), half.iter().map(|&m| N::of(m)).collect::<Vec<N>>());
-    let (pool, range) = (Pool::of(c.family, &[&rest], false), oracle::ranges::<N>(&rest));
+    let (pool, range) = (c.pool_of(&[&rest], false), oracle::ranges::<N>(&rest));
     let mut w = pool.words();
     let ours = || {
         pool.again(&mut w);
@@ -220,7 +226,7 @@ fn add_file<N: Numbers + Clone>(c: &Case<N>) -> Took {
 fn add_file_loop<N: Numbers + Clone>(c: &Case<N>) -> Took {
     let [half, rest] = halves(&c.list);
     let (f, nets) = (file(c.family, &half), half.iter().map(|&m| net(c.family, m)).collect::<Vec<Net>>());
-    let pool = Pool::of(c.family, &[&rest], false);
+    let pool = c.pool_of(&[&rest], false);
     let (mut v, mut w) = (pool.words(), pool.words());
     let ours = || {
         pool.again(&mut v);
@@ -238,7 +244,7 @@ fn add_file_loop<N: Numbers + Clone>(c: &Case<N>) -> Took {
 fn remove_file<N: Numbers + Clone>(c: &Case<N>) -> Took {
     let [half, rest] = halves(&c.list);
     let (f, nets) = (file(c.family, &half), half.iter().map(|&m| N::of(m)).collect::<Vec<N>>());
-    let left = Pool::of(c.family, &[&rest], false).nodes();
+    let left = c.pool_of(&[&rest], false).nodes();
     let mut w = c.pool.words();
     let ours = || {
         c.pool.again(&mut w);
@@ -303,7 +309,7 @@ fn copy<N: Numbers + Clone>(c: &Case<N>) -> Took {
 }
 
 fn equal<N: Numbers + Clone>(c: &Case<N>) -> Took {
-    let pool = Pool::of(c.family, &[&c.list, &c.list], false);
+    let pool = c.pool_of(&[&c.list, &c.list], false);
     // built as the other is, network by network
     let (w, same) = (pool.words(), oracle::ranges::<N>(&c.list));
     let theirs = || seconds(|| assert!(black_box(&c.range) == black_box(&same)));
@@ -356,7 +362,7 @@ fn next<N: Numbers + Clone>(c: &Case<N>) -> Took {
 fn marked<N: Numbers + Clone>(c: &Case<N>, each: impl Fn(usize) -> usize, run: impl Fn(&Pool, &mut [u32], &List) -> f64) -> Took {
     let clear = |l: &List| l.iter().copied().filter(|&m: &Member| !meets_inner(c.family, &List::from([m]))).collect::<List>();
     let (a, b) = (clear(&c.list), clear(&c.second().list));
-    let (public, plain) = (Pool::of(c.family, &[&a, &b], true), Pool::of(c.family, &[&a, &b], false));
+    let (public, plain) = (c.pool_of(&[&a, &b], true), c.pool_of(&[&a, &b], false));
     let (mut v, mut w) = (public.words(), plain.words());
     Took { nodes: plain.nodes(), ..c.beside(each(a.len() + b.len()), || run(&public, &mut v, &a), || run(&plain, &mut w, &a)) }
 }

@@ -1,6 +1,7 @@
 //! What is to be reached: the table in harness/targets.txt, or another of its form.
 use super::report::{grouped, Line};
 use super::tables::Shape;
+use crate::layout::Form;
 
 #[derive(Clone, Copy)]
 pub enum Bound {
@@ -43,8 +44,9 @@ pub fn targets(text: &str) -> Result<Vec<Target>, String> {
 }
 
 impl Target {
+    /// Targets are of the first form.
     pub fn is_for(&self, l: &Line) -> bool {
-        (self.row.as_str(), Some(self.shape), self.family, self.networks) == (l.name, l.shape, l.family, l.networks)
+        (self.row.as_str(), Some(self.shape), Form::First, self.family, self.networks) == (l.name, l.shape, l.form, l.family, l.networks)
     }
 
     pub fn wanted(&self) -> String {

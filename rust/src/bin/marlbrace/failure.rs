@@ -15,7 +15,7 @@ pub enum Failure {
 impl Failure {
     pub fn refused(place: &str, no: Refusal) -> Failure {
         let why = match no {
-            Refusal::OverLimit | Refusal::NoRoom => format!("{no}; there are 4,194,304 nodes"),
+            Refusal::OverLimit | Refusal::NoRoom => "there are more than 2,097,152 networks".to_string(),
             Refusal::WrongFamily => "there are networks of two families, and all have to be of one".to_string(),
             _ => no.to_string(),
         };

@@ -8,7 +8,7 @@ mod words;
 
 use failure::Failure;
 use input::{Input, Reader};
-use marlbrace::{IpNet, IpRange, Refusal};
+use marlbrace::{Form, IpNet, IpRange, Refusal};
 use output::Output;
 use progress::Progress;
 use std::process::ExitCode;
@@ -125,6 +125,7 @@ fn report(input: Input) -> Result<String, Failure> {
     let (name, front) = (input.name.clone(), input.report());
     let set = input.set().map_err(|no| Failure::refused(&format!("{name}:"), no))?;
     let (networks, nodes) = (set.len(), set.nodes());
+    let form = if set.form() == Form::First { "" } else { " in the second form" };
     let shortest = simplified(set).len();
-    Ok(format!("{name}: {front}, {networks} networks, {nodes} nodes, {shortest} when simplified"))
+    Ok(format!("{name}: {front}, {networks} networks, {nodes} nodes{form}, {shortest} when simplified"))
 }

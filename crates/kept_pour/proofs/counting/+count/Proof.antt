@@ -23,7 +23,7 @@ use Rattle.kept_pour.proofs.counting.+count.Lts-count as count-lts
 use Rattle.kept_build.proofs.tally.Reads as tally-reads
 use Rattle.kept_pour.proofs.parts.flat_size.Reads as flat-size-reads
 use Rattle.kept_pour.proofs.parts.nodes_of.Reads as nodes-of-reads
-use Rattle.kept_pour.proofs.parts.over.Reads as over-reads
+use Rattle.kept_pour.proofs.parts.nodes_over.Reads as nodes-over-reads
 use Rattle.kept_pour.proofs.parts.step.Reads as step-reads
 use Rattle.setfile_below.proofs.first.Reads as first-reads
 use Rattle.setfile_below.proofs.is_whole.Reads as is-whole-reads
@@ -58,8 +58,8 @@ calls t = (
   count.Post,
   second-reads.Asked,
   second-reads.Learnt,
-  over-reads.Asked,
-  over-reads.Learnt,
+  nodes-over-reads.Asked,
+  nodes-over-reads.Learnt,
 )
 
 module _ (n : ℕ) where
@@ -173,4 +173,4 @@ pub +count-spec : {M : Type 1} → statement M
     let l = b .count .ensures _ _ _ _ _ (count-first o (y .file) (y .all) _ f) in
     let z = a .before .before .second .ensures in
     let r = a .count2 .ensures _ _ _ _ _ (count-second o (y .file) (y .all) _ (f .0) (l .1) _ z) in
-    (c .over .ensures _ _ (l .0) (r .0) ∙ sym (ap keptSize (opened-pour o)), pass-both (o .part) _ (z .0) (r .1)))
+    (c .nodes-over .ensures _ _ (l .0) (r .0) ∙ sym (ap keptSize (opened-pour o)), pass-both (o .part) _ (z .0) (r .1)))

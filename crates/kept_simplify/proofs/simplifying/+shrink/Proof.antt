@@ -16,7 +16,7 @@ use Rattle.kept_reading.proofs.reading.net_at.Reads as net-at-reads
 use Rattle.kept_simplify.proofs.joining.join_from.Reads as join-from-reads
 use Rattle.kept_simplify.proofs.simplifying.block.Reads as block-reads
 use Rattle.kept_simplify.proofs.simplifying.fork_at.Reads as fork-at-reads
-use Rattle.kept_simplify.proofs.simplifying.over.Reads as over-reads
+use Rattle.kept_simplify.proofs.simplifying.write_over.Reads as write-over-reads
 use Rattle.kept_simplify.proofs.simplifying.+shrink.{statement}
 use Rattle.kept_simplify.proofs.simplifying.+shrink.Tie.{close}
 
@@ -41,8 +41,8 @@ calls t = (
   net-at-reads.Learnt,
   join-from-reads.Asked,
   join-from-reads.Learnt,
-  over-reads.Asked,
-  over-reads.Learnt,
+  write-over-reads.Asked,
+  write-over-reads.Learnt,
 )
 
 module _ (n : ℕ) where
@@ -134,4 +134,4 @@ pub +shrink-spec : {M : Type 1} → statement M
     let d = split n (j .before .before) p t s in
     let h = j .shrink .ensures _ _ (second-source d) in
     let g = l .shrink2 .ensures _ _ (rest-source d _ _ h) in
-    shrunk d _ _ h _ _ _ (k .net-at .ensures) g _ _ (c .before .before .over .ensures _ _ _ _ (pending d _ _ h _ _ _ (k .net-at .ensures) g)))
+    shrunk d _ _ h _ _ _ (k .net-at .ensures) g _ _ (c .before .before .write-over .ensures _ _ _ _ (pending d _ _ h _ _ _ (k .net-at .ensures) g)))

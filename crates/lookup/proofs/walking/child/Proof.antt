@@ -1,7 +1,0 @@
--- `walking::child` meets its contract. Assumes nothing.
-use borrow.Author.Needs.{needs}
-use Rattle.lookup.proofs.walking.child.Statement.{statement}
-use Rattle.lookup.proofs.walking.child.Tie as tie
-
-pub child-spec : {M : Type 1} → statement M
-child-spec = tie.close (tie.spec (λ c. rw (c .if1 .taken)) (λ c. search needs) (λ c. rw (c .if1 .left)))

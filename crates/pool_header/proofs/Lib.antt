@@ -1,0 +1,2 @@
+-- The header by the tests of the code.
+pub mod Strides

@@ -1,0 +1,2 @@
+-- The walk of a lookup in the first form.
+pub mod Walks
