@@ -6,6 +6,7 @@ pub mod WithSet
 pub mod Answered
 -- How a list is kept in words.
 pub mod Kept
+pub mod FormLaws
 -- The header and layout, by the tests and the loops of the code.
 pub mod Header
 pub mod Setups
