@@ -1,5 +1,5 @@
 -- "and gives the same lists and lookups, node counts aside": the calls that read, in two pools that hold one state, one of them in the second form. So it is
--- after any calls that the first form grants throughout, from one layout (`second-form`). Assumes nothing.
+-- after any calls that the first form grants throughout, from one layout (`second-form`, in FormLines). Assumes nothing.
 use mathlib.Core.Path.{_≡_, refl}
 use mathlib.Core.Bool.{Bool, true, false, cond}
 use mathlib.Core.List.{List, [], _∷_}
@@ -15,19 +15,17 @@ use Rattle.nets.specs.declared.Net.{Net}
 use Rattle.pool_state.specs.Kept.{Form, first, second, heldL}
 use Rattle.pool_state.specs.States.{SetState, State, held}
 use Rattle.pool_state.specs.Decode.{sound, decode}
-use Rattle.pool_state.specs.Rules.{answerOn, noSet, setup, wordsOf, Laid, freeRule, heldRule, planRule}
+use Rattle.pool_state.specs.Rules.{answerOn, noSet, freeRule, heldRule, planRule}
 use Rattle.pool_state.specs.Changes.{setAt, listAt}
 use Rattle.lookup.specs.Rules.{supernetRule, containsRule, unsought, unheld, setNo, lookupNo, foundAs, stepsOf}
 use Rattle.lookup.proofs.OnLists.{supernetRule-sound, containsRule-sound, stepsOf-le}
-use Rattle.histories.specs.Calls.{Call}
-use Rattle.histories.specs.Histories.{History, SameList}
+use Rattle.histories.specs.Histories.{SameList}
 use Rattle.histories.specs.Readings.{SoughtAlike, HeldAlike, ReportAlike}
-use Rattle.histories.specs.Forms.{setsIn, inForm, AllGranted, AlikeButNodes}
+use Rattle.histories.specs.Forms.{setsIn, inForm, AlikeButNodes}
 use Rattle.histories.proofs.Step.{net-same}
-use Rattle.histories.proofs.Histories.{layout-begins, history-sound}
 use Rattle.histories.proofs.SameReadings.{same-readings, same-equal}
 use Rattle.histories.proofs.Queries.{allNo-same}
-use Rattle.histories.proofs.Forms.{held-fewer, inForm-list, free-more, second-granted, second-holds, second-laid, second-begins}
+use Rattle.histories.proofs.Forms.{held-fewer, inForm-list, free-more}
 
 -- "M-107's report ... never more than the old form's."
 steps-fewer : (F : Form) (l : List Bits) (q : Bits) → stepsOf second l q ≤ stepsOf F l q
@@ -119,14 +117,3 @@ module _ (u v : List ℕ) {S : State} (here : decode u ≡ sound S) (there : dec
     held = held-second;
     free = free-second;
   }
-
--- The theorem: a layout without an indexed set that is granted in the first form, and the calls cs from there on, all granted; the same layout in the second form in any
--- words that are enough for the first, and the same calls from there on.
-pub second-form : {f m n : ℕ} {xs ys : List ℕ} {o w y z : List ℕ} {i : ℕ} {r : ℕ × ℕ} {cs : List Call} {rs ss : List (ℕ × ℕ)} {u v : List ℕ}
-    → Laid o (setup f 0 m n xs ys 0) (0, i) w → History w cs rs u → AllGranted rs
-    → wordsOf (setup f 0 m n xs ys 0) ≤ length y → Laid y (setup f 1 m n xs ys 0) r z → History z cs ss v
-    → (r ≡ (0, 0)) × AllGranted ss × AlikeButNodes u v
-second-form {f} {m} {n} {xs} {ys} {u = u} {v = v} l h a le t g =
-    let d = layout-begins l in
-    let q = second-begins f m n xs ys l le t in
-    (second-laid f m n xs ys l le t, second-granted d q h g a, forms-alike u v (history-sound d h) (second-holds d q h g a))
