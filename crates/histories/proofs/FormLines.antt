@@ -18,7 +18,6 @@ use Rattle.lines.specs.Reading.{endedAs, ended, stepped, passed, closed, checke
 use Rattle.histories.specs.Calls.{add, relist, Outcome}
 use Rattle.histories.specs.Sequences.{AnyCall, change, feed, finish, AnyAnswer, told, left, noOf, AnyOutcome, Sequence, begin, step}
 use Rattle.histories.specs.Forms.{SecondOf, AllGranted, AnswerAlike, AnswersAlike, AlikeButNodes}
-use Rattle.histories.proofs.Histories.{layout-begins}
 use Rattle.histories.proofs.Forms.{outcome-granted, outcome-nodes, outcome-second, second-laid, second-begins}
 use Rattle.histories.proofs.FormReadings.{forms-alike}
 
@@ -154,7 +153,6 @@ pub second-form : {f m n : ℕ} {xs ys : List ℕ} {o w y z : List ℕ} {i : ℕ
     → Laid o (setup f 0 m n xs ys 0) (0, i) w → Sequence w cs rs u → AllGranted rs
     → wordsOf (setup f 0 m n xs ys 0) ≤ length y → Laid y (setup f 1 m n xs ys 0) r z → Sequence z cs ss v
     → (r ≡ (0, 0)) × AllGranted ss × AnswersAlike rs ss × AlikeButNodes u v
-second-form {f} {m} {n} {xs} {ys} {u = u} {v = v} l h a le t g =
-    let k : SecondOf _ _ = record { state = _; here = layout-begins l; there = second-begins f m n xs ys l le t } in
-    let (b, c, e) = sequence-second k h a g in
-    (second-laid f m n xs ys l le t, b, c, forms-alike u v (e .here) (e .there))
+second-form {f} {m} {n} {xs} {ys} l h a le t g =
+    let (b, c, e) = sequence-second (second-begins f m n xs ys l le t) h a g in
+    (second-laid f m n xs ys l le t, b, c, forms-alike e)

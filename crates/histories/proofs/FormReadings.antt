@@ -14,14 +14,14 @@ use Rattle.nets.specs.Refusals.{answered}
 use Rattle.nets.specs.declared.Net.{Net}
 use Rattle.pool_state.specs.Kept.{Form, first, second, heldL}
 use Rattle.pool_state.specs.States.{SetState, State, held}
-use Rattle.pool_state.specs.Decode.{sound, decode}
+use Rattle.pool_state.specs.Decode.{decode}
 use Rattle.pool_state.specs.Rules.{answerOn, noSet, freeRule, heldRule, planRule}
 use Rattle.pool_state.specs.Changes.{setAt, listAt}
 use Rattle.lookup.specs.Rules.{supernetRule, containsRule, unsought, unheld, setNo, lookupNo, foundAs, stepsOf}
 use Rattle.lookup.proofs.OnLists.{supernetRule-sound, containsRule-sound, stepsOf-le}
 use Rattle.histories.specs.Histories.{SameList}
 use Rattle.histories.specs.Readings.{SoughtAlike, HeldAlike, ReportAlike}
-use Rattle.histories.specs.Forms.{setsIn, inForm, AlikeButNodes}
+use Rattle.histories.specs.Forms.{setsIn, inForm, SecondOf, AlikeButNodes}
 use Rattle.histories.proofs.Step.{net-same}
 use Rattle.histories.proofs.SameReadings.{same-readings, same-equal}
 use Rattle.histories.proofs.Queries.{allNo-same}
@@ -68,7 +68,10 @@ setsIn-held k [] = omega arith
 setsIn-held zero (s ∷ ss) = held-fewer (s .form) (s .list)
 setsIn-held (suc k) (s ∷ ss) = setsIn-held k ss
 
-module _ (u v : List ℕ) {S : State} (here : decode u ≡ sound S) (there : decode v ≡ sound (inForm second S)) where
+module _ {u v : List ℕ} (h : SecondOf u v) where
+  abbrev S : State
+  S = h .state
+
   abbrev T : State
   T = inForm second S
 
@@ -79,7 +82,7 @@ module _ (u v : List ℕ) {S : State} (here : decode u ≡ sound S) (there : dec
   supernet-second k n =
       let s = lists k in
       let q = netBits n in
-      rw (supernetRule-sound u S here k n, supernetRule-sound v T there k n, s .known, net-same n k S T s, s .list)
+      rw (supernetRule-sound u S (h .here) k n, supernetRule-sound v T (h .there) k n, s .known, net-same n k S T s, s .list)
       (sought-alike (lookupNo T k n) (S .family) (supernetL (listAt T k) q) (stepsOf (S .form) (listAt T k) q) (stepsOf second (listAt T k) q) (hasBitPast n)
       (steps-fewer (S .form) (listAt T k) q))
 
@@ -87,32 +90,32 @@ module _ (u v : List ℕ) {S : State} (here : decode u ≡ sound S) (there : dec
   contains-second k n =
       let s = lists k in
       let q = netBits n in
-      rw (containsRule-sound u S here k n, containsRule-sound v T there k n, s .known, net-same n k S T s, s .list)
+      rw (containsRule-sound u S (h .here) k n, containsRule-sound v T (h .there) k n, s .known, net-same n k S T s, s .list)
       (held-alike (lookupNo T k n) (containsL (listAt T k) q) (stepsOf (S .form) (listAt T k) q) (stepsOf second (listAt T k) q) (hasBitPast n)
       (steps-fewer (S .form) (listAt T k) q))
 
   plan-second : (k : ℕ) → planRule (decode u) k ≡ planRule (decode v) k
   unfolding planRule answerOn
-  plan-second k = let (x, y) = setsIn-plan second k (S .sets) in rw (here, there, lists k .known, x, y)
+  plan-second k = let (x, y) = setsIn-plan second k (S .sets) in rw (h .here, h .there, lists k .known, x, y)
 
   held-second : (k : ℕ) → ReportAlike (heldRule (decode u) k) (heldRule (decode v) k)
   unfolding heldRule answerOn
   held-second k =
       let s = lists k in
       let le = rw (s .list) at (setsIn-held k (S .sets)) in
-      rw (here, there, s .known, s .list) (report-alike (setNo T k) (held (setAt T k)) (heldL (setAt S k .form) (listAt T k)) (length (listAt T k)) le)
+      rw (h .here, h .there, s .known, s .list) (report-alike (setNo T k) (held (setAt T k)) (heldL (setAt S k .form) (listAt T k)) (length (listAt T k)) le)
 
   free-second : (freeRule (decode v) .0 ≡ freeRule (decode u) .0) × (freeRule (decode u) .1 ≤ freeRule (decode v) .1)
   unfolding freeRule answerOn
-  free-second = rw (here, there) (refl, free-more S)
+  free-second = rw (h .here, h .there) (refl, free-more S)
 
   pub forms-alike : AlikeButNodes u v
   forms-alike = record {
-    readings = λ k. same-readings u v here there (lists k);
-    equal = λ j k. same-equal u v here there (lists j) k (lists k);
+    readings = λ k. same-readings u v (h .here) (h .there) (lists k);
+    equal = λ j k. same-equal u v (h .here) (h .there) (lists j) k (lists k);
     supernet = supernet-second;
     contains = contains-second;
-    many = λ k f qs n. allNo-same u v here there (lists k) f qs n;
+    many = λ k f qs n. allNo-same u v (h .here) (h .there) (lists k) f qs n;
     plan = plan-second;
     held = held-second;
     free = free-second;

@@ -18,7 +18,7 @@ use Rattle.branch_points.specs.BranchPoints.{keptL, keptNodesL}
 use Rattle.branch_points.proofs.Counts.{keptNodesL-le}
 use Rattle.pool_state.specs.Kept.{Form, first, second, heldL}
 use Rattle.pool_state.specs.States.{SetState, State, used, claimed, claimedBut, freeOf, roomOf}
-use Rattle.pool_state.specs.Decode.{isForm, sound, decode}
+use Rattle.pool_state.specs.Decode.{isForm, sound}
 use Rattle.pool_state.specs.Rules.{noSet, total, Setup, setup, wordsOf, isFormed, isSetup, sharesFit, layoutNo, emptySets, emptyState, Laid}
 use Rattle.pool_state.specs.Changes.{setAt, setsWith, withSet, fits, changeRules, planned, planRules, marked, markRules, grantRules, relistRules, relistSet, netRules}
 use Rattle.pool_state.proofs.WithSet.{fits-is, is-fits}
@@ -235,8 +235,8 @@ module _ (f m n : ℕ) (xs ys : List ℕ) where
     pub second-laid : r ≡ (0, 0)
     second-laid = t .answer ∙ ap (λ x. (x, 0)) (setup-second o y (sym (ap (λ a. a .0) (l .answer))) le)
 
-    pub second-begins : decode z ≡ sound (inForm second (emptyState one))
-    second-begins = layout-begins (rw second-laid at t) ∙ ap sound empty-second
+    pub second-begins : SecondOf w z
+    second-begins = record { state = emptyState one; here = layout-begins l; there = layout-begins (rw second-laid at t) ∙ ap sound empty-second }
 
 -- The document's pool of 100 nodes in the second form: the /80 that gets 9 in the first, and the /40 that gets 10 there beside the /59 of the other set, take
 -- one node each.
