@@ -1,5 +1,5 @@
 -- "and gives the same lists and lookups, node counts aside": the calls that read, in two pools that hold one state, one of them in the second form. So it is
--- after any calls that the first form grants throughout, from one layout (`second-form`). Assumes nothing.
+-- after any calls that the first form grants throughout, from one layout (`second-form`, in FormLines). Assumes nothing.
 use mathlib.Core.Path.{_≡_, refl}
 use mathlib.Core.Bool.{Bool, true, false, cond}
 use mathlib.Core.List.{List, [], _∷_}
@@ -14,20 +14,18 @@ use Rattle.nets.specs.Refusals.{answered}
 use Rattle.nets.specs.declared.Net.{Net}
 use Rattle.pool_state.specs.Kept.{Form, first, second, heldL}
 use Rattle.pool_state.specs.States.{SetState, State, held}
-use Rattle.pool_state.specs.Decode.{sound, decode}
-use Rattle.pool_state.specs.Rules.{answerOn, noSet, setup, wordsOf, Laid, freeRule, heldRule, planRule}
+use Rattle.pool_state.specs.Decode.{decode}
+use Rattle.pool_state.specs.Rules.{answerOn, noSet, freeRule, heldRule, planRule}
 use Rattle.pool_state.specs.Changes.{setAt, listAt}
 use Rattle.lookup.specs.Rules.{supernetRule, containsRule, unsought, unheld, setNo, lookupNo, foundAs, stepsOf}
 use Rattle.lookup.proofs.OnLists.{supernetRule-sound, containsRule-sound, stepsOf-le}
-use Rattle.histories.specs.Calls.{Call}
-use Rattle.histories.specs.Histories.{History, SameList}
+use Rattle.histories.specs.Histories.{SameList}
 use Rattle.histories.specs.Readings.{SoughtAlike, HeldAlike, ReportAlike}
-use Rattle.histories.specs.Forms.{setsIn, inForm, AllGranted, AlikeButNodes}
+use Rattle.histories.specs.Forms.{setsIn, inForm, SecondOf, AlikeButNodes}
 use Rattle.histories.proofs.Step.{net-same}
-use Rattle.histories.proofs.Histories.{layout-begins, history-sound}
 use Rattle.histories.proofs.SameReadings.{same-readings, same-equal}
 use Rattle.histories.proofs.Queries.{allNo-same}
-use Rattle.histories.proofs.Forms.{held-fewer, inForm-list, free-more, second-granted, second-holds, second-laid, second-begins}
+use Rattle.histories.proofs.Forms.{held-fewer, inForm-list, free-more}
 
 -- "M-107's report ... never more than the old form's."
 steps-fewer : (F : Form) (l : List Bits) (q : Bits) → stepsOf second l q ≤ stepsOf F l q
@@ -70,7 +68,10 @@ setsIn-held k [] = omega arith
 setsIn-held zero (s ∷ ss) = held-fewer (s .form) (s .list)
 setsIn-held (suc k) (s ∷ ss) = setsIn-held k ss
 
-module _ (u v : List ℕ) {S : State} (here : decode u ≡ sound S) (there : decode v ≡ sound (inForm second S)) where
+module _ {u v : List ℕ} (h : SecondOf u v) where
+  abbrev S : State
+  S = h .state
+
   abbrev T : State
   T = inForm second S
 
@@ -81,7 +82,7 @@ module _ (u v : List ℕ) {S : State} (here : decode u ≡ sound S) (there : dec
   supernet-second k n =
       let s = lists k in
       let q = netBits n in
-      rw (supernetRule-sound u S here k n, supernetRule-sound v T there k n, s .known, net-same n k S T s, s .list)
+      rw (supernetRule-sound u S (h .here) k n, supernetRule-sound v T (h .there) k n, s .known, net-same n k S T s, s .list)
       (sought-alike (lookupNo T k n) (S .family) (supernetL (listAt T k) q) (stepsOf (S .form) (listAt T k) q) (stepsOf second (listAt T k) q) (hasBitPast n)
       (steps-fewer (S .form) (listAt T k) q))
 
@@ -89,44 +90,33 @@ module _ (u v : List ℕ) {S : State} (here : decode u ≡ sound S) (there : dec
   contains-second k n =
       let s = lists k in
       let q = netBits n in
-      rw (containsRule-sound u S here k n, containsRule-sound v T there k n, s .known, net-same n k S T s, s .list)
+      rw (containsRule-sound u S (h .here) k n, containsRule-sound v T (h .there) k n, s .known, net-same n k S T s, s .list)
       (held-alike (lookupNo T k n) (containsL (listAt T k) q) (stepsOf (S .form) (listAt T k) q) (stepsOf second (listAt T k) q) (hasBitPast n)
       (steps-fewer (S .form) (listAt T k) q))
 
   plan-second : (k : ℕ) → planRule (decode u) k ≡ planRule (decode v) k
   unfolding planRule answerOn
-  plan-second k = let (x, y) = setsIn-plan second k (S .sets) in rw (here, there, lists k .known, x, y)
+  plan-second k = let (x, y) = setsIn-plan second k (S .sets) in rw (h .here, h .there, lists k .known, x, y)
 
   held-second : (k : ℕ) → ReportAlike (heldRule (decode u) k) (heldRule (decode v) k)
   unfolding heldRule answerOn
   held-second k =
       let s = lists k in
       let le = rw (s .list) at (setsIn-held k (S .sets)) in
-      rw (here, there, s .known, s .list) (report-alike (setNo T k) (held (setAt T k)) (heldL (setAt S k .form) (listAt T k)) (length (listAt T k)) le)
+      rw (h .here, h .there, s .known, s .list) (report-alike (setNo T k) (held (setAt T k)) (heldL (setAt S k .form) (listAt T k)) (length (listAt T k)) le)
 
   free-second : (freeRule (decode v) .0 ≡ freeRule (decode u) .0) × (freeRule (decode u) .1 ≤ freeRule (decode v) .1)
   unfolding freeRule answerOn
-  free-second = rw (here, there) (refl, free-more S)
+  free-second = rw (h .here, h .there) (refl, free-more S)
 
   pub forms-alike : AlikeButNodes u v
   forms-alike = record {
-    readings = λ k. same-readings u v here there (lists k);
-    equal = λ j k. same-equal u v here there (lists j) k (lists k);
+    readings = λ k. same-readings u v (h .here) (h .there) (lists k);
+    equal = λ j k. same-equal u v (h .here) (h .there) (lists j) k (lists k);
     supernet = supernet-second;
     contains = contains-second;
-    many = λ k f qs n. allNo-same u v here there (lists k) f qs n;
+    many = λ k f qs n. allNo-same u v (h .here) (h .there) (lists k) f qs n;
     plan = plan-second;
     held = held-second;
     free = free-second;
   }
-
--- The theorem: a layout without an indexed set that is granted in the first form, and the calls cs from there on, all granted; the same layout in the second form in any
--- words that are enough for the first, and the same calls from there on.
-pub second-form : {f m n : ℕ} {xs ys : List ℕ} {o w y z : List ℕ} {i : ℕ} {r : ℕ × ℕ} {cs : List Call} {rs ss : List (ℕ × ℕ)} {u v : List ℕ}
-    → Laid o (setup f 0 m n xs ys 0) (0, i) w → History w cs rs u → AllGranted rs
-    → wordsOf (setup f 0 m n xs ys 0) ≤ length y → Laid y (setup f 1 m n xs ys 0) r z → History z cs ss v
-    → (r ≡ (0, 0)) × AllGranted ss × AlikeButNodes u v
-second-form {f} {m} {n} {xs} {ys} {u = u} {v = v} l h a le t g =
-    let d = layout-begins l in
-    let q = second-begins f m n xs ys l le t in
-    (second-laid f m n xs ys l le t, second-granted d q h g a, forms-alike u v (history-sound d h) (second-holds d q h g a))

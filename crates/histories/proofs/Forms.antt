@@ -1,6 +1,6 @@
 -- "For any sequence without an indexed set that the old form grants throughout, the new one grants all": a list takes no more nodes in the second form than
 -- in either, so every claim is no more and every room no less. All else that a call is judged by, and what it makes of a set, depends on lists, shares, limits
--- and marks, which are the same. What the calls that read tell of the two pools is in FormReadings. Assumes nothing.
+-- and marks, which are the same. What the calls that read tell of the two pools is in FormReadings; lines and sequences are in FormLines. Assumes nothing.
 use mathlib.Core.Path.{_≡_, refl, sym, ap, _∙_}
 use mathlib.Core.Bool.{Bool, true, false, cond}
 use mathlib.Core.List.{List, [], _∷_, _++_}
@@ -18,17 +18,17 @@ use Rattle.branch_points.specs.BranchPoints.{keptL, keptNodesL}
 use Rattle.branch_points.proofs.Counts.{keptNodesL-le}
 use Rattle.pool_state.specs.Kept.{Form, first, second, heldL}
 use Rattle.pool_state.specs.States.{SetState, State, used, claimed, claimedBut, freeOf, roomOf}
-use Rattle.pool_state.specs.Decode.{isForm, sound, decode}
+use Rattle.pool_state.specs.Decode.{isForm, sound}
 use Rattle.pool_state.specs.Rules.{noSet, total, Setup, setup, wordsOf, isFormed, isSetup, sharesFit, layoutNo, emptySets, emptyState, Laid}
 use Rattle.pool_state.specs.Changes.{setAt, setsWith, withSet, fits, changeRules, planned, planRules, marked, markRules, grantRules, relistRules, relistSet, netRules}
 use Rattle.pool_state.proofs.WithSet.{fits-is, is-fits}
 use Rattle.pool_state.proofs.Judged.{changeNo-known, changeNo-zero, grant-within, grant-admits}
 use Rattle.pool_state.proofs.Setups.{Kept, isSetup-kept}
-use Rattle.histories.specs.Calls.{Relist, Call, relist, replan, makePublic, writes, target, argsOf, resultOf, nextOf, callNo, stateAfter}
-use Rattle.histories.specs.Histories.{stateFrom, answersFrom, History, SameList}
-use Rattle.histories.specs.Forms.{setIn, setsIn, inForm, AllGranted}
-use Rattle.histories.proofs.Step.{call-lists, callNo-granting, nextOf-is}
-use Rattle.histories.proofs.Histories.{layout-begins, history-sound, history-answers, pool100, adds}
+use Rattle.histories.specs.Calls.{Relist, Call, relist, replan, makePublic, writes, target, argsOf, resultOf, nextOf, callNo, stateAfter, Outcome}
+use Rattle.histories.specs.Histories.{stateFrom, answersFrom, SameList}
+use Rattle.histories.specs.Forms.{setIn, setsIn, inForm, SecondOf}
+use Rattle.histories.proofs.Step.{call-lists, callNo-granting, nextOf-is, outcome-answer, outcome-decode}
+use Rattle.histories.proofs.Histories.{layout-begins, pool100, adds}
 
 -- no more nodes than in either form
 pub held-fewer : (F : Form) (l : List Bits) → heldL second l ≤ heldL F l
@@ -153,27 +153,38 @@ module _ (S : State) where
       let in-sets : List SetState → State = λ ss. record { family = S .family; form = second; nodes = S .nodes; sets = ss } in
       rw (eq-eqb (callNo S c) 0 e, eq-eqb (callNo there c) 0 (call-second c e), n) (ap in-sets (setsIn-with second (target c) (nextOf c S) (S .sets)))
 
--- Calls that are all granted.
-calls-second : (S : State) (cs : List Call) → AllGranted (answersFrom S cs)
-    → AllGranted (answersFrom (inForm second S) cs) × (stateFrom (inForm second S) cs ≡ inForm second (stateFrom S cs))
-unfolding stateFrom answersFrom
-calls-second S [] a = (tt, refl)
-calls-second S (c ∷ cs) (e, a) =
-    let (b, q) = calls-second S cs a in
-    let T = stateFrom S cs in
-    ((rw q (call-second T c e), b), ap (λ U. stateAfter U c) q ∙ after-second T c e)
+-- The same call from words that hold a state, where it is granted, and from others that hold that state in the second form.
+module _ {u v x y : List ℕ} {r s : ℕ × ℕ} (k : SecondOf u v) (c : Call) (o : Outcome u c r x) (e : r .0 ≡ 0) (p : Outcome v c s y) where
+  abbrev S : State
+  S = k .state
 
--- Two histories of the same calls, from one state in its form and in the second.
-module _ {w z : List ℕ} {S : State} {cs : List Call} {rs ss : List (ℕ × ℕ)} {u v : List ℕ} (d : decode w ≡ sound S) (q : decode z ≡ sound (inForm second S))
-    (h : History w cs rs u) (g : History z cs ss v) (a : AllGranted rs) where
-  calls-too : AllGranted (answersFrom (inForm second S) cs) × (stateFrom (inForm second S) cs ≡ inForm second (stateFrom S cs))
-  calls-too = calls-second S cs (rw (history-answers d h) at a)
+  no-here : callNo S c ≡ 0
+  no-here = sym (ap (λ a. a .0) (outcome-answer S c (k .here) o)) ∙ e
 
-  pub second-granted : AllGranted ss
-  second-granted = rw (history-answers q g) (calls-too .0)
+  no-there : callNo (there S) c ≡ 0
+  no-there = call-second S c no-here
 
-  pub second-holds : decode v ≡ sound (inForm second (stateFrom S cs))
-  second-holds = history-sound q g ∙ ap sound (calls-too .1)
+  pub outcome-granted : s .0 ≡ 0
+  outcome-granted = ap (λ a. a .0) (outcome-answer (there S) c (k .there) p) ∙ no-there
+
+  pub outcome-nodes : s .1 ≤ r .1
+  outcome-nodes =
+      rw (
+        outcome-answer S c (k .here) o,
+        outcome-answer (there S) c (k .there) p,
+        eq-eqb (callNo S c) 0 no-here,
+        eq-eqb (callNo (there S) c) 0 no-there,
+        next-second S c (changeNo-zero S (target c) _ no-here .0),
+      )
+      (held-fewer (nextOf c S .form) (nextOf c S .list))
+
+  pub outcome-second : SecondOf x y
+  outcome-second =
+      record {
+        state = stateAfter S c;
+        here = outcome-decode S c (k .here) o;
+        there = outcome-decode (there S) c (k .there) p ∙ ap sound (after-second S c no-here);
+      }
 
 -- "At layout a pool may choose a second form": the same setup, in as many words.
 emptySets-second : (xs ys : List ℕ) (x : ℕ) → emptySets second xs ys x ≡ setsIn second (emptySets first xs ys x)
@@ -224,8 +235,8 @@ module _ (f m n : ℕ) (xs ys : List ℕ) where
     pub second-laid : r ≡ (0, 0)
     second-laid = t .answer ∙ ap (λ x. (x, 0)) (setup-second o y (sym (ap (λ a. a .0) (l .answer))) le)
 
-    pub second-begins : decode z ≡ sound (inForm second (emptyState one))
-    second-begins = layout-begins (rw second-laid at t) ∙ ap sound empty-second
+    pub second-begins : SecondOf w z
+    second-begins = record { state = emptyState one; here = layout-begins l; there = layout-begins (rw second-laid at t) ∙ ap sound empty-second }
 
 -- The document's pool of 100 nodes in the second form: the /80 that gets 9 in the first, and the /40 that gets 10 there beside the /59 of the other set, take
 -- one node each.

@@ -10,6 +10,7 @@ pub mod Public
 pub mod Indexed
 pub mod Forms
 pub mod FormReadings
+pub mod FormLines
 pub mod InnerTexts
 pub mod MergeOrder
 pub mod RoundTrip

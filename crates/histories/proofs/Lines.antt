@@ -1,7 +1,7 @@
--- Lines into a set are calls of a history: feed and finish go on with it by the adds of their networks, each granted, also where a line is refused. So what holds after any
--- history holds after them. Assumes nothing.
-use mathlib.Core.List.{List, [], _∷_}
-use mathlib.Core.Path.{_≡_}
+-- Lines into a set are calls of a history: feed and finish go on with it by the adds of their networks, each granted, also where a line is refused. So a
+-- history leaves what any sequence leaves that has lines among its calls, and what holds after any history holds after such a sequence. Assumes nothing.
+use mathlib.Core.List.{List, [], _∷_, map}
+use mathlib.Core.Path.{_≡_, ap}
 use Prim.Native.Nat.{ℕ}
 use Rattle.nets.specs.declared.Net.{Net}
 use Rattle.pool_state.specs.States.{State}
@@ -13,7 +13,10 @@ use Rattle.lines_reader.specs.declared.Reader.{Reader}
 use Rattle.lines.proofs.Lists.{added, decode-added}
 use Rattle.lines.proofs.Adds.{Adds, fed-adds, finished-adds}
 use Rattle.histories.specs.Calls.{Call, add, relist}
-use Rattle.histories.specs.Histories.{History, step}
+use Rattle.histories.specs.Histories.{History, begin, step}
+use Rattle.histories.specs.Sequences.{AnyCall, change, feed, finish, AnyAnswer, told, left, AnyOutcome, Sequence}
+use Rattle.histories.specs.Sequences.{begin as none, step as more}
+use Rattle.histories.proofs.Histories.{history-sound}
 
 -- the calls cs, and then the networks ns added to set 0, one after the other
 abbrev pub addsOn : List Net → List Call → List Call
@@ -41,3 +44,24 @@ module _ {w u : List ℕ} {cs : List Call} {rs : List (ℕ × ℕ)} {S : State} 
 
   pub finish-goes-on : (r : Reader) → Goes w cs (finished u r .1)
   finish-goes-on r = let x = finished-adds u r in goes (x .0) (x .1)
+
+-- A sequence, by its last call. And a history is a sequence without lines.
+abbrev pub Reached : List ℕ → List ℕ → Type 0
+Reached w v = (cs : List Call) × (rs : List (ℕ × ℕ)) × History w cs rs v
+
+module _ {w : List ℕ} {S : State} (d : decode w ≡ sound S) where
+  any-goes-on : {cs : List Call} {rs : List (ℕ × ℕ)} {u v : List ℕ} (c : AnyCall) (a : AnyAnswer) → History w cs rs u → AnyOutcome u c a v → Reached w v
+  any-goes-on (change c) (told a) h o = (_, _, step {c = c} h o)
+  any-goes-on (change c) (left q) h o = absurd o
+  any-goes-on (feed r s) (told a) h o = absurd o
+  any-goes-on (feed r s) (left q) h o = let g = feed-goes-on (history-sound d h) h r s in rw (ap (λ x. x .1) o) (_, _, g .history)
+  any-goes-on (finish r) (told a) h o = absurd o
+  any-goes-on (finish r) (left q) h o = let g = finish-goes-on (history-sound d h) h r in rw (ap (λ x. x .1) o) (_, _, g .history)
+
+  pub sequence-history : {cs : List AnyCall} {rs : List AnyAnswer} {v : List ℕ} → Sequence w cs rs v → Reached w v
+  sequence-history none = (_, _, begin)
+  sequence-history (more {c = c} {r = r} h o) = let (cs, rs, g) = sequence-history h in any-goes-on c r g o
+
+pub history-sequence : {w v : List ℕ} {cs : List Call} {rs : List (ℕ × ℕ)} → History w cs rs v → Sequence w (map change cs) (map told rs) v
+history-sequence begin = none
+history-sequence (step h o) = more (history-sequence h) o
