@@ -9,16 +9,13 @@ use lib.Dec.{eqb}
 use lib.ListN.{length}
 use borrow.Author.Tests.{lt-ltb, eqb-true}
 use Rattle.nets.specs.Bits.{Bits}
-use Rattle.nets.specs.Tries.{Trie, bare, level, listOf}
 use Rattle.nets.specs.Lists.{member}
 use Rattle.nets.proofs.Strings.{and-left, and-right}
 use Rattle.nets.proofs.Order.{key, From, from-not}
 use Rattle.nets.proofs.Members.{member-keep}
-use Rattle.nets.proofs.Listing.{member-listOf, from-listOf}
-use Rattle.address_order.specs.Streams.{flat, earlier, ofLength}
+use Rattle.address_order.specs.Streams.{earlier, ofLength}
 use Rattle.address_order.proofs.AddressOrder.{number, earlier-number}
 use Rattle.address_order.proofs.Rising.{Rise, rise-keep, rise-one}
-use Rattle.address_order.proofs.Flat.{member-flat, rise-flat, ofLength-flat}
 
 -- Of one length, the smaller key is earlier.
 pub key-earlier : (p q : Bits) → length p ≡ length q → key p < key q → earlier p q ≡ true
@@ -57,7 +54,3 @@ pub ofLength-one : (k lo : ℕ) (l m : List Bits) → From lo l → Rise m → (
 ofLength-one k lo l m i r h =
     rise-one (ofLength k l) (ofLength k m) (rise-ofLength k lo l i) (rise-keep (λ p. eqb (length p) k) m r)
     (λ q. member-ofLength k q l ∙ ap (λ z. z && eqb (length q) k) (h q) ∙ sym (member-ofLength k q m))
-
-pub ofLength-listOf : (k : ℕ) (t : Trie) → ofLength k (listOf t) ≡ level bare k t
-ofLength-listOf k t =
-    ofLength-one k 0 (listOf t) (flat t) (from-listOf t) (rise-flat t) (λ q. member-listOf t q ∙ sym (member-flat q t)) ∙ ofLength-flat k t

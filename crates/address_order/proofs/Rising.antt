@@ -52,10 +52,6 @@ unfolding rising
 rising-tail m [] e = refl
 rising-tail m (n ∷ ms) e = and-right (earlier m n) (rising (n ∷ ms)) e
 
-pub rising-rise : (l : List Bits) → rising l ≡ true → Rise l
-rising-rise [] e = tt
-rising-rise (p ∷ l) e = (rising-first p l e, rising-rise l (rising-tail p l e))
-
 pub rise-rising : (l : List Bits) → Rise l → rising l ≡ true
 unfolding rising
 rise-rising [] r = refl

@@ -4,6 +4,6 @@ pub use Rattle.address_order.proofs.Shared.{shared-leads, shared-le-lef
 pub use Rattle.address_order.proofs.Rising.{rising-first, rising-tail}
 pub use Rattle.address_order.proofs.Flat.{member-flat, rising-flat, ofLength-flat}
 pub use Rattle.address_order.proofs.PathNodes.{pathNodes-flat, moreNodes-few, pathNodes-few}
-pub use Rattle.address_order.proofs.Lengths.{member-ofLength, ofLength-listOf}
+pub use Rattle.address_order.proofs.Lengths.{member-ofLength}
 pub use Rattle.address_order.proofs.Sorted.{member-order, length-order, within-order, rising-order, ofLength-order, loose-order, flat-order, nodes-order}
 pub use Rattle.address_order.proofs.Lanes.{ofLength-head, ofLength-other, ofLength-append, ofLength-last, ofLength-last-other, ofLength-member, ofLength-first, ofLength-none, rising-least}

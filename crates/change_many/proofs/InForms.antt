@@ -62,8 +62,8 @@ module _ {w : List ℕ} {s : Seat} {d : List ℕ} {f : ℕ} {l : List Bits} {t :
     counts-second q z = z ∙ sym (ap (λ F. heldL F (pouredOf x l t)) (is-second (formIn w) e q) ∙ heldL-keptOf (pourT x (trieOf l) t))
 
 module _ {w : List ℕ} {s : Seat} {g : ℕ} {d : List ℕ} {f : ℕ} {x : Bool} {l : List Bits} {t : Trie} (h : PoursIn w s g d f x l t) {r : Bool} (e : r ≡ sameForm (formIn w) first) where
-  abbrev written : Form → List ℕ
-  written F = put w (spotL F f (s .base) (s .first)) (encL F f (pouredOf x l t))
+  abbrev pouredIn : Form → List ℕ
+  pouredIn F = put w (spotL F f (s .base) (s .first)) (encL F f (pouredOf x l t))
 
   pub pours-first : r ≡ true → tries.Pours w (s .base) (s .first) (s .end) g d f x l t
   pours-first q = h .first (is-first (formIn w) e q)
@@ -71,16 +71,16 @@ module _ {w : List ℕ} {s : Seat} {g : ℕ} {d : List ℕ} {f : ℕ} {x : Bool}
   pub pours-second : r ≡ false → kept.Pours f w (s .base) (getD w 3 0) (s .first) (s .end) g d x l t
   pours-second q = h .second (is-second (formIn w) e q)
 
-  pub poured-first : r ≡ true → {y : List ℕ} → y ≡ put w (place (s .base) (s .first)) (enc (pourT x (trieOf l) t)) → y ≡ written (formIn w)
+  pub poured-first : r ≡ true → {y : List ℕ} → y ≡ put w (place (s .base) (s .first)) (enc (pourT x (trieOf l) t)) → y ≡ pouredIn (formIn w)
   poured-first q z =
       z
-      ∙ sym (ap written (is-first (formIn w) e q) ∙ ap (λ p. put w p (encL first f (pouredOf x l t))) (spotL-first f (s .base) (s .first))
+      ∙ sym (ap pouredIn (is-first (formIn w) e q) ∙ ap (λ p. put w p (encL first f (pouredOf x l t))) (spotL-first f (s .base) (s .first))
       ∙ ap (put w (place (s .base) (s .first))) (encL-listOf (pourT x (trieOf l) t) f))
 
-  pub poured-second : r ≡ false → {y : List ℕ} → y ≡ put w (spot f (s .base) (s .first)) (keptEnc f [] (pourT x (trieOf l) t)) → y ≡ written (formIn w)
+  pub poured-second : r ≡ false → {y : List ℕ} → y ≡ put w (spot f (s .base) (s .first)) (keptEnc f [] (pourT x (trieOf l) t)) → y ≡ pouredIn (formIn w)
   poured-second q z =
       z
-      ∙ sym (ap written (is-second (formIn w) e q) ∙ ap (λ p. put w p (encL second f (pouredOf x l t))) (spotL-second f (s .base) (s .first))
+      ∙ sym (ap pouredIn (is-second (formIn w) e q) ∙ ap (λ p. put w p (encL second f (pouredOf x l t))) (spotL-second f (s .base) (s .first))
       ∙ ap (put w (spot f (s .base) (s .first))) (encL-keptOf (pourT x (trieOf l) t) f))
 
 -- A result of n nodes.

@@ -59,10 +59,6 @@ root-some : (i : ℕ) (l : List Bits) → (rootAt i l ≡ 0 → ⊥) → (l ≡ 
 root-some i [] ne = absurd (ne refl)
 root-some i (p ∷ l) ne = (cons-some p l, refl)
 
-root-le : (i : ℕ) (l : List Bits) → rootAt i l ≤ i
-root-le i [] = omega arith
-root-le i (p ∷ l) = omega arith
-
 -- A refusal of the first set is the call's, and the second has to be there too.
 pub equal-refused : (w : List ℕ) (first second : ℕ) {x : ℕ} → Refuses (decode w) first x → (x, false) ≡ equalRule (decode w) first second
 unfolding equalRule

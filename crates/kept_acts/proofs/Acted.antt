@@ -53,14 +53,6 @@ module _ {f : ℕ} {w : List ℕ} {b n i e u : ℕ} {p : Bits} {t : Trie} {rest 
   pub tail-words : take (stride f * (u - e)) (drop (spot f b e) w) ≡ rest
   tail-words = rw (← g .used) (has-seg tail-has)
 
-  all-length : length (keptEnc f p t ++ rest) ≡ stride f * (u - i)
-  all-length =
-      let q : u - i ≡ keptSize t + (u - e) = omega (arith, g .end, g .tail) in
-      rw (q, mul-add (stride f) (keptSize t) (u - e)) (length-append (keptEnc f p t) rest ∙ rw (length-keptEnc f p t, g .used))
-
-  pub all-words : take (stride f * (u - i)) (drop (spot f b i) w) ≡ keptEnc f p t ++ rest
-  all-words = rw (← all-length) (has-seg (g .has))
-
   own-length : length (keptEnc f p t) ≡ stride f * (e - i)
   own-length = let q : e - i ≡ keptSize t = omega (arith, g .end) in rw q (length-keptEnc f p t)
 

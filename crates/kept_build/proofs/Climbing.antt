@@ -101,10 +101,10 @@ through : {f : ℕ} {s s′ s″ : Bits} {u u′ u″ : Trie} → Same f s u s�
 through a c = record { words = a .words ∙ c .words; size = a .size ∙ c .size; nets = a .nets ∙ c .nets }
 
 module _ (f : ℕ) {p : Bits} {t : Trie} {ms : List Bits} where
-  over : {s s′ : Bits} {u u′ : Trie} {ns : List Bits} → Same f s u s′ u′ → Whole f p t ms s u ns ⊎ Branch f p t ms s u ns
+  widen : {s s′ : Bits} {u u′ : Trie} {ns : List Bits} → Same f s u s′ u′ → Whole f p t ms s u ns ⊎ Branch f p t ms s u ns
       → Whole f p t ms s′ u′ ns ⊎ Branch f p t ms s′ u′ ns
-  over a (inl k) = inl (record { same = through (k .same) a; rest = k .rest })
-  over a (inr k) = inr (record {
+  widen a (inl k) = inl (record { same = through (k .same) a; rest = k .rest })
+  widen a (inr k) = inr (record {
     at = k .at;
     l = k .l;
     r = k .r;
@@ -119,7 +119,7 @@ module _ (f : ℕ) {p : Bits} {t : Trie} {ms : List Bits} where
   climb-first : (s : Bits) (l r : Trie) (ns : List Bits) → isNone l ≡ false → Up p t ms s (node l r) ns
       → Whole f p t ms s (node l r) ns ⊎ Branch f p t ms s (node l r) ns
       → Whole f p t ms (snoc s false) l (below (snoc s true) r ++ ns) ⊎ Branch f p t ms (snoc s false) l (below (snoc s true) r ++ ns)
-  climb-first s l none ns e k c = rw (below-none (snoc s true)) (over (same-only f s false l e) c)
+  climb-first s l none ns e k c = rw (below-none (snoc s true)) (widen (same-only f s false l e) c)
   climb-first s l (node x y) ns e k c = inr (record {
     at = s;
     l = l;
@@ -135,4 +135,4 @@ module _ (f : ℕ) {p : Bits} {t : Trie} {ms : List Bits} where
   pub climb : {s : Bits} {u : Trie} {ns : List Bits} → isNone u ≡ false → Up p t ms s u ns → Whole f p t ms s u ns ⊎ Branch f p t ms s u ns
   climb e top = inl (record { same = record { words = refl; size = refl; nets = refl }; rest = refl })
   climb e (first {s} {l} {r} {ns} k) = climb-first s l r ns e k (climb refl k)
-  climb e (second {s} {r} k) = over (same-only f s true r e) (climb refl k)
+  climb e (second {s} {r} k) = widen (same-only f s true r e) (climb refl k)

@@ -8,6 +8,7 @@ use native.Mathlib.Omega.{arith}
 use lib.ListN.{length, getD}
 use Rattle.nets.specs.Bits.{Bits}
 use Rattle.nets.specs.Tries.{Trie, none, node, bare, isNone, glue}
+use Rattle.nets.proofs.Glue.{glue-inner}
 use Rattle.nets.proofs.Numbers.{width-le}
 use Rattle.nodes.specs.Words.{put, Has}
 use Rattle.nodes.proofs.Put.{put-nil, put-before-at}
@@ -28,7 +29,6 @@ use Rattle.kept_steps.proofs.Views.{segment-stands}
 use Rattle.kept_sieve.specs.Marks.{markBit, marked, markEnc}
 use Rattle.kept_sieve.proofs.Marked.{length-marked, length-mark, mark-gone}
 use Rattle.kept_sieve.proofs.Sieving.{put-head, words-some, keptSize-zero}
-use Rattle.kept_sieve.proofs.Spares.{glue-some}
 use Rattle.kept_cut.specs.Cuts.{Closing, Left}
 
 -- A trie that stands alone.
@@ -157,7 +157,7 @@ module _ {f : ℕ} {v w : List ℕ} {b n i e a m : ℕ} {p : Bits} {t c d : Trie
       let j : w ≡ put v (spot f b a) (secondMarks ++ firstMarks) =
       g .wrote ∙ put-before-at v (spot f b a) (spot f b m) secondMarks firstMarks (spot-second secondMarks (length-mark f (snoc p true) r d)) in
       let k = has-put (spot f b a) (secondMarks ++ firstMarks) own-there (λ y x1 x2 x3 x4. omega (arith, spot-own)) in
-      rw (glue-some c d h) (record {
+      rw (glue-inner c d h) (record {
         wrote = j ∙ sym (has-same k) ∙ put-before-at v (spot f b i) (spot f b a) own (secondMarks ++ firstMarks) spot-own
             ∙ ap (put v (spot f b i)) (sym marks-are);
         rest = refl;

@@ -174,7 +174,7 @@ pub record Numbers (f n b o m e : ℕ) (x y : Emitted) : Type 0 where
   pub second : m ≤ e
   pub full-l : x ≡ Full → (1 ≤ m) × (spot f b m + stride f ≤ n)
   pub full-r : y ≡ Full → (1 ≤ o) × (spot f b o + stride f ≤ n)
-  pub over : o < m → m < e → (1 < o) × (spot f b (o - 1) + stride f ≤ n)
+  pub top-room : o < m → m < e → (1 < o) × (spot f b (o - 1) + stride f ≤ n)
   pub few : e ≤ 4194305
   pub low : b < 1073741824
 
@@ -212,7 +212,7 @@ module _ {f : ℕ} {v w : List ℕ} {b : ℕ} {j : Bool} {p : Bits} {e : ℕ} {x
           second = omega arith;
           full-l = λ z. let k = full-one x l (h .both .first) z in (omega arith, omega (arith, n .0, spot-before f b m e (omega arith) (omega arith)));
           full-r = λ z. let k = full-one y r (h .both .second) z in (omega arith, omega (arith, n .0, spot-before f b o e (omega arith) (omega arith)));
-          over = λ p q. let k = two l r (n .1) (λ z. omega arith) (λ z. omega arith) in
+          top-room = λ p q. let k = two l r (n .1) (λ z. omega arith) (λ z. omega arith) in
               (omega arith, omega (arith, n .0, spot-before f b (o - 1) e (omega arith) (omega arith)));
           few = n .2;
           low = n .3;

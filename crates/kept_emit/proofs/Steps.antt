@@ -3,23 +3,23 @@ use mathlib.Core.Path.{_≡_, refl, sym, ap, _∙_}
 use mathlib.Core.Bool.{Bool, true, false, cond}
 use mathlib.Core.List.{List, []}
 use mathlib.Core.Logic.{_⊎_, inl, inr, ⊎-elim}
-use Prim.Native.Nat.{ℕ, zero, suc, _+_, _-_, _*_, _≤_, _<_, _^_, max}
+use Prim.Native.Nat.{ℕ, _+_, _-_, _*_, _≤_, _<_, _^_, max}
 use native.Mathlib.Omega.{arith}
 use lib.ListN.{length}
 use Rattle.nets.specs.Bits.{Bits}
 use Rattle.nets.specs.Tries.{Trie, none, node, leaf, size, levels, glue, bare}
-use Rattle.nets.specs.TrieOps.{Kind, flat, mixed, kindOf, verdict, opT, half}
+use Rattle.nets.specs.TrieOps.{flat, mixed, kindOf, verdict, half}
 use Rattle.nets.specs.Networks.{width, netFrom}
 use Rattle.nets.specs.declared.Net.{Net}
 use Rattle.nets.proofs.Glue.{levels-half}
 use Rattle.nets.proofs.Numbers.{width-le}
-use Rattle.nets.proofs.Operate.{flat≢mixed, verdict-levels, opHalf, opT-flat, opT-mixed}
+use Rattle.nets.proofs.Operate.{flat≢mixed, verdict-levels}
 use Rattle.nodes.specs.Words.{put, Has, Apart}
 use Rattle.nodes.proofs.Put.{length-put, put-nil}
 use Rattle.nodes.proofs.Has.{has-put}
 use Rattle.trie_emit.specs.Combine.{opOf, joined, opOn, rank}
 use Rattle.trie_emit.proofs.Answers.{by-kind, by-glue, length-body}
-use Rattle.trie_emit.proofs.Combine.{size-op}
+use Rattle.trie_emit.proofs.Combine.{size-op, rank-flat, rank-mixed, step-flat, step-mixed}
 use Rattle.trie_paths.specs.Spans.{snoc}
 use Rattle.trie_paths.proofs.Paths.{length-snoc}
 use Rattle.branch_points.specs.KeptTries.{kept, keptSize}
@@ -95,28 +95,6 @@ fits-glue j o e one = by-glue (λ l r t. (kindOf t ≡ mixed → o + keptSize t 
     (λ l r h f. let n = f (rw h) in (λ q. omega (arith, keptSize-halves l r), λ q. omega (arith, keptSize-halves l r), λ q. omega arith))
 
 -- One step.
-rank-flat : (k : Kind) (x : Bool) → rank k ≡ rank (flat x) → k ≡ flat x
-rank-flat (flat false) false e = refl
-rank-flat (flat false) true e = absurd (omega arith)
-rank-flat (flat true) false e = absurd (omega arith)
-rank-flat (flat true) true e = refl
-rank-flat mixed false e = absurd (omega arith)
-rank-flat mixed true e = absurd (omega arith)
-
-rank-mixed : (k : Kind) → (rank k ≡ 0 → ⊥) → (rank k ≡ 2 → ⊥) → k ≡ mixed
-rank-mixed (flat false) f n = absurd (f refl)
-rank-mixed (flat true) f n = absurd (n refl)
-rank-mixed mixed f n = refl
-
-module _ (j : Bool) (f : Bool → Bool → Bool) (t u : Trie) where
-  step-flat : (n : ℕ) → 1 ≤ n → (x : Bool) → verdict f (kindOf t) (kindOf u) ≡ flat x → opT j f n t u ≡ cond x leaf none
-  step-flat zero h x e = absurd (omega arith)
-  step-flat (suc k) h x e = opT-flat j f k t u x e
-
-  step-mixed : (n : ℕ) → 1 ≤ n → verdict f (kindOf t) (kindOf u) ≡ mixed → opT j f n t u ≡ glue j (opHalf j f (n - 1) t u false) (opHalf j f (n - 1) t u true)
-  step-mixed zero h e = absurd (omega arith)
-  step-mixed (suc k) h e = let p : suc k - 1 ≡ k = omega arith in rw p (opT-mixed j f k t u e)
-
 emits-flat : (f : ℕ) (w : List ℕ) (b : ℕ) (p : Bits) (e : ℕ) (x : Bool) → Emits f w w b p e (said (flat x) 0) (cond x leaf none)
 unfolding answer body
 emits-flat f w b p e true = record { answers = refl; wrote = sym (put-nil w (spot f b (e - keptSize leaf))) }

@@ -1,20 +1,20 @@
 -- One string more, and the nearest of all members: what follows in the list. Assumes nothing.
 use mathlib.Core.Bool.{Bool, true, false, not, _||_, false≢true}
-use mathlib.Core.List.{List, [], _∷_, _++_}
+use mathlib.Core.List.{List, _∷_, _++_}
 use mathlib.Core.Path.{_≡_, refl, sym, ap, _∙_}
 use Prim.Native.Nat.{ℕ, suc, _+_, _-_, _≤_, _<_}
 use native.Mathlib.Omega.{arith}
 use lib.ListN.{length}
 use Rattle.nets.specs.Bits.{Bits, before, equal}
 use Rattle.nets.specs.Lists.{member, Place, past, isPast, Found, found, missing, nextL}
-use Rattle.nets.specs.Networks.{isFamily, width, refusalOf, cleared, netFrom, netBits}
+use Rattle.nets.specs.Networks.{isFamily, width, netFrom, netBits}
 use Rattle.nets.specs.declared.Net.{Net}
 use Rattle.nets.specs.Tries.{Trie, listOf}
 use Rattle.nets.proofs.Strings.{equal-refl, equal-is}
 use Rattle.nets.proofs.Order.{key-one, before-lt, before-le}
 use Rattle.nets.proofs.Listing.{from-listOf, member-listOf}
 use Rattle.nets.proofs.Lookups.{nextL-found, nextL-missing}
-use Rattle.nets.proofs.Numbers.{length-netBits, netBits-netFrom, refusalOf-netFrom, refusalOf-is}
+use Rattle.nets.proofs.Numbers.{netBits-netFrom, refusalOf-netFrom, refusalOf-is}
 use Rattle.address_order.proofs.Flat.{member-flat}
 use Rattle.setfile_format.proofs.Written.{isClean-netFrom}
 use Rattle.setfile_entries.specs.Entries.{Entry}
@@ -29,14 +29,6 @@ use Rattle.kept_next.specs.declared.Best.{Best}
 pub entry-of : (f : ℕ) (s : Bits) → isFamily f ≡ true → length s ≤ width f → Entry f (netFrom f s)
 unfolding netFrom
 entry-of f s fam le = record { family = refl; clean = isClean-netFrom f s le; range = refusalOf-is (netFrom f s) (refusalOf-netFrom f s fam le) .address }
-
--- a network that is taken in, the bits past its length cut
-pub cleared-entry : (n : Net) → refusalOf n ≡ 0 → Entry (n .family) (cleared n) × (netBits (cleared n) ≡ netBits n)
-unfolding cleared
-cleared-entry n e =
-    let i = refusalOf-is n e in
-    let le : length (netBits n) ≤ width (n .family) = rw (length-netBits n e) (i .len) in
-    (entry-of (n .family) (netBits n) (i .family) le, netBits-netFrom (n .family) (netBits n) le)
 
 never-both : {X : Type 0} (x : Bool) → x ≡ true → x ≡ false → X
 never-both x a c = absurd (false≢true (sym c ∙ a))

@@ -16,6 +16,7 @@ use Rattle.nodes.specs.Words.{Has}
 use Rattle.nodes.specs.Parse.{Read, bad, ok, bind}
 use Rattle.nodes.proofs.Has.{has-front, has-back, has-join, has-at}
 use Rattle.nodes.proofs.Tries.{some}
+use Rattle.nodes.proofs.Parsed.{never, cond-ok, bind-ok}
 use Rattle.trie_paths.specs.Spans.{snoc}
 use Rattle.trie_paths.proofs.Paths.{length-snoc}
 use Rattle.branch_points.specs.KeptTries.{keptSize}
@@ -25,17 +26,6 @@ use Rattle.kept_nodes.specs.Parse.{KeptRoom, distAt, stringAt, isNode, h
 use Rattle.kept_nodes.proofs.Places.{spot-on, spot-next, spot-within, length-nodeWords, length-keptEnc}
 use Rattle.kept_nodes.proofs.Hung.{leads-drop, drop-snoc, drop-all, hung-some, keptSize-hung, keptSize-fork, levels-hung, levels-fork, keptEnc-hung, keptEnc-fork}
 use Rattle.kept_nodes.proofs.NodeWords.{Says, dist-is, string-is, is-node, node-short, node-says}
-
-never : (t : Trie) → bad ≡ ok t → ⊥
-never t e = let z : _≡_ {A = ℕ} 0 1 = cc in omega arith
-
-cond-ok : (t : Bool) (x : Read) (u : Trie) → cond t x bad ≡ ok u → (t ≡ true) × (x ≡ ok u)
-cond-ok true x u e = (refl, e)
-cond-ok false x u e = absurd (never u e)
-
-bind-ok : (x : Read) (k : Trie → Read) (u : Trie) → bind x k ≡ ok u → (l : Trie) × (x ≡ ok l) × (k l ≡ ok u)
-bind-ok bad k u e = absurd (never u e)
-bind-ok (ok l) k u e = (l, refl, e)
 
 lift-ok : (q : Bits) (x : Read) (u : Trie) → lift q x ≡ ok u → (l : Trie) × (x ≡ ok l) × (hung q l ≡ u)
 lift-ok q bad u e = absurd (never u e)

@@ -9,6 +9,7 @@ use Rattle.nets.specs.Bits.{Bits}
 use Rattle.nets.specs.Tries.{Trie, none, node, leaf, isNone, bare, glue}
 use Rattle.nets.specs.Networks.{width, netFrom}
 use Rattle.nets.specs.declared.Net.{Net}
+use Rattle.nets.proofs.Glue.{glue-inner}
 use Rattle.nets.proofs.Numbers.{width-le}
 use Rattle.nodes.specs.Words.{put, Has}
 use Rattle.nodes.proofs.Put.{put-nil}
@@ -30,7 +31,7 @@ use Rattle.kept_build.specs.Building.{Before, Grown}
 use Rattle.kept_build.proofs.Growing.{put-both, before-put, before-writable}
 use Rattle.kept_pour.specs.declared.parts.Turn.the-variants.{Settled, Fresh, Halves}
 use Rattle.kept_pour.specs.Parts.{KeptPart, whole, standing, Split, Says, Keeps, Closing}
-use Rattle.kept_pour.proofs.Sizes.{glue-none, glue-sum, glue-both, glue-first, glue-second, glue-inner}
+use Rattle.kept_pour.proofs.Sizes.{glue-none, glue-sum, glue-both, glue-first, glue-second}
 
 -- A trie by itself, without what stands behind it.
 narrow : {f : ℕ} {w : List ℕ} {b n i e u : ℕ} {p : Bits} {t : Trie} {rest : List ℕ} → KeptSegment f w b n i e u p t rest → KeptSegment f w b n i e e p t []

@@ -6,14 +6,13 @@ use native.Mathlib.Omega.{arith}
 use Rattle.nets.specs.Tries.{Trie, none, node, leaf, bare, glue}
 use Rattle.nets.specs.TrieOps.{half}
 use Rattle.nodes.proofs.Tries.{some}
+use Rattle.nets.proofs.Glue.{glue-inner}
 use Rattle.trie_emit.proofs.Answers.{by-kind, by-glue}
 use Rattle.trie_pour.specs.Pour.{flatT, isFlat, pourT, shadow, cutT}
 use Rattle.trie_pour.proofs.Pour.{pour-nothing, pour-halves, pour-cut, flat-all}
 use Rattle.branch_points.specs.KeptTries.{keptSize}
 use Rattle.branch_points.proofs.Sizes.{keptSize-some, keptSize-halves, keptSize-first, keptSize-second, keptSize-both, keptSize-leaf}
-
-pub glue-inner : (l r : Trie) → bare l r ≡ false → glue false l r ≡ node l r
-glue-inner = by-glue (λ l r t. bare l r ≡ false → t ≡ node l r) false (λ e. absurd (false≢true (sym e))) (λ h e. absurd (false≢true h)) (λ l r b e. refl)
+use Rattle.kept_sieve.proofs.Spares.{shadow-size}
 
 -- The node over two halves that are left apart.
 pub glue-none : keptSize none ≡ 0
@@ -54,11 +53,6 @@ halves-inner = by-kind (λ t. isFlat t ≡ false → keptSize t ≡ keptSize (gl
     (λ h. absurd (false≢true (sym h))) (λ h. absurd (false≢true (sym h))) (λ l r e h. rw (e, glue-inner l r e))
 
 -- What has been cut is no larger than what it becomes.
-shadow-right : (t u : Trie) → keptSize (shadow t u) ≤ keptSize u
-shadow-right none u = omega (arith, glue-none)
-shadow-right (node l r) none = omega arith
-shadow-right (node l r) (node a b) = omega (arith, keptSize-leaf, keptSize-some (node a b) (some a b))
-
 or-flat : (y : Bool) (t : Trie) → (y || isFlat t) ≡ false → (y ≡ false) × (isFlat t ≡ false)
 or-flat true t e = absurd (false≢true (sym e))
 or-flat false t e = (refl, e)
@@ -71,7 +65,7 @@ cut-pour-size x (node l r) t = go (bare l r || isFlat t) refl (cut-pour-size x l
     go : (y : Bool) → (bare l r || isFlat t) ≡ y → keptSize (cutT x l (half false t)) ≤ keptSize (pourT x l (half false t))
         → keptSize (cutT x r (half true t)) ≤ keptSize (pourT x r (half true t))
         → keptSize (cond y (shadow t (pourT x (node l r) t)) (glue false (cutT x l (half false t)) (cutT x r (half true t)))) ≤ keptSize (pourT x (node l r) t)
-    go true e f g = shadow-right t (pourT x (node l r) t)
+    go true e f g = shadow-size t (pourT x (node l r) t)
     go false e f g =
         let h = or-flat (bare l r) t e in
         rw (pour-halves x l r t (h .0) (flat-all x t (h .1)))

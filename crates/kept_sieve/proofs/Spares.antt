@@ -7,6 +7,7 @@ use native.Mathlib.Omega.{arith}
 use Rattle.nets.specs.Tries.{Trie, none, node, leaf, isNone, isLeaf, bare, glue}
 use Rattle.nets.specs.TrieOps.{half}
 use Rattle.nets.proofs.Strings.{and-both}
+use Rattle.nets.proofs.Glue.{glue-inner}
 use Rattle.nodes.proofs.Tries.{some}
 use Rattle.trie_emit.proofs.Answers.{by-kind, by-glue}
 use Rattle.trie_pour.specs.Pour.{isFlat, pourT, shadow, cutT}
@@ -49,13 +50,6 @@ by-spare P x e w f h (node l r) t = go (bare l r) (isFlat t) refl refl (by-spare
     go false true k m i j = rw (spare-flat x l r t k m) (f l r t k m)
     go false false k m i j = rw (spare-halves x l r t k m) (h l r t k m i j)
 
--- two halves that are not both empty
-pub glue-some : (a c : Trie) → bare a c ≡ false → glue false a c ≡ node a c
-glue-some none none e = absurd (false≢true (sym e))
-glue-some none (node x y) e = refl
-glue-some (node x y) none e = refl
-glue-some (node x y) (node u v) e = refl
-
 -- What goes before makes no difference.
 pub pour-spare : (x : Bool) (u t : Trie) → pourT x u (spareT x u t) ≡ pourT x u t
 pour-spare x = by-spare (λ u t s. pourT x u s ≡ pourT x u t) x
@@ -86,10 +80,10 @@ cut-spare x = by-spare (λ u t s. cutT x u s ≡ s) x
     both l r a c k = by-glue (λ a c t. cutT x l a ≡ a → cutT x r c ≡ c → cutT x (node l r) t ≡ t) false
         (λ i j. cut-flat x (node l r) none refl (or-true (bare l r)))
         (λ e i j. absurd (false≢true e))
-        (λ a c e i j. cut-halves x l r (node a c) k e ∙ rw (e, i, j) (glue-some a c e)) a c
+        (λ a c e i j. cut-halves x l r (node a c) k e ∙ rw (e, i, j) (glue-inner a c e)) a c
 
 -- There are no more nodes left than the result has.
-shadow-size : (t u : Trie) → keptSize (shadow t u) ≤ keptSize u
+pub shadow-size : (t u : Trie) → keptSize (shadow t u) ≤ keptSize u
 unfolding keptSize
 shadow-size none u = omega arith
 shadow-size (node l r) none = omega arith

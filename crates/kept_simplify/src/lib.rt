@@ -1,3 +1,3 @@
 // Simplifying a trie of the second form where it stands.
-pub mod joining;
+mod joining;
 pub mod simplifying;

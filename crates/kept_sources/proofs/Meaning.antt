@@ -8,13 +8,14 @@ use native.Mathlib.Omega.{arith}
 use lib.Dec.{eqb}
 use lib.ListN.{length, getD}
 use Rattle.nets.specs.Bits.{Bits, leads}
-use Rattle.nets.specs.Tries.{Trie, none, node, leaf, bare, side, fork}
+use Rattle.nets.specs.Tries.{Trie, none, node, bare, side, fork}
 use Rattle.nets.specs.TrieOps.{Kind, flat, mixed, kindOf, half}
 use Rattle.nets.specs.Networks.{netBits, width}
 use Rattle.nets.specs.declared.Net.{Net}
 use Rattle.nets.proofs.Strings.{leads-length, same-is, same-refl, and-left, and-right}
 use Rattle.nodes.proofs.Tries.{some}
 use Rattle.trie_emit.specs.Combine.{rank, all}
+use Rattle.trie_emit.proofs.Sources.{rank-none, rank-leaf}
 use Rattle.trie_paths.specs.Spans.{snoc}
 use Rattle.trie_paths.proofs.Paths.{length-snoc}
 use Rattle.branch_points.specs.KeptTries.{keptSize}
@@ -70,18 +71,6 @@ module _ {f : ℕ} {w : List ℕ} {b n o g : ℕ} {p : Bits} where
   kind-inner = by-node (λ i t. (headAt f w b i ≡ length p → ⊥) → 1 ≡ rank (kindOf t)) (λ i l r h. inner-test p (h .one) l r (h .stands))
 
 -- The halves.
-rank-none : (t : Trie) → rank (kindOf t) ≡ 0 → t ≡ none
-rank-none none e = refl
-rank-none (node none none) e = absurd (omega arith)
-rank-none (node none (node x y)) e = absurd (omega arith)
-rank-none (node (node x y) r) e = absurd (omega arith)
-
-rank-leaf : (t : Trie) → rank (kindOf t) ≡ 2 → t ≡ leaf
-rank-leaf none e = absurd (omega arith)
-rank-leaf (node none none) e = refl
-rank-leaf (node none (node x y)) e = absurd (omega arith)
-rank-leaf (node (node x y) r) e = absurd (omega arith)
-
 inside : {f : ℕ} {w : List ℕ} {b n o g i j : ℕ} {p q : Bits} {l r x y : Trie} → KeptHere f w b n o g p i (node l r) → KeptStands f w b n q j (node x y) → i ≤ j
     → j + keptSize (node x y) ≤ i + keptSize (node l r) → KeptMeans f w b n o g q j (node x y)
 inside h s le fit = standing (record { stands = s; one = omega (arith, h .one); clear = ⊎-elim (λ q. inl (omega arith)) (λ q. inr (omega arith)) (h .clear) })

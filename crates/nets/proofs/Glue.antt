@@ -1,5 +1,5 @@
 -- Halves of a trie, and the trie glued from two: what is found there, and its levels. Assumes nothing.
-use mathlib.Core.Bool.{Bool, true, false, cond, _&&_, _||_, and-false}
+use mathlib.Core.Bool.{Bool, true, false, cond, _&&_, _||_, and-false, false≢true}
 use mathlib.Core.List.{[], _∷_}
 use mathlib.Core.Path.{_≡_, refl, ap, sym, _∙_}
 use Prim.Native.Nat.{ℕ, suc, _≤_, max}
@@ -10,6 +10,13 @@ use Rattle.nets.specs.TrieOps.{half}
 use Rattle.nets.proofs.Strings.{and-left, and-right}
 use Rattle.nets.proofs.Levels.{side-same, levels-side, nodeAt-none}
 use Rattle.nets.proofs.Listing.{coversT-none, coversT-leaf, leaf-is}
+
+-- where the halves are left apart, and not both of them are empty, it is the node over them
+pub glue-inner : (l r : Trie) → bare l r ≡ false → glue false l r ≡ node l r
+glue-inner none none e = absurd (false≢true (sym e))
+glue-inner none (node c d) e = refl
+glue-inner (node a b) none e = refl
+glue-inner (node a b) (node c d) e = refl
 
 pub coversT-half : (t : Trie) (b : Bool) (a : Bits) → coversT t (b ∷ a) ≡ coversT (half b t) a
 coversT-half none b a = sym (coversT-none a)

@@ -4,13 +4,13 @@ use mathlib.Core.Bool.{Bool, true, false, _&&_, and-true, true≢false}
 use mathlib.Core.Logic.{_↔_}
 use mathlib.Core.Path.{_≡_, refl, ap, sym, _∙_}
 use Prim.Native.Nat.{ℕ, zero, suc, _+_, _-_, _*_, _/_, _%_, _^_, _≤_, _<_}
-use native.Mathlib.Nat.{add-comm, add-zero, add-mul, mul-one, zero-mul, mul-assoc, mul-add-div-right, mul-mod-left}
+use native.Mathlib.Nat.{add-comm, add-zero, add-mul, mul-one, one-mul, zero-mul, mul-assoc, mul-add-div-right, mul-mod-left}
 use native.Mathlib.Nat.{lt-of-le-of-lt, lt-of-lt-of-le, div-eq-of-lt, div-mul-le-self, mod-eq-of-lt}
 use native.Mathlib.Omega.{arith}
 use lib.Dec.{eqb, leb, ltb, eqb·suc-zero}
 use lib.Arith.{digits-lt}
 use lib.Bits.{bitOr, or-shifted}
-use lib.Pow.{pow-pos, pow-mono, pow-add, shl-shr, shr-shr, split, high, low, mod-pow-add}
+use lib.Pow.{pow-pos, pow-mono, pow-add, shl-exact, shl-shr, shr-shr, split, high, low, mod-pow-add}
 use borrow.Author.Tests.{not-false, eqb-true, eq-eqb, ne-eqb, ltb-true, ltb-false, le-ltb, lt-ltb}
 use Rattle.nets.specs.Networks.{width, value, netWords, netOf, address, bitsWords, inRange, refusalOf, cleared, hasBitPast, startOf, nextAs, nextOf}
 use Rattle.nets.specs.declared.Net.{Net}
@@ -21,6 +21,10 @@ use Rattle.nets.proofs.Numbers.{refusalOf-is, refusalOf-cleared, cleare
 
 pub netOf-value : (f hi lo n : ℕ) → lo < 2 ^ 64 → netOf f (value hi lo) n ≡ netWords f hi lo n
 netOf-value f hi lo n h = rw (high hi 64 h, low hi 64 h)
+
+-- One bit, k places to the left.
+pub shl-one : (k : ℕ) → k < 64 → 1 * 2 ^ k % 2 ^ 64 ≡ 2 ^ k
+shl-one k h = shl-exact 1 k 64 (omega arith) (omega arith) ∙ one-mul (2 ^ k)
 
 -- Clearing k low bits: k of the low word, and k - 64 of the high one.
 abbrev keep : ℕ → ℕ → ℕ

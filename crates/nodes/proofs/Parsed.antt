@@ -12,14 +12,14 @@ use Rattle.nodes.specs.Words.{link0, link1, enc, place, wordAt}
 use Rattle.nodes.specs.Parse.{Room, Read, bad, ok, bind, first, second, parse, Stands}
 use Rattle.nodes.proofs.Tries.{some, word-first, word-second, word-is, apart, joined}
 
-never : (t : Trie) → bad ≡ ok t → ⊥
+pub never : (t : Trie) → bad ≡ ok t → ⊥
 never t e = let z : _≡_ {A = ℕ} 0 1 = cc in omega arith
 
-cond-ok : (t : Bool) (x : Read) (u : Trie) → cond t x bad ≡ ok u → (t ≡ true) × (x ≡ ok u)
+pub cond-ok : (t : Bool) (x : Read) (u : Trie) → cond t x bad ≡ ok u → (t ≡ true) × (x ≡ ok u)
 cond-ok true x u e = (refl, e)
 cond-ok false x u e = absurd (never u e)
 
-bind-ok : (x : Read) (k : Trie → Read) (u : Trie) → bind x k ≡ ok u → (l : Trie) × (x ≡ ok l) × (k l ≡ ok u)
+pub bind-ok : (x : Read) (k : Trie → Read) (u : Trie) → bind x k ≡ ok u → (l : Trie) × (x ≡ ok l) × (k l ≡ ok u)
 bind-ok bad k u e = absurd (never u e)
 bind-ok (ok l) k u e = (l, refl, e)
 

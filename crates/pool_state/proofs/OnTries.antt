@@ -32,7 +32,7 @@ use Rattle.pool_state.proofs.Holds.{rootAt-some}
 use Rattle.pool_state.proofs.Decoded.{decode-set, decode-list}
 use Rattle.pool_state.proofs.Seen.{Seen, behind, seen-figures, own-has, behind-has, behind-length, wordsL, strideS, seen-form, own-form}
 use Rattle.pool_state.proofs.Beside.{its, beside-root}
-use Rattle.pool_state.proofs.Changed.{withWords, words-first, words-last, shift-asks}
+use Rattle.pool_state.proofs.Changed.{withWords, words-first, shift-asks}
 use Rattle.pool_state.proofs.Counted.{Counted, counted-refused, counted-fits, counted-settles, counted-granted}
 use native.Mathlib.Nat.{one-mul}
 
@@ -115,7 +115,7 @@ module _ {w : List ℕ} {S : State} {k : ℕ} {v : Survey} (h : Seen w S k v) (j
   pub trie-root : getD w (recordAt j) 0 ≡ cond (isNone (trieAt S j)) 0 (its h j lt .at)
   trie-root = beside-root h j lt ∙ ap (rootAt (its h j lt .at)) (sym e) ∙ root-is (its h j lt .at) (trieAt S j)
 
--- A trie in the place of the set's, with the sets behind it behind it, by either order of writing.
+-- A trie in the place of the set's, with the sets behind it behind it.
 abbrev pub withTrie : List ℕ → State → ℕ → Survey → Trie → List ℕ
 withTrie w S k v t = put w (place (base (getD w 2 0)) (v .at)) (enc t ++ behind S k)
 
@@ -129,13 +129,6 @@ module _ {w : List ℕ} {S : State} {k : ℕ} {v : Survey} (h : Seen w S k v) (F
       words-first h (enc t) (size t) (trie-length h F t)
       (subst (λ s. u ≡ put w (spotBy s (base (getD w 2 0)) (v .at + size t)) (behindAt s w (base (getD w 2 0)) v)) (sym (stride-one h F)) e)
       (g ∙ ap (λ p. put u p (enc t)) (sym (spotIn-first h F (v .at))))
-      ∙ sym trie-words
-
-  pub behind-last : {u x : List ℕ} → size t ≤ v .held → u ≡ put w (place (base (getD w 2 0)) (v .at)) (enc t)
-      → x ≡ put u (spotBy 1 (base (getD w 2 0)) (v .at + size t)) (behindAt 1 u (base (getD w 2 0)) v) → x ≡ withTrie w S k v t
-  behind-last {u} {x} le e g =
-      words-last h (enc t) (size t) (trie-length h F t) le (e ∙ ap (λ p. put w p (enc t)) (sym (spotIn-first h F (v .at))))
-      (subst (λ s. x ≡ put u (spotBy s (base (getD w 2 0)) (v .at + size t)) (behindAt s u (base (getD w 2 0)) v)) (sym (stride-one h F)) g)
       ∙ sym trie-words
 
 -- what moving the sets behind it asks
@@ -174,11 +167,11 @@ module _ {w : List ℕ} {S : State} {k : ℕ} {v : Survey} {a : State → List R
       result-fits = counted-fits counted j z
 
       module _ {u : List ℕ} (e : u ≡ withTrie w S k v t) where
-        written : u ≡ withWords w S k v (enc t)
-        written = e ∙ trie-words (h .seen) (h .form) t
+        result-words : u ≡ withWords w S k v (enc t)
+        result-words = e ∙ trie-words (h .seen) (h .form) t
 
         pub result-settles : Settle u k (v .at) (v .held) m
-        result-settles = counted-settles counted j z written
+        result-settles = counted-settles counted j z result-words
 
         pub result-granted : {x : ℕ × ℕ} {y : List ℕ} → x ≡ (0, m) → Settled u k (v .at) (v .held) m y → Relisted w k a f x y
-        result-granted q p = counted-granted counted j z written q p
+        result-granted q p = counted-granted counted j z result-words q p

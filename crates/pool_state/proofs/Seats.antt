@@ -67,9 +67,6 @@ module _ {w : List ℕ} {k : ℕ} {v : Survey} {s : Seat} (h : Seats w k v s) wh
   pub seats-base : s .base ≡ base (getD w 2 0)
   seats-base = ap (λ (x : Seat). x .base) (h .seat)
 
-  pub seats-first : s .first ≡ v .at
-  seats-first = ap (λ (x : Seat). x .first) (h .seat)
-
 onSet-refused : {A : Type 0} (d : Decoded) (k : ℕ) (z : A) (f : State → SetState → A) (x : Refusal) → (number x, z) ≡ onSet d k z f → Refuses d k (number x)
 unfolding answerOn
 onSet-refused damaged k z f x e = ap (λ p. p .0) e

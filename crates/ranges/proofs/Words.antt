@@ -3,12 +3,12 @@ use mathlib.Core.Bool.{cond}
 use mathlib.Core.Path.{_≡_, ap, ap₂, sym, _∙_}
 use Prim.Native.Nat.{ℕ, _+_, _-_, _*_, _/_, _%_, _^_, _≤_, _<_}
 use native.Mathlib.Decide.{decLt}
-use native.Mathlib.Nat.{mul-assoc, mul-mod-left, add-zero, one-mul, mod-lt, mod-eq-of-lt}
+use native.Mathlib.Nat.{mul-assoc, mul-mod-left, add-zero, mod-lt, mod-eq-of-lt}
 use native.Mathlib.Omega.{arith}
 use lib.Arith.{digits-lt}
 use lib.Dec.{eqb}
 use lib.ListN.{length}
-use lib.Pow.{pow-pos, pow-mono, pow-add, ones-lt, ones-split, mod-pow-add, shl-shr, split, high, low, field, shl-exact, mod-mod-pow}
+use lib.Pow.{pow-pos, pow-mono, pow-add, ones-lt, ones-split, mod-pow-add, shl-shr, split, high, low, field, mod-mod-pow}
 use borrow.Author.Tests.{eq-eqb, ne-eqb}
 use Rattle.nets.specs.Bits.{Bits, val}
 use Rattle.nets.specs.Networks.{width, value, netFrom}
@@ -28,9 +28,6 @@ address-one h l i m e f = ap₂ address e f
 -- two words are the words of their number
 pub words-value : (h l : ℕ) → l < 2 ^ 64 → address h l ≡ wordsOf (value h l)
 words-value h l k = address-one h l (value h l / 2 ^ 64) (value h l % 2 ^ 64) (sym (high h 64 k)) (sym (low h 64 k))
-
-pub shl-one : (k : ℕ) → k < 64 → 1 * 2 ^ k % 2 ^ 64 ≡ 2 ^ k
-shl-one k h = shl-exact 1 k 64 (omega arith) (omega arith) ∙ one-mul (2 ^ k)
 
 -- One more.
 pub after-4 : (f h l m : ℕ) → f ≡ 4 → m ≡ (l + 1) % 2 ^ 64 → address 0 (m % 0x100000000) ≡ wordsOf (afterOf f (value h l))

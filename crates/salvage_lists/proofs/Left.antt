@@ -17,7 +17,7 @@ use Rattle.nets.proofs.Order.{From, unique, ascending-from, from-ascending, fro
 use Rattle.nets.proofs.Members.{anyOf-in, anyOf-out, anyOf-same, member-keep}
 use Rattle.nets.proofs.TrieOf.{isList-ascending, isList-apart, isList-within}
 use Rattle.address_order.specs.Streams.{earlier, rising, loose, inAddressOrder}
-use Rattle.address_order.proofs.Rising.{Rise, rise-one, rising-rise, rising-tail, member-cons, member-first, member-later}
+use Rattle.address_order.proofs.Rising.{rise-one, member-cons, member-first, member-later}
 use Rattle.address_order.proofs.Sorted.{anyOf-order, member-order, rise-order, rising-order, loose-order, length-order}
 use Rattle.salvage_lists.specs.Salvaging.{strictly, isInside, outermost}
 use Rattle.salvage_lists.specs.Ahead.{ahead, Leads, Chain, isPast, Part, Whole, Squeezed, thinned}

@@ -58,8 +58,8 @@ takes-first w e q {n} l z = z ∙ sym (ap (λ F. heldL F l) (is-first (formIn w)
 
 -- The gap is filled, by the form.
 module _ {w : List ℕ} {b i n : ℕ} {d : List ℕ} {f : ℕ} {l : List Bits} (g : FileGap w b i n d f l) {r : Bool} (e : r ≡ sameForm (formIn w) first) where
-  abbrev written : Form → List ℕ
-  written F = put w (spotL F f b i) (encL F f l)
+  abbrev filledIn : Form → List ℕ
+  filledIn F = put w (spotL F f b i) (encL F f l)
 
   pub fill-first : r ≡ true → build.Fillable w b i d f l
   fill-first q = g .first (is-first (formIn w) e q)
@@ -67,17 +67,17 @@ module _ {w : List ℕ} {b i n : ℕ} {d : List ℕ} {f : ℕ} {l : List Bits} (
   pub fill-second : r ≡ false → kept.Fillable f w b (i + n) d l
   fill-second q = g .second (is-second (formIn w) e q)
 
-  pub filled-first : r ≡ true → {y : List ℕ} → y ≡ put w (place b i) (enc (trieOf l)) → y ≡ written (formIn w)
+  pub filled-first : r ≡ true → {y : List ℕ} → y ≡ put w (place b i) (enc (trieOf l)) → y ≡ filledIn (formIn w)
   filled-first q z =
-      z ∙ sym (ap written (is-first (formIn w) e q) ∙ ap (λ p. put w p (encL first f l)) (spotL-first f b i) ∙ ap (put w (place b i)) (encL-trie f l))
+      z ∙ sym (ap filledIn (is-first (formIn w) e q) ∙ ap (λ p. put w p (encL first f l)) (spotL-first f b i) ∙ ap (put w (place b i)) (encL-trie f l))
 
-  pub filled-second : r ≡ false → {y : List ℕ} → y ≡ put w (spot f b (i + n - keptNodesL l)) (keptEnc f [] (trieOf l)) → y ≡ written (formIn w)
+  pub filled-second : r ≡ false → {y : List ℕ} → y ≡ put w (spot f b (i + n - keptNodesL l)) (keptEnc f [] (trieOf l)) → y ≡ filledIn (formIn w)
   filled-second q z =
       let F = is-second (formIn w) e q in
       let m : keptNodesL l ≡ n = sym (held-kept l) ∙ ap (λ G. heldL G l) (sym F) ∙ g .nodes in
       let j : i + n - keptNodesL l ≡ i = omega (arith, m) in
       z ∙ ap (λ x. put w (spot f b x) (keptEnc f [] (trieOf l))) j
-      ∙ sym (ap written F ∙ ap (λ p. put w p (encL second f l)) (spotL-second f b i) ∙ ap (put w (spot f b i)) (encL-kept f l))
+      ∙ sym (ap filledIn F ∙ ap (λ p. put w p (encL second f l)) (spotL-second f b i) ∙ ap (put w (spot f b i)) (encL-kept f l))
 
 -- The sets behind move by the stride of the pool.
 pub write-moves : {w : List ℕ} {v : Survey} {d : List ℕ} {f n : ℕ} {l : List Bits} → FileFits w v d f n l → {s : ℕ} → s ≡ strideIn w → Shiftable s w (base (getD w 2 0)) v n

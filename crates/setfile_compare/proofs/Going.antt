@@ -148,8 +148,8 @@ rest-some {s = s} {ms = p ∷ ms} o n = rw (ne-eqb (s .head .deep) 0 (λ z. omeg
 
 module _ {first second : List ℕ} {f : ℕ} {c d : List ℕ} {a b : Side} {l m : List Bits} (g : Going first second f c d a b l m) where
   -- both at their end
-  over : (g .ms ≡ []) × (g .ns ≡ []) → verdict f l m ≡ (cond (isShortest m) 4 3, noNet)
-  over (e, h) = verdict-same f l m (g .one-list) (g .two-list) (abreast-over (g .abreast) e h)
+  verdict-end : (g .ms ≡ []) × (g .ns ≡ []) → verdict f l m ≡ (cond (isShortest m) 4 3, noNet)
+  verdict-end (e, h) = verdict-same f l m (g .one-list) (g .two-list) (abreast-over (g .abreast) e h)
 
   short : (g .ms ≡ []) × (g .ns ≡ []) → b .short ≡ isShortest m
   unfolding tight
@@ -157,11 +157,11 @@ module _ {first second : List ℕ} {f : ℕ} {c d : List ℕ} {a b : Side} {l m 
 
   pub going-shortest : (r : Meet) → Meets (width f) r (g .x) (g .ms) (g .y) (g .ns) → r ≡ meet.Over → b .short ≡ true
       → comparedAs compare.Shortest ≡ (0, verdict f l m)
-  going-shortest r o q e = let z = rw q at o in rw (over z, ← short z, e)
+  going-shortest r o q e = let z = rw q at o in rw (verdict-end z, ← short z, e)
 
   pub going-longer : (r : Meet) → Meets (width f) r (g .x) (g .ms) (g .y) (g .ns) → r ≡ meet.Over → b .short ≡ false
       → comparedAs compare.Longer ≡ (0, verdict f l m)
-  going-longer r o q e = let z = rw q at o in rw (over z, ← short z, e)
+  going-longer r o q e = let z = rw q at o in rw (verdict-end z, ← short z, e)
 
   -- only one of them holds the next address
   differs : (h : Holder) (n : Address) (w : ℕ) → w ≡ width f → n .lo < 2 ^ 64 → Meets (width f) (meet.Differ h n) (g .x) (g .ms) (g .y) (g .ns)

@@ -3,29 +3,26 @@ use mathlib.Core.Bool.{Bool, true, false}
 use mathlib.Core.Path.{_≡_, refl, ap, sym, _∙_}
 use Prim.Native.Nat.{ℕ, suc, _+_, _-_, _*_, _%_, _^_, _≤_, _<_}
 use native.Mathlib.Decide.{decLt}
-use native.Mathlib.Nat.{one-mul, mod-eq-of-lt}
+use native.Mathlib.Nat.{mod-eq-of-lt}
 use native.Mathlib.Omega.{arith}
 use lib.Arith.{digits-lt}
 use lib.Bits.{bitOr, or-add-and, and-mask}
 use lib.Dec.{ltb}
-use lib.Pow.{pow-pos, pow-lt, split, ones-split}
+use lib.Pow.{pow-pos, split, ones-split}
 use borrow.Author.Tests.{lt-ltb, le-ltb, ltb-true, ltb-false}
 use Rattle.nets.specs.Networks.{width, value, address}
 use Rattle.nets.specs.declared.Net.{Net}
 use Rattle.nets.proofs.Numbers.{width-le}
-use Rattle.nets.proofs.TwoWords.{keep-all, value-keep}
+use Rattle.nets.proofs.TwoWords.{shl-one, keep-all, value-keep}
 use Rattle.setfile_sides.specs.Sides.{kept, ones}
 
 -- one bit, k places to the left
-pub bit-shift : (k : ℕ) → k < 64 → 1 * 2 ^ k % 2 ^ 64 ≡ 2 ^ k
-bit-shift k h = let e : 1 * 2 ^ k ≡ 2 ^ k = one-mul (2 ^ k) in rw e (mod-eq-of-lt (pow-lt h))
-
 pub bit-some : (k : ℕ) → k < 64 → 1 ≤ 1 * 2 ^ k % 2 ^ 64
-bit-some k h = rw (bit-shift k h) (pow-pos k)
+bit-some k h = rw (shl-one k h) (pow-pos k)
 
 pub fill-low : (x k : ℕ) → k < 64 → bitOr x (1 * 2 ^ k % 2 ^ 64 - 1) ≡ kept x k + ones k
 unfolding kept ones
-fill-low x k h = rw (lt-ltb k 64 h, bit-shift k h) (omega (arith, or-add-and x (2 ^ k - 1), and-mask x k, split x k))
+fill-low x k h = rw (lt-ltb k 64 h, shl-one k h) (omega (arith, or-add-and x (2 ^ k - 1), and-mask x k, split x k))
 
 pub fill-all : (x k : ℕ) → x < 2 ^ 64 → 64 ≤ k → 2 ^ 64 - 1 ≡ kept x k + ones k
 unfolding kept ones

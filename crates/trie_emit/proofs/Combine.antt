@@ -107,7 +107,7 @@ fits-glue j o g = by-glue (λ l r t. Fits o g t → Fits (o + 1) g l × Fits (o 
     (λ l r b. rw b (λ f. let n = f refl in (λ h. omega arith, λ h. omega arith, λ h. omega arith)))
 
 -- One step of the operation.
-rank-flat : (k : Kind) (x : Bool) → rank k ≡ rank (flat x) → k ≡ flat x
+pub rank-flat : (k : Kind) (x : Bool) → rank k ≡ rank (flat x) → k ≡ flat x
 rank-flat (flat false) false e = refl
 rank-flat (flat false) true e = absurd (omega arith)
 rank-flat (flat true) false e = absurd (omega arith)
@@ -121,7 +121,7 @@ rank-mixed (flat true) f n = absurd (n refl)
 rank-mixed mixed f n = refl
 
 module _ (j : Bool) (f : Bool → Bool → Bool) (t u : Trie) where
-  step-flat : (n : ℕ) → 1 ≤ n → (x : Bool) → verdict f (kindOf t) (kindOf u) ≡ flat x → opT j f n t u ≡ cond x leaf none
+  pub step-flat : (n : ℕ) → 1 ≤ n → (x : Bool) → verdict f (kindOf t) (kindOf u) ≡ flat x → opT j f n t u ≡ cond x leaf none
   step-flat zero h x e = absurd (omega arith)
   step-flat (suc k) h x e = opT-flat j f k t u x e
 

@@ -50,10 +50,10 @@ module _ (op : ℕ) (k l : Kind) where
       go (suc zero) f g = absurd (g refl)
       go (suc (suc n)) f g = rank-but k l
 
-rank-none : (t : Trie) → rank (kindOf t) ≡ 0 → t ≡ none
+pub rank-none : (t : Trie) → rank (kindOf t) ≡ 0 → t ≡ none
 rank-none = by-kind (λ t. rank (kindOf t) ≡ 0 → t ≡ none) (λ h. refl) (λ h. absurd (omega arith)) (λ l r e. rw e (λ h. absurd (omega arith)))
 
-rank-leaf : (t : Trie) → rank (kindOf t) ≡ 2 → t ≡ leaf
+pub rank-leaf : (t : Trie) → rank (kindOf t) ≡ 2 → t ≡ leaf
 rank-leaf = by-kind (λ t. rank (kindOf t) ≡ 2 → t ≡ leaf) (λ h. absurd (omega arith)) (λ h. refl) (λ l r e. rw e (λ h. absurd (omega arith)))
 
 rank-bare : (x : Bool) → (rank (cond x (flat true) mixed) ≡ 2 → ⊥) → x ≡ false

@@ -3,11 +3,11 @@ use mathlib.Core.Path.{_≡_, refl, sym, ap, _∙_}
 use mathlib.Core.Bool.{Bool, true, false}
 use mathlib.Core.List.{List, [], _∷_}
 use Prim.Native.Nat.{ℕ, suc, _+_, _-_, _*_, _/_, _%_, _^_, _≤_, _<_, max}
-use native.Mathlib.Nat.{mul-assoc, suc-add, zero-mul, mul-comm, one-mul, add-zero, add-mul, pow-suc, mul-mod-left, mod-lt}
+use native.Mathlib.Nat.{mul-assoc, suc-add, zero-mul, mul-comm, add-zero, add-mul, pow-suc, mul-mod-left, mod-lt}
 use native.Mathlib.Omega.{arith}
 use lib.Arith.{digits-lt}
 use lib.ListN.{length, length-append}
-use lib.Pow.{pow-pos, pow-mono, pow-lt, pow-add, mod-pow-add, shl-shr, shl-exact, split}
+use lib.Pow.{pow-pos, pow-mono, pow-lt, pow-add, mod-pow-add, shl-shr, split}
 use Rattle.nets.specs.Bits.{Bits, digit, val}
 use Rattle.nets.specs.Tries.{Trie, levels}
 use Rattle.nets.specs.Networks.{width, value, netWords, netOf, netFrom}
@@ -49,9 +49,6 @@ no-carry v k h =
     mod-pow-add (v * 2 ^ suc k) j (suc k) ∙ rw (shl-shr v (suc k), mul-mod-left v (2 ^ suc k)) (add-zero (v % 2 ^ j * 2 ^ suc k)) in
     let d : v % 2 ^ j * 2 ^ suc k + 2 ^ k < 2 ^ j * 2 ^ suc k = digits-lt (mod-lt v (pow-pos j)) (pow-lt (omega arith)) in
     rw (← m, ← pow-add 2 j (suc k), e) at d
-
-pub shl-one : (k : ℕ) → k < 64 → 1 * 2 ^ k % 2 ^ 64 ≡ 2 ^ k
-shl-one k h = shl-exact 1 k 64 (omega arith) (omega arith) ∙ one-mul (2 ^ k)
 
 -- n is the network of p in the family f, with k bits behind the next
 module _ (n : Net) (f : ℕ) (p : Bits) (k : ℕ) (is : n ≡ netFrom f p) (left : suc (n .len + k) ≡ width (n .family)) where

@@ -3,20 +3,14 @@ use mathlib.Core.Bool.{Bool, true, false, cond, _||_, false≢true}
 use mathlib.Core.Path.{_≡_, refl, ap, sym, _∙_}
 use Prim.Native.Nat.{ℕ, zero, suc, _≤_}
 use native.Mathlib.Omega.{arith}
-use Rattle.nets.specs.Tries.{Trie, none, node, leaf, levels, isNone, isLeaf, bare, glue}
+use Rattle.nets.specs.Tries.{Trie, none, node, leaf, levels, isNone, isLeaf, bare}
 use Rattle.nets.specs.TrieOps.{half, flat, mixed, kindOf, agree, verdict, opT, exceptT}
 use Rattle.nets.proofs.Listing.{leaf-is}
-use Rattle.nets.proofs.Glue.{levels-half}
+use Rattle.nets.proofs.Glue.{glue-inner, levels-half}
 use Rattle.nets.proofs.Operate.{opT-flat, opT-mixed}
 use Rattle.trie_emit.proofs.Answers.{by-kind}
 use Rattle.trie_pour.specs.Pour.{flatT, isAll, pouring, pourT}
 use Rattle.trie_pour.proofs.Pour.{pour-nothing, pour-flat, pour-halves}
-
-glue-apart : (l r : Trie) → bare l r ≡ false → glue false l r ≡ node l r
-glue-apart none none e = absurd (false≢true (sym e))
-glue-apart none (node a b) e = refl
-glue-apart (node a b) none e = refl
-glue-apart (node a b) (node c d) e = refl
 
 inner-levels : (l r : Trie) → bare l r ≡ false → (k : ℕ) → levels (node l r) ≤ suc k → 1 ≤ k
 unfolding levels
@@ -51,7 +45,7 @@ module _ (x : Bool) where
   unfolding levels
   op-inner l r k e h i j =
       opT-mixed false (pouring x) (suc k) (node l r) none (rw (e, keeps false, keeps true))
-      ∙ rw (e, i k (omega arith), j k (omega arith)) (glue-apart l r e)
+      ∙ rw (e, i k (omega arith), j k (omega arith)) (glue-inner l r e)
 
   op-nothing : (t : Trie) (k : ℕ) → levels t ≤ suc k → opT false (pouring x) (suc k) t none ≡ t
   op-nothing none k h = opT-flat false (pouring x) k none none false (ap flat (keeps false))

@@ -182,11 +182,11 @@ module _ {v w : List ℕ} {b o m e : ℕ} {l r : Trie} (k : Closing v w b o m e 
       rw (a, c) (record { wrote = k .wrote ∙ rw (a, c) (put-nil (put v (place b (o + 1)) []) (place b m) ∙ put-nil v (place b (o + 1)) ∙ sym (put-nil v (place b o))); end = flat-none v b o .end })
 
   module _ (n : e ≡ o + 1 → ⊥) where
-    over : glue false l r ≡ node l r
-    over = glue-node l r (λ z. n (omega (arith, k .middle, k .end)))
+    glued : glue false l r ≡ node l r
+    glued = glue-node l r (λ z. n (omega (arith, k .middle, k .end)))
 
     whole-size : size (glue false l r) ≡ 1 + size l + size r
-    whole-size = rw over (size-node l r)
+    whole-size = rw glued (size-node l r)
 
     pub close-fits : (1 ≤ o) × ((o ≤ m) × ((m < 2147483648) × (place b o < length w)))
     close-fits =
@@ -200,7 +200,7 @@ module _ {v w : List ℕ} {b o m e : ℕ} {l r : Trie} (k : Closing v w b o m e 
     close-node h =
         let one = k .room .one in
         record {
-          wrote = rw over (h ∙ rw (linked-is l r o m e (k .middle) (k .end), k .wrote, k .middle, put-behind-at v (place b (o + 1)) (place b (o + 1 + size l)) (enc l) (enc r) (omega (arith, length-enc l)))
+          wrote = rw glued (h ∙ rw (linked-is l r o m e (k .middle) (k .end), k .wrote, k .middle, put-behind-at v (place b (o + 1)) (place b (o + 1 + size l)) (enc l) (enc r) (omega (arith, length-enc l)))
               (put-before-at v (place b o) (place b (o + 1)) _ (enc l ++ enc r) (omega arith)));
           end = omega (arith, whole-size, k .middle, k .end);
         }

@@ -8,24 +8,19 @@ use borrow.Author.Tests.{ne-eqb}
 use lib.Dec.{eqb}
 use lib.ListN.{length}
 use Rattle.nets.specs.Bits.{Bits}
-use Rattle.nets.specs.Tries.{Trie, none, node, leaf, size, bare, isNone, isLeaf, side, fork, glue}
+use Rattle.nets.specs.Tries.{Trie, none, node, leaf, size, bare, isNone, isLeaf, side, fork}
 use Rattle.nets.specs.TrieOps.{rejoin, removeT}
 use Rattle.nets.proofs.Strings.{cond-both}
 use Rattle.nets.proofs.Listing.{leaf-is}
+use Rattle.nets.proofs.Glue.{glue-inner}
 use Rattle.nodes.proofs.Tries.{size-fork, size-side}
 use Rattle.trie_remove.specs.Removal.{rooted}
 
 -- The trie with two halves: none where both are, else a node.
-glue-node : (x y : Trie) → bare x y ≡ false → glue false x y ≡ node x y
-glue-node none none e = let z : _≡_ {A = ℕ} 0 1 = cc in absurd (omega arith)
-glue-node none (node c d) e = refl
-glue-node (node a b) none e = refl
-glue-node (node a b) (node c d) e = refl
-
 pub rejoin-fork : (b : Bool) (x y : Trie) → bare x y ≡ false → rejoin b x y ≡ fork b x y
-rejoin-fork false x y e = glue-node x y e
+rejoin-fork false x y e = glue-inner x y e
 rejoin-fork true none (node c d) e = refl
-rejoin-fork true (node a b) y e = glue-node y (node a b) (and-false (isNone y))
+rejoin-fork true (node a b) y e = glue-inner y (node a b) (and-false (isNone y))
 rejoin-fork true none none e = let z : _≡_ {A = ℕ} 0 1 = cc in absurd (omega arith)
 
 pub rejoin-none : (b : Bool) → rejoin b none none ≡ none

@@ -33,7 +33,7 @@ finish-spec =
     (λ c κs. let f = facts (c .before .before .before .before .before .before .before) in
     ((λ h. omega (arith, f .full-r h)), omega (arith, f .first, f .second, f .few, f .low)))
     (λ c κs. let f = facts (c .before .before .before .before .before .before .before .before .before .before .before) in
-    ((λ h g. omega (arith, f .over h g)), omega (arith, f .first, f .second, f .few, f .low)))
+    ((λ h g. omega (arith, f .top-room h g)), omega (arith, f .first, f .second, f .few, f .low)))
     (λ c v p t u is h. finish-flat h _ (c .before .before .answer-over .ensures t u (h .both)) (λ k q. Node≢ k .0 (sym (c .enum-told .given .1) ∙ q)))
     (λ c v p t u is h. finish-flat h _ (c .before .before .answer-over .ensures t u (h .both)) (λ k q. Node≢ k .1 (sym (c .enum-told2 .given .1) ∙ q)))
     (λ c. search needs)

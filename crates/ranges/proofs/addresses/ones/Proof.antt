@@ -3,7 +3,7 @@ use mathlib.Core.Path.{_≡_}
 use native.Mathlib.Omega.{arith}
 use borrow.Author.Needs.{needs}
 use lib.Pow.{pow-pos}
-use Rattle.ranges.proofs.Words.{shl-one}
+use Rattle.nets.proofs.TwoWords.{shl-one}
 use Rattle.ranges.proofs.addresses.ones.Statement.{statement}
 use Rattle.ranges.proofs.addresses.ones.Tie as tie
 

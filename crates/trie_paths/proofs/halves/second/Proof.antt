@@ -5,7 +5,8 @@ use native.Mathlib.Omega.{arith}
 use borrow.Author.Needs.{needs}
 use Rattle.nets.specs.Networks.{width}
 use Rattle.nets.proofs.Numbers.{width-le}
-use Rattle.trie_paths.proofs.Paths.{shl-one, low-fits, second-low, high-fits, second-high}
+use Rattle.nets.proofs.TwoWords.{shl-one}
+use Rattle.trie_paths.proofs.Paths.{low-fits, second-low, high-fits, second-high}
 use Rattle.trie_paths.proofs.halves.second.Statement.{statement}
 use Rattle.trie_paths.proofs.halves.second.Tie as tie
 
