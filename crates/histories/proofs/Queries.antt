@@ -1,9 +1,9 @@
 -- Many lookups in one call after histories: contains_all answers each query as contains does, so its row is that of the set's list, and the same after two
 -- histories from states that agree on the set. Assumes nothing.
 use mathlib.Core.Bool.{Bool, true, false, not, cond}
-use mathlib.Core.List.{List, [], _∷_}
-use mathlib.Core.Path.{_≡_, refl, ap, ap₂, sym, _∙_}
-use Prim.Native.Nat.{ℕ, zero, suc, _+_, _/_}
+use mathlib.Core.List.{List, _∷_}
+use mathlib.Core.Path.{_≡_, refl, ap, sym, _∙_}
+use Prim.Native.Nat.{ℕ, _/_}
 use lib.Dec.{eqb, leb, ltb}
 use lib.ListN.{length}
 use borrow.Author.Tests.{leb-true, leb-false, le-ltb, lt-ltb}
@@ -11,16 +11,16 @@ use Rattle.nets.specs.Lists.{containsL}
 use Rattle.nets.specs.Networks.{netBits, hasBitPast}
 use Rattle.nets.specs.Refusals.{answered, Rule, firstNo}
 use Rattle.nets.specs.declared.Net.{Net}
-use Rattle.nets.specs.declared.Refusal.the-variants.{WrongFamily}
 use Rattle.nodes.specs.Words.{put}
 use Rattle.trie_index.specs.Index.{fill}
+use Rattle.trie_index.proofs.Fill.{fill-same}
 use Rattle.pool_state.specs.States.{State}
 use Rattle.pool_state.specs.Decode.{sound, decode}
-use Rattle.pool_state.specs.Rules.{unknown, short}
+use Rattle.pool_state.specs.Rules.{unknown}
 use Rattle.pool_state.specs.Changes.{listAt}
 use Rattle.pool_state.proofs.Decoded.{decode-header}
 use Rattle.lookup.specs.Rules.{onRoot, Held, containsRule, lookupNo, unheld, stepsOf}
-use Rattle.lookup_many.specs.Rules.{queryAt, inOne, answersOf, allNo, answersAfter}
+use Rattle.lookup_many.specs.Rules.{queryAt, inOne, answersOf, allRules, allNo, answersAfter}
 use Rattle.histories.specs.Calls.{Call}
 use Rattle.histories.specs.Histories.{stateFrom, History, callsOn, AllAlone, SameAt, SameList}
 use Rattle.histories.proofs.Step.{sameAt-list}
@@ -29,11 +29,11 @@ use Rattle.histories.proofs.TwoHistories.{same-after}
 use Rattle.histories.proofs.Readings.{history-contains}
 use Rattle.histories.proofs.TwoReadings.{two-contains}
 
--- the rules on a sound pool: 3 no such set, 6 another family, 11 fewer numbers for the answers than there are queries
-abbrev pub allRules : ℕ → ℕ → List ℕ → ℕ → State → List Rule
-allRules k f qs n S = unknown S k ∷ (not (eqb f (S .family)), WrongFamily) ∷ short (length qs / 3) n ∷ []
+-- the rules on a sound pool: 3 no such set, then those of the call
+abbrev pub rulesIn : State → ℕ → ℕ → List ℕ → ℕ → List Rule
+rulesIn S k f qs n = unknown S k ∷ allRules (S .family) f qs n
 
--- the test of a set and that of a buffer, turned round
+-- the test of a set, turned round
 ltb-leb : (m n : ℕ) → ltb m n ≡ not (leb n m)
 ltb-leb m n = go (leb n m) refl
   where
@@ -41,37 +41,29 @@ ltb-leb m n = go (leb n m) refl
     go true e = le-ltb m n (leb-true n m e)
     go false e = lt-ltb m n (leb-false n m e)
 
-allNo-sound : (w : List ℕ) (S : State) → decode w ≡ sound S → (k f : ℕ) (qs : List ℕ) (n : ℕ) → allNo w k f qs n ≡ firstNo (allRules k f qs n S)
+allNo-sound : (w : List ℕ) (S : State) → decode w ≡ sound S → (k f : ℕ) (qs : List ℕ) (n : ℕ) → allNo w k f qs n ≡ firstNo (rulesIn S k f qs n)
 unfolding allNo onRoot
 allNo-sound w S d k f qs n =
     let h = decode-header w S d in
-    rw (h .known, h .sets, h .family, ltb-leb k (length (S .sets)), ltb-leb n (length qs / 3))
-    (go (leb (length (S .sets)) k) (eqb f (S .family)) (leb (length qs / 3) n))
+    rw (h .known, h .sets, h .family, ltb-leb k (length (S .sets))) (go (leb (length (S .sets)) k) (firstNo (allRules (S .family) f qs n)))
   where
-    go : (a b c : Bool) → _≡_ {A = ℕ} (cond (not a) (cond b (cond c 0 11) 6) 3) (cond a 3 (cond (not b) 6 (cond (not c) 11 0)))
-    go true b c = refl
-    go false true true = refl
-    go false true false = refl
-    go false false c = refl
+    go : (a : Bool) (x : ℕ) → cond (not a) x 3 ≡ cond a 3 x
+    go true x = refl
+    go false x = refl
 
 pub allNo-same : (w v : List ℕ) {S T : State} → decode w ≡ sound S → decode v ≡ sound T → {k : ℕ} → SameList k S T → (f : ℕ) (qs : List ℕ) (n : ℕ) → allNo w k f qs n ≡ allNo v k f qs n
 allNo-same w v {S} {T} d q {k} s f qs n =
-    let r : firstNo (allRules k f qs n S) ≡ firstNo (allRules k f qs n T) = rw (s .known, s .family) in
+    let r : firstNo (rulesIn S k f qs n) ≡ firstNo (rulesIn T k f qs n) = rw (s .known, s .family) in
     allNo-sound w S d k f qs n ∙ r ∙ sym (allNo-sound v T q k f qs n)
 
 -- what contains answers, query by query
 abbrev heldIn : State → ℕ → Net → ℕ × Held
 heldIn S k n = let l = listAt S k in answered (lookupNo S k n) unheld (containsL l (netBits n), (stepsOf (S .form) l (netBits n), hasBitPast n))
 
-fill-same : (g h : ℕ → ℕ) → ((i : ℕ) → g i ≡ h i) → (m i : ℕ) → fill g i m ≡ fill h i m
-unfolding fill
-fill-same g h e zero i = refl
-fill-same g h e (suc m) i = ap₂ (λ x l. x ∷ l) (e i) (fill-same g h e m (i + 1))
-
 module _ {w : List ℕ} {S : State} (d : decode w ≡ sound S) {cs : List Call} {rs : List (ℕ × ℕ)} {v : List ℕ} (h : History w cs rs v) (k f : ℕ)
     (qs u : List ℕ) where
-  pub history-contains-all : (allNo v k f qs (length u) ≡ firstNo (allRules k f qs (length u) (stateFrom S cs)))
-      × (answersAfter u v k f qs ≡ cond (eqb (firstNo (allRules k f qs (length u) (stateFrom S cs))) 0)
+  pub history-contains-all : (allNo v k f qs (length u) ≡ firstNo (rulesIn (stateFrom S cs) k f qs (length u)))
+      × (answersAfter u v k f qs ≡ cond (eqb (firstNo (rulesIn (stateFrom S cs) k f qs (length u))) 0)
       (put u 0 (fill (λ i. inOne (heldIn (stateFrom S cs) k (queryAt f qs i))) 0 (length qs / 3))) u)
   unfolding answersAfter answersOf
   history-contains-all =

@@ -14,7 +14,7 @@ ghost use Rattle.nets.specs.Networks.{withLen, withLenNo, cleared, hasBitPast};
 ghost use Rattle.pool_state.specs.Rules.{toldAs};
 ghost use Rattle.lookup.specs.Rules.{supernetAs, containsAs, supernetRule, containsRule, emptyRule};
 
-pub mod beginning;
+mod beginning;
 mod second;
 pub mod walking;
 

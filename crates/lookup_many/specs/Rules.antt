@@ -3,21 +3,23 @@
 --   queryAt f qs i            query i of the row qs: three numbers for each, high word, low word and length, of the family f
 --   inOne a                   an answer of contains in one number: bits 0 to 31 the nodes read, from bit 32 on the number of the refusal, bit 48 yes, bit 49 the report
 --   answersOf w k f qs        the answers to the whole queries of the row, each that of contains
---   allNo w k f qs n          the refusal: 2 and 3 as contains, 6 another family than the pool's, 11 fewer than n numbers for the answers
+--   allRules g f qs n         the rules in a pool of the family g, with n numbers for the answers: 6 another family, 11 fewer numbers than queries
+--   allNo w k f qs n          the refusal: 2 and 3 as contains, then by these rules
 --   ContainsAll               the answer and the rows afterwards, as the call's contract
 --   asked w k n, askedOf      the answer to the query n in set k, and to query i of a row
-use mathlib.Core.Bool.{Bool, cond}
-use mathlib.Core.List.{List}
+use mathlib.Core.Bool.{Bool, not, cond}
+use mathlib.Core.List.{List, [], _∷_}
 use mathlib.Core.Path.{_≡_}
 use Prim.Native.Nat.{ℕ, _+_, _*_, _/_}
-use lib.Dec.{eqb, leb}
+use lib.Dec.{eqb}
 use lib.ListN.{length, getD}
 use Rattle.nets.specs.Networks.{netWords}
-use Rattle.nets.specs.Refusals.{number}
+use Rattle.nets.specs.Refusals.{number, Rule, firstNo}
 use Rattle.nets.specs.declared.Net.{Net}
+use Rattle.nets.specs.declared.Refusal.the-variants.{WrongFamily}
 use Rattle.nodes.specs.Words.{put}
 use Rattle.trie_index.specs.Index.{fill}
-use Rattle.pool_state.specs.Rules.{answerAs}
+use Rattle.pool_state.specs.Rules.{short, answerAs}
 use Rattle.pool_state.specs.declared.Answer.{Answer}
 use Rattle.lookup.specs.Rules.{onRoot, query, Held, isMember, containsRule}
 
@@ -33,8 +35,11 @@ inOne a = a .1 .1 .0 + 4294967296 * a .0 + 281474976710656 * bit (a .1 .0) + 562
 unfoldable pub answersOf : List ℕ → ℕ → ℕ → List ℕ → List ℕ
 answersOf w k f qs = fill (λ i. inOne (containsRule w k (queryAt f qs i))) 0 (length qs / 3)
 
+abbrev pub allRules : ℕ → ℕ → List ℕ → ℕ → List Rule
+allRules g f qs n = (not (eqb f g), WrongFamily) ∷ short (length qs / 3) n ∷ []
+
 unfoldable pub allNo : List ℕ → ℕ → ℕ → List ℕ → ℕ → ℕ
-allNo w k f qs n = onRoot w k number (λ _. cond (eqb f (getD w 1 0)) (cond (leb (length qs / 3) n) 0 11) 6)
+allNo w k f qs n = onRoot w k number (λ _. firstNo (allRules (getD w 1 0) f qs n))
 
 unfoldable pub answersAfter : List ℕ → List ℕ → ℕ → ℕ → List ℕ → List ℕ
 answersAfter v w k f qs = cond (eqb (allNo w k f qs (length v)) 0) (put v 0 (answersOf w k f qs)) v

@@ -1,5 +1,5 @@
 -- The words that a pool needs, by the tests of the call; and a granted layout, by what each of its writes leaves. Assumes nothing.
-use mathlib.Core.Path.{_≡_, ap, _∙_}
+use mathlib.Core.Path.{_≡_, ap, sym, _∙_}
 use mathlib.Core.Bool.{true, false}
 use mathlib.Core.List.{List}
 use Prim.Native.Nat.{ℕ, _≤_, _<_}
@@ -9,7 +9,9 @@ use Rattle.pool_state.specs.Kept.{first}
 use Rattle.pool_state.specs.States.{isSize}
 use Rattle.nodes.specs.Words.{put}
 use Rattle.pool_state.specs.Decode.{leastWords, overRecords, overIndexes, isForm}
-use Rattle.pool_state.specs.Rules.{Setup, marks, isSetup, emptySets, blanks, Laid, isFormed}
+use Rattle.pool_state.specs.Rules.{Setup, marks, isSetup, emptySets, blanks, Laid, isFormed, answerAs}
+use Rattle.pool_state.specs.declared.Answer.{Answer}
+use Rattle.pool_state.proofs.Determined.{answerAs-one}
 use Rattle.pool_state.proofs.Setups.{headed, layout-granted}
 use Rattle.pool.specs.Words.{wordsRule}
 use lib.Dec.{eqb}
@@ -26,6 +28,9 @@ module _ (m n j : ℕ) where
   pub words-are : isSize m n ≡ true → j ≤ m → {r : ℕ} → r ≡ leastWords m n j → (0, r) ≡ wordsRule m n j
   unfolding wordsRule
   words-are e le q = rw (e, le-leb j m le, q)
+
+  pub words-determined : (r s : Answer) → answerAs r ≡ wordsRule m n j → answerAs s ≡ wordsRule m n j → r ≡ s
+  words-determined r s e f = answerAs-one r s (e ∙ sym f)
 
 pub layout-done : (w : List ℕ) (p : Setup) → isSetup (length w) p ≡ true → {j n m : ℕ} {u v y z : List ℕ} → j ≡ marks (p .sets) (p .indexed) → n ≡ leastWords (p .sets) (p .nodes) j
     → u ≡ put w 0 (replicate n 0) → v ≡ headed u p → y ≡ overRecords v 0 1 (emptySets first (p .shares) (p .limits) 0)
