@@ -1,8 +1,10 @@
 // Lining up: a lane for each length that the file has.
 ghost use mathlib.Core.Path.{_≡_};
 ghost use mathlib.Core.List.{List};
-ghost use Prim.Native.Nat.{ℕ, _+_, _≤_};
-ghost use Rattle.setfile_lanes.specs.Lanes.{lanesOf, goesOn, Ordered, Adds, Lined};
+ghost use Prim.Native.Nat.{ℕ, _≤_, _<_};
+ghost use mathlib.Core.Bool.{true, false};
+ghost use Rattle.setfile_format.specs.Files.{entryNet};
+ghost use Rattle.setfile_lanes.specs.Lanes.{lanesOf, goesOn, Ordered, Alike, Adds, Lined};
 use crate::lanes::CURSORS;
 use crate::lanes::LANES;
 use crate::lanes::Lane;
@@ -24,18 +26,40 @@ fn goes_on(cursors: &[u64; CURSORS], len: u8) -> bool
     b.len == len as u64
 }
 
-// Entry i, which is x, comes behind the last lane's, or begins a lane.
-fn add_entry(cursors: &mut [u64; CURSORS], i: usize, x: Net)
-    requires { ⌜ ((d : List ℕ) × (f : ℕ) × (n : ℕ) × Adds d f n (now cursors) i x) ⌝ }
-    ensures { λ _. ⌜ ((d : List ℕ) (f n : ℕ) → Adds d f n (now (cursors .entry)) i x → Lined d f n (now (cursors .exit)) (i + 1)) ⌝ }
+// One of two numbers.
+fn either(first: bool, a: usize, b: usize) -> usize
+    ensures { λ r. ⌜ (first ≡ true → r ≡ a) × (first ≡ false → r ≡ b) ⌝ }
+{
+    if first { a } else { b }
+}
+
+// Where the entries of the length of entry i end: the lengths do not fall, so that the place is found by halves.
+fn run_end(bytes: &[u8], family: u8, n: usize, i: usize, len: u8) -> usize
+    requires { ⌜ Ordered (now bytes) family n × ((i < n) × (len ≡ entryNet family (now bytes) i .len)) ⌝ }
+    ensures { λ r. ⌜ Alike (now (bytes .entry)) family n i r ⌝ }
+{
+    let mut low = i;
+    let mut high = n;
+    while low + 1 < high {
+        let mid = (low + high) / 2;
+        let same = reading::entry(bytes, family, mid).len == len;
+        low = either(same, mid, low);
+        high = either(same, high, mid);
+    }
+    low + 1
+}
+
+// The entries from i, which is x, up to end, all of its length, come behind the last lane's, or make a lane.
+fn add_entries(cursors: &mut [u64; CURSORS], i: usize, end: usize, x: Net)
+    requires { ⌜ ((d : List ℕ) × (f : ℕ) × (n : ℕ) × Adds d f n (now cursors) i end x) ⌝ }
+    ensures { λ _. ⌜ ((d : List ℕ) (f n : ℕ) → Adds d f n (now (cursors .entry)) i end x → Lined d f n (now (cursors .exit)) end) ⌝ }
 {
     let n = cursors[LANES] as usize;
-    let end = i as u64 + 1;
     if goes_on(cursors, x.len) {
         let b = lane_at(cursors, n - 1);
         let longer = Lane {
             next: b.next,
-            end,
+            end: end as u64,
             hi: b.hi,
             lo: b.lo,
             len: b.len,
@@ -45,7 +69,7 @@ fn add_entry(cursors: &mut [u64; CURSORS], i: usize, x: Net)
     }
     let begun = Lane {
         next: i as u64,
-        end,
+        end: end as u64,
         hi: x.hi,
         lo: x.lo,
         len: x.len as u64,
@@ -63,7 +87,8 @@ pub fn line_up(bytes: &[u8], family: u8, n: usize, cursors: &mut [u64; CURSORS])
     let mut i = 0;
     while i < n {
         let x = reading::entry(bytes, family, i);
-        add_entry(cursors, i, x);
-        i += 1;
+        let end = run_end(bytes, family, n, i, x.len);
+        add_entries(cursors, i, end, x);
+        i = end;
     }
 }

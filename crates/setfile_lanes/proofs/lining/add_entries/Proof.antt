@@ -1,18 +1,17 @@
--- `lining::add_entry` meets its contract. Assumes nothing.
+-- `lining::add_entries` meets its contract. Assumes nothing.
 use mathlib.Core.Path.{sym, _∙_}
 use native.Mathlib.Omega.{arith}
 use borrow.Author.Needs.{needs}
 use Rattle.setfile_lanes.specs.Lanes.{lanesOf}
 use Rattle.setfile_lanes.proofs.Lines.{some-lane, lined-longer, begun-few, lined-begun}
-use Rattle.setfile_lanes.proofs.lining.add_entry.Statement.{statement}
-use Rattle.setfile_lanes.proofs.lining.add_entry.Tie as tie
+use Rattle.setfile_lanes.proofs.lining.add_entries.Statement.{statement}
+use Rattle.setfile_lanes.proofs.lining.add_entries.Tie as tie
 
-pub add-entry-spec : {M : Type 1} → statement M
+pub add-entries-spec : {M : Type 1} → statement M
 unfolding lanesOf
-add-entry-spec =
+add-entries-spec =
     tie.close
     (tie.spec
-    (λ c. search needs)
     (λ c. search needs)
     (λ c κs. search needs)
     (λ c. let d = c .before .before in some-lane (d .before .before .before .pre .3) (sym (d .goes-on .ensures) ∙ c .before .if1 .taken))
