@@ -1,20 +1,18 @@
--- Lining up: the entries of one length, behind those of it or in a lane of their own. The entries come in the order of a list, so no other lane can have that length. Assumes nothing.
-use mathlib.Core.Bool.{true, false, false≢true}
-use mathlib.Core.List.{List, [], _∷_, _++_, append-nil}
+-- Lining up: the entries of the next length, in a lane of their own. The entries come in the order of a list, so no other lane has that length. Assumes nothing.
+use mathlib.Core.Bool.{true, false≢true}
+use mathlib.Core.List.{List, [], _++_, append-nil}
 use mathlib.Core.Logic.{_⊎_, inl, inr, ⊎-elim}
 use mathlib.Core.Path.{_≡_, refl, ap, sym, _∙_}
-use Prim.Native.Nat.{ℕ, zero, suc, _+_, _-_, _^_, _≤_, _<_}
+use Prim.Native.Nat.{ℕ, zero, suc, _+_, _-_, _≤_, _<_}
 use native.Mathlib.Decide.{ℕ-discrete, decLt}
 use native.Mathlib.Numerals.{add-one}
 use native.Mathlib.Omega.{arith}
-use lib.Dec.{eqb, ltb}
 use lib.ListN.{length, set, replicate, length-set}
-use borrow.Author.Tests.{eqb-true, eqb-false, eq-eqb, ltb-true, lt-ltb}
+use borrow.Author.Tests.{eq-eqb}
 use Rattle.nets.specs.Bits.{Bits}
 use Rattle.nets.specs.Lists.{member}
-use Rattle.nets.specs.Networks.{width, netFrom}
 use Rattle.nets.specs.declared.Net.{Net}
-use Rattle.nets.proofs.Strings.{and-left, and-right, or-cases}
+use Rattle.nets.proofs.Strings.{or-cases}
 use Rattle.nets.proofs.Members.{anyOf-append}
 use Rattle.nets.proofs.Numbers.{width-le}
 use Rattle.setfile_format.specs.Files.{entryNet, networksIn}
@@ -22,9 +20,9 @@ use Rattle.address_order.specs.Streams.{ofLength}
 use Rattle.setfile_format.proofs.FileOrder.{networkAt, networksIn-append}
 use Rattle.address_order.proofs.Rising.{member-cons}
 use Rattle.address_order.proofs.Streams.{ofLength-append, ofLength-none}
-use Rattle.setfile_lanes.specs.Lanes.{laneAt, putLane, lanesOf, Live, Runs, goesOn, Lined, Adds}
+use Rattle.setfile_lanes.specs.Lanes.{laneAt, putLane, lanesOf, Live, Runs, Lined, Adds}
 use Rattle.setfile_lanes.specs.declared.lanes.Lane.{Lane}
-use Rattle.setfile_lanes.proofs.Cursors.{length-putLane, laneAt-put, laneAt-putLane, lanesOf-putLane, laneAt-set, lanesOf-set}
+use Rattle.setfile_lanes.proofs.Cursors.{length-putLane, laneAt-put, laneAt-putLane, laneAt-set, lanesOf-set}
 use Rattle.setfile_lanes.proofs.Read.{read-within, read-length}
 use Rattle.setfile_lanes.proofs.Halving.{lens-up}
 
@@ -66,7 +64,6 @@ lined-none {d} {f} {n} =
       full = λ j h. absurd (omega arith);
       high = λ j h. absurd (omega arith);
       below = λ j h. absurd (omega arith);
-      last = λ j h. absurd (omega arith);
     }
 
 -- The entries from i up to e more: lane j, the last, is y and has them; the lanes before it have shorter lengths and are as they were.
@@ -94,20 +91,20 @@ module _ {d : List ℕ} {f n : ℕ} {c : List ℕ} {i e : ℕ} {x : Net} (s : Ad
     count : lanesOf c′ ≡ suc j
     own : laneAt c′ j ≡ y
     other : (k : ℕ) → k < j → laneAt c′ k ≡ laneAt c k
-    old : (k : ℕ) → k < lanesOf c → (k < j) ⊎ (laneAt c k .len ≡ entryNet f d i .len)
-    fewer : j ≤ lanesOf c
-    shorter : (k : ℕ) → k < j → laneAt c k .len < entryNet f d i .len
+    first : lanesOf c ≡ j
     run : Runs d f e (networksIn f d 0 e) y
     long : y .len ≡ entryNet f d i .len
     live : Live y
-    end : y .end ≡ e
     high : j ≤ y .len
 
   module _ {j : ℕ} {y : Lane} {c′ : List ℕ} (o : Next j y c′) where
+    shorter : (k : ℕ) → k < j → laneAt c k .len < entryNet f d i .len
+    shorter k h = s .lined .below k (omega (arith, o .first)) more
+
     old-run : (k : ℕ) → k < j → Runs d f e (networksIn f d 0 e) (laneAt c k)
     old-run k h =
-        let r = s .lined .lanes .runs k (omega (arith, o .fewer)) in
-        record { from = r .from; to = omega (arith, r .to, s .run .from); rest = r .rest ∙ sym (rest-other (laneAt c k .len) (λ u. omega (arith, o .shorter k h))); head = r .head }
+        let r = s .lined .lanes .runs k (omega (arith, o .first)) in
+        record { from = r .from; to = omega (arith, r .to, s .run .from); rest = r .rest ∙ sym (rest-other (laneAt c k .len) (λ u. omega (arith, shorter k h))); head = r .head }
 
     -- a fact of lane j, and of those before it
     each : (P : ℕ → Lane → Type 0) → P j y → ((k : ℕ) → k < j → P k (laneAt c k)) → (k : ℕ) → k < lanesOf c′ → P k (laneAt c′ k)
@@ -128,14 +125,14 @@ module _ {d : List ℕ} {f n : ℕ} {c : List ℕ} {i e : ℕ} {x : Net} (s : Ad
         there : member q (networksIn f d 0 i) ≡ true → (k : ℕ) × (k < lanesOf c′) × (laneAt c′ k .len ≡ length q)
         there z =
             let k = s .lined .lanes .known q z in
-            ⊎-elim (λ h. (k .0, omega (arith, o .count), rw (o .other (k .0) h) (k .2))) (λ u. at-last (sym u ∙ k .2)) (o .old (k .0) (k .1))
+            (k .0, omega (arith, o .count, o .first, k .1), rw (o .other (k .0) (omega (arith, o .first, k .1))) (k .2))
 
     next-order : (a b : ℕ) → a < b → b < lanesOf c′ → laneAt c′ a .len < laneAt c′ b .len
     next-order a b h g = rw (o .other a (omega (arith, o .count))) (go (ℕ-discrete b j))
       where
         go : Dec (b ≡ j) → laneAt c a .len < laneAt c′ b .len
-        go (yes u) = rw (u, o .own) (omega (arith, o .long, o .shorter a (omega arith)))
-        go (no ne) = let l : b < j = omega (arith, o .count) in rw (o .other b l) (s .lined .order a b h (omega (arith, o .fewer)))
+        go (yes u) = rw (u, o .own) (omega (arith, o .long, shorter a (omega arith)))
+        go (no ne) = let l : b < j = omega (arith, o .count) in rw (o .other b l) (s .lined .order a b h (omega (arith, o .first)))
 
     lined-next : Lined d f n c′ e
     lined-next =
@@ -148,136 +145,58 @@ module _ {d : List ℕ} {f n : ℕ} {c : List ℕ} {i e : ℕ} {x : Net} (s : Ad
             known = next-known;
           };
           order = next-order;
-          full = each (λ _ z. Live z) (o .live) (λ k h. s .lined .full k (omega (arith, o .fewer)));
-          high = each (λ k z. k ≤ z .len) (o .high) (λ k h. s .lined .high k (omega (arith, o .fewer)));
+          full = each (λ _ z. Live z) (o .live) (λ k h. s .lined .full k (omega (arith, o .first)));
+          high = each (λ k z. k ≤ z .len) (o .high) (λ k h. s .lined .high k (omega (arith, o .first)));
           below = λ k h g.
               let u = lens-up (s .file) i e (omega (arith, s .run .from)) g in
-              each (λ _ z. z .len ≤ entryNet f d e .len) (omega (arith, o .long, u)) (λ k h. omega (arith, o .shorter k h, u)) k h;
-          last = λ k h. let z : k ≡ j = omega (arith, o .count) in rw (z, o .own) (o .end);
+              let v : entryNet f d i .len < entryNet f d e .len = omega (arith, u, s .run .ends g) in
+              each (λ _ z. z .len < entryNet f d e .len) (omega (arith, o .long, v)) (λ k h. omega (arith, shorter k h, v)) k h;
         }
 
-  -- the entry is of the last lane's length
-  module _ (g : goesOn c (x .len) ≡ true) where
-    pub some-lane : 0 < lanesOf c
-    unfolding goesOn
-    some-lane = ltb-true 0 (lanesOf c) (and-left (ltb 0 (lanesOf c)) (eqb (laneAt c (lanesOf c - 1) .len) (x .len)) g)
+  none-yet : ofLength (entryNet f d i .len) (networksIn f d 0 i) ≡ []
+  none-yet =
+      ofLength-none (entryNet f d i .len) (networksIn f d 0 i)
+      (λ q m u. let k = s .lined .lanes .known q m in omega (arith, s .lined .below (k .0) (k .1) more, k .2))
 
-    last-length : laneAt c (lanesOf c - 1) .len ≡ entryNet f d i .len
-    unfolding goesOn
-    last-length = eqb-true (laneAt c (lanesOf c - 1) .len) (x .len) (and-right (ltb 0 (lanesOf c)) (eqb (laneAt c (lanesOf c - 1) .len) (x .len)) g) ∙ ap (λ (z : Net). z .len) (s .net)
+  begun-run : Runs d f e (networksIn f d 0 e) (record { next = i; end = e; hi = x .hi; lo = x .lo; len = x .len })
+  unfolding entryNet
+  begun-run =
+      let z : x .len ≡ entryNet f d i .len = ap (λ (z : Net). z .len) (s .net) in
+      record {
+        from = omega (arith, s .run .from);
+        to = omega arith;
+        rest = sym (rest-this (x .len) z ∙ rw (z, none-yet));
+        head = λ h. rw (s .net);
+      }
 
-    module _ (b : Lane) (u : b ≡ laneAt c (lanesOf c - 1)) where
-      longer : Lane
-      longer = record { next = b .next; end = e; hi = b .hi; lo = b .lo; len = b .len }
+  -- a lane is shorter than the next, so lane j has at least j bits
+  begun-high : lanesOf c ≤ entryNet f d i .len
+  begun-high = go (lanesOf c) refl
+    where
+      go : (k : ℕ) → lanesOf c ≡ k → k ≤ entryNet f d i .len
+      go zero z = omega arith
+      go (suc k) z = omega (arith, s .lined .below k (omega arith) more, s .lined .high k (omega arith))
 
-      longer-run : Runs d f e (networksIn f d 0 e) longer
-      unfolding longer
-      longer-run =
-          let j = lanesOf c - 1 in
-          let r = s .lined .lanes .runs j (omega (arith, some-lane)) in
-          let z : laneAt c j .end ≡ i = s .lined .last j (omega (arith, some-lane)) in
-          let a : e - laneAt c j .next ≡ laneAt c j .end - laneAt c j .next + (e - i) = omega (arith, r .from, s .run .from) in
-          let g : laneAt c j .next + (laneAt c j .end - laneAt c j .next) ≡ i = omega (arith, r .from) in
-          let behind : networksIn f d (laneAt c j .next) (e - laneAt c j .next) ≡ networksIn f d (laneAt c j .next) (laneAt c j .end - laneAt c j .next) ++ networksIn f d i (e - i)
-          = rw a (rw g at (networksIn-append f d (laneAt c j .next) (laneAt c j .end - laneAt c j .next) (e - i))) in
-          rw u
-          (record {
-            from = omega (arith, r .from, s .run .from);
-            to = omega arith;
-            rest = behind ∙ ap (λ l. l ++ networksIn f d i (e - i)) (r .rest) ∙ sym (rest-this (laneAt c j .len) last-length);
-            head = λ h. r .head (s .lined .full j (omega (arith, some-lane)));
-          })
+  pub begun-few : lanesOf c < 129
+  begun-few = omega (arith, begun-high, read-within (s .file .entries) i more, width-le f)
 
-      pub lined-longer : Lined d f n (putLane c (lanesOf c - 1) (record { next = b .next; end = e; hi = b .hi; lo = b .lo; len = b .len })) e
-      unfolding longer
-      lined-longer =
-          let j = lanesOf c - 1 in
-          let y : Lane = record { next = b .next; end = e; hi = b .hi; lo = b .lo; len = b .len } in
-          let o = s .lined .lanes in
-          let few : j < 129 = omega (arith, some-lane, o .few) in
-          let long : b .len ≡ entryNet f d i .len = rw u last-length in
-          lined-next
-          (record {
-            wide = length-putLane c j y ∙ o .wide;
-            count = lanesOf-putLane c j y few ∙ omega (arith, some-lane);
-            own = laneAt-put c j y (omega (arith, o .wide));
-            other = λ k h. laneAt-putLane c k j y (omega arith);
-            old = λ k h. last-or k h (decLt k j);
-            fewer = omega arith;
-            shorter = λ k h. omega (arith, last-length, s .lined .order k j h (omega (arith, some-lane)));
-            run = longer-run;
-            long = long;
-            live = rw u (omega (arith, s .run .from, s .lined .full j (omega (arith, some-lane)), s .lined .last j (omega (arith, some-lane))));
-            end = refl;
-            high = rw u (s .lined .high j (omega (arith, some-lane)));
-          })
-        where
-          last-or : (k : ℕ) → k < lanesOf c → Dec (k < lanesOf c - 1) → (k < lanesOf c - 1) ⊎ (laneAt c k .len ≡ entryNet f d i .len)
-          last-or k h (yes l) = inl l
-          last-or k h (no l) = let z : k ≡ lanesOf c - 1 = omega arith in inr (rw z last-length)
-
-  -- no lane has the entry's length
-  module _ (g : goesOn c (x .len) ≡ false) where
-    all-shorter : (k : ℕ) → k < lanesOf c → laneAt c k .len < entryNet f d i .len
-    unfolding goesOn
-    all-shorter k h =
-        let j = lanesOf c - 1 in
-        let t : eqb (laneAt c j .len) (x .len) ≡ false = rw (lt-ltb 0 (lanesOf c) (omega arith)) at g in
-        let v : laneAt c j .len ≡ entryNet f d i .len → ⊥ = λ z. eqb-false (laneAt c j .len) (x .len) t (z ∙ ap (λ (z : Net). z .len) (sym (s .net))) in
-        let l : laneAt c j .len < entryNet f d i .len = omega (arith, v, s .lined .below j (omega arith) more) in
-        go (ℕ-discrete k j) l
-      where
-        go : Dec (k ≡ lanesOf c - 1) → laneAt c (lanesOf c - 1) .len < entryNet f d i .len → laneAt c k .len < entryNet f d i .len
-        go (yes z) l = rw z l
-        go (no ne) l = omega (arith, s .lined .order k (lanesOf c - 1) (omega arith) (omega arith))
-
-    none-yet : ofLength (entryNet f d i .len) (networksIn f d 0 i) ≡ []
-    none-yet =
-        ofLength-none (entryNet f d i .len) (networksIn f d 0 i)
-        (λ q m u. let k = s .lined .lanes .known q m in omega (arith, all-shorter (k .0) (k .1), k .2))
-
-    begun-run : Runs d f e (networksIn f d 0 e) (record { next = i; end = e; hi = x .hi; lo = x .lo; len = x .len })
-    unfolding entryNet
-    begun-run =
-        let z : x .len ≡ entryNet f d i .len = ap (λ (z : Net). z .len) (s .net) in
-        record {
-          from = omega (arith, s .run .from);
-          to = omega arith;
-          rest = sym (rest-this (x .len) z ∙ rw (z, none-yet));
-          head = λ h. rw (s .net);
-        }
-
-    -- a lane is shorter than the next, so lane j has at least j bits
-    begun-high : lanesOf c ≤ entryNet f d i .len
-    begun-high = go (lanesOf c) refl
-      where
-        go : (k : ℕ) → lanesOf c ≡ k → k ≤ entryNet f d i .len
-        go zero z = omega arith
-        go (suc k) z = omega (arith, all-shorter k (omega arith), s .lined .high k (omega arith))
-
-    pub begun-few : lanesOf c < 129
-    begun-few = omega (arith, begun-high, read-within (s .file .entries) i more, width-le f)
-
-    pub lined-begun : Lined d f n (set (putLane c (lanesOf c) (record { next = i; end = e; hi = x .hi; lo = x .lo; len = x .len })) 645 (lanesOf c + 1)) e
-    lined-begun =
-        let m = lanesOf c in
-        let y : Lane = record { next = i; end = e; hi = x .hi; lo = x .lo; len = x .len } in
-        let o = s .lined .lanes in
-        let z : x .len ≡ entryNet f d i .len = ap (λ (z : Net). z .len) (s .net) in
-        let few = begun-few in
-        let w : length (putLane c m y) ≡ 646 = length-putLane c m y ∙ o .wide in
-        lined-next
-        (record {
-          wide = length-set (putLane c m y) 645 (m + 1) ∙ w;
-          count = lanesOf-set (putLane c m y) (m + 1) w ∙ add-one m;
-          own = laneAt-set (putLane c m y) m 645 (m + 1) (omega arith) ∙ laneAt-put c m y (omega (arith, o .wide));
-          other = λ k h. laneAt-set (putLane c m y) k 645 (m + 1) (omega arith) ∙ laneAt-putLane c k m y (omega arith);
-          old = λ k h. inl h;
-          fewer = omega arith;
-          shorter = all-shorter;
-          run = begun-run;
-          long = z;
-          live = s .run .from;
-          end = refl;
-          high = omega (arith, begun-high);
-        })
+  pub lined-begun : Lined d f n (set (putLane c (lanesOf c) (record { next = i; end = e; hi = x .hi; lo = x .lo; len = x .len })) 645 (lanesOf c + 1)) e
+  lined-begun =
+      let m = lanesOf c in
+      let y : Lane = record { next = i; end = e; hi = x .hi; lo = x .lo; len = x .len } in
+      let o = s .lined .lanes in
+      let z : x .len ≡ entryNet f d i .len = ap (λ (z : Net). z .len) (s .net) in
+      let few = begun-few in
+      let w : length (putLane c m y) ≡ 646 = length-putLane c m y ∙ o .wide in
+      lined-next
+      (record {
+        wide = length-set (putLane c m y) 645 (m + 1) ∙ w;
+        count = lanesOf-set (putLane c m y) (m + 1) w ∙ add-one m;
+        own = laneAt-set (putLane c m y) m 645 (m + 1) (omega arith) ∙ laneAt-put c m y (omega (arith, o .wide));
+        other = λ k h. laneAt-set (putLane c m y) k 645 (m + 1) (omega arith) ∙ laneAt-putLane c k m y (omega arith);
+        first = refl;
+        run = begun-run;
+        long = z;
+        live = s .run .from;
+        high = omega (arith, begun-high);
+      })

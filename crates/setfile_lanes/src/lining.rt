@@ -1,30 +1,16 @@
 // Lining up: a lane for each length that the file has.
 ghost use mathlib.Core.Path.{_≡_};
 ghost use mathlib.Core.List.{List};
-ghost use Prim.Native.Nat.{ℕ, _≤_, _<_};
+ghost use Prim.Native.Nat.{ℕ, _<_};
 ghost use mathlib.Core.Bool.{true, false};
 ghost use Rattle.setfile_format.specs.Files.{entryNet};
-ghost use Rattle.setfile_lanes.specs.Lanes.{lanesOf, goesOn, Ordered, Alike, Adds, Lined};
+ghost use Rattle.setfile_lanes.specs.Lanes.{Ordered, Alike, Adds, Lined};
 use crate::lanes::CURSORS;
 use crate::lanes::LANES;
 use crate::lanes::Lane;
-use crate::lanes::lane_at;
 use crate::lanes::put_lane;
 use nets::Net;
 use setfile_entries::reading;
-
-// Whether the last lane has entries of this length.
-fn goes_on(cursors: &[u64; CURSORS], len: u8) -> bool
-    requires { ⌜ lanesOf (now cursors) ≤ 129 ⌝ }
-    ensures { λ r. ⌜ r ≡ goesOn (now (cursors .entry)) len ⌝ }
-{
-    let n = cursors[LANES] as usize;
-    if n == 0 {
-        return false;
-    }
-    let b = lane_at(cursors, n - 1);
-    b.len == len as u64
-}
 
 // One of two numbers.
 fn either(first: bool, a: usize, b: usize) -> usize
@@ -49,32 +35,20 @@ fn run_end(bytes: &[u8], family: u8, n: usize, i: usize, len: u8) -> usize
     low + 1
 }
 
-// The entries from i, which is x, up to end, all of its length, come behind the last lane's, or make a lane.
-fn add_entries(cursors: &mut [u64; CURSORS], i: usize, end: usize, x: Net)
+// A lane for the entries from i, which is x, up to end, all of one length that no lane has.
+fn add_lane(cursors: &mut [u64; CURSORS], i: usize, end: usize, x: Net)
     requires { ⌜ ((d : List ℕ) × (f : ℕ) × (n : ℕ) × Adds d f n (now cursors) i end x) ⌝ }
     ensures { λ _. ⌜ ((d : List ℕ) (f n : ℕ) → Adds d f n (now (cursors .entry)) i end x → Lined d f n (now (cursors .exit)) end) ⌝ }
 {
     let n = cursors[LANES] as usize;
-    if goes_on(cursors, x.len) {
-        let b = lane_at(cursors, n - 1);
-        let longer = Lane {
-            next: b.next,
-            end: end as u64,
-            hi: b.hi,
-            lo: b.lo,
-            len: b.len,
-        };
-        put_lane(cursors, n - 1, longer);
-        return;
-    }
-    let begun = Lane {
+    let lane = Lane {
         next: i as u64,
         end: end as u64,
         hi: x.hi,
         lo: x.lo,
         len: x.len as u64,
     };
-    put_lane(cursors, n, begun);
+    put_lane(cursors, n, lane);
     cursors[LANES] = n as u64 + 1;
 }
 
@@ -88,7 +62,7 @@ pub fn line_up(bytes: &[u8], family: u8, n: usize, cursors: &mut [u64; CURSORS])
     while i < n {
         let x = reading::entry(bytes, family, i);
         let end = run_end(bytes, family, n, i, x.len);
-        add_entries(cursors, i, end, x);
+        add_lane(cursors, i, end, x);
         i = end;
     }
 }

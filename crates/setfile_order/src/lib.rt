@@ -35,7 +35,7 @@ fn survey(bytes: &[u8], family: u8, n: usize) -> Checked
     let mut h = heads::begin(bytes, family, n, &mut cursors);
     let mut nodes = h.net.len as u32 + 1;
     let mut k = 1;
-    // the two parts of `advance`, each compiled into this loop: called as one, it would pass the head through memory
+    // the two parts of `advance`: called as one it may not be compiled into the loop, and would pass the head through memory
     while k < n {
         let whole = h.net.len as usize + 1;
         heads::move_on(bytes, family, &mut cursors);

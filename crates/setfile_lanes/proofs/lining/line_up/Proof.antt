@@ -38,5 +38,5 @@ line-up-spec =
     let r = c .before .before in
     let d = r .before .before in
     let a : Adds _ _ _ _ _ _ _ = record { file = d .before .before .before .before .pre; lined = d .before .loop .inv .0; run = r .run-end .ensures; net = r .before .entry .ensures .0 } in
-    (c .add-entries .ensures _ _ _ a, r .run-end .ensures .to))
+    (c .add-lane .ensures _ _ _ a, r .run-end .ensures .to))
     (λ c. let o = c .before .loop in let e : o .i ≡ _ = omega arith in rw e at (o .inv .0)))

@@ -1,11 +1,11 @@
--- `lining::run_end` meets its contract. The loop's invariant: entry low has the length, and the end is looked for up to high. Assumes nothing.
-use mathlib.Core.Path.{_≡_, refl, ap}
-use Prim.Native.Nat.{_+_, _-_, _/_, _<_}
+-- `lining::run_end` meets its contract. The loop's invariant: entry low has the length, and entry high, where there is one, has another. Assumes nothing.
+use mathlib.Core.Path.{refl, ap}
+use Prim.Native.Nat.{_+_, _-_, _/_}
 use native.Mathlib.Omega.{arith}
 use borrow.Author.Needs.{needs}
 use Rattle.nets.specs.declared.Net.{Net}
 use Rattle.setfile_format.proofs.Written.{fileBytes-mono}
-use Rattle.setfile_lanes.proofs.Halving.{Between, halved, alike-to}
+use Rattle.setfile_lanes.proofs.Halving.{Between, halved, alike-end}
 use Rattle.setfile_lanes.proofs.lining.run_end.Statement.{statement}
 use Rattle.setfile_lanes.proofs.lining.run_end.Tie as tie
 
@@ -21,7 +21,7 @@ run-end-spec =
     (tie.spec
     Inv-loop
     μ-loop
-    (λ c. record { from = omega arith; some = c .before .pre .1 .0; to = omega arith; same = refl })
+    (λ c. record { from = omega arith; some = c .before .pre .1 .0; to = omega arith; same = refl; other = λ h. absurd (omega arith) })
     (λ c. let p = c .before .before .pre .0 .entries .few in omega (arith, p, c .loop .inv .some, c .loop .inv .to))
     (λ c. let p = c .before .before .before .pre .0 .entries .few in omega (arith, p, c .before .loop .inv .some, c .before .loop .inv .to))
     (λ c κs.
@@ -42,7 +42,4 @@ run-end-spec =
     let o = t .before .before in
     halved (o .loop .inv) (t .before .loop-test .taken) (ap (λ (z : Net). z .len) (t .entry .ensures .0)) (o .before .before .pre .1 .1) (c .before .either .ensures) (c .either2 .ensures) .0)
     (λ c. let p = c .before .before .before .pre .0 .entries .few in omega (arith, p, c .before .loop .inv .some, c .before .loop .inv .to))
-    (λ c.
-    let s = c .before .before .before .pre in
-    let o = c .before .loop .inv in
-    alike-to (s .0) _ _ (o .from) (omega (arith, o .some, o .to)) (o .same)))
+    (λ c. alike-end (c .before .before .before .pre .0) (c .before .loop .inv) (c .loop-test .left)))
