@@ -1,14 +1,16 @@
 -- The trie of networks that come one by one in address order, written in preorder: it grows at its right end.
 --
+--   wordFrom n k      the bits of a network's address from bit k on, as far as the word goes that has it: bit k is the highest of 64
 --   Along p v d n e   the path v has the node numbers of p above depth d, and those from e on from depth d down to depth n
 --   Chains, Chained   what writing the nodes of a network's path from depth d on asks: room from node e on, and in the path p for their numbers; and what it leaves
 --   Appends, Appended what putting a network behind those that end at node e asks: p is the path to the last one, and the node where the head leaves it is known; and what it leaves
 --   Due w b o h x f c t    the cursors c of the file x are at the networks of the trie t, the head is the first of them, and there is room for t from node o on
 --   Fillable w b o d f l   what writing the trie of a file's list asks
 use mathlib.Core.Path.{_≡_}
-use mathlib.Core.Bool.{false}
+use mathlib.Core.Bool.{false, cond}
 use mathlib.Core.List.{List, [], _∷_}
-use Prim.Native.Nat.{ℕ, suc, _+_, _-_, _*_, _≤_, _<_}
+use Prim.Native.Nat.{ℕ, suc, _+_, _-_, _*_, _%_, _^_, _≤_, _<_}
+use lib.Dec.{ltb}
 use lib.ListN.{length, getD, drop}
 use Rattle.nets.specs.Bits.{Bits}
 use Rattle.nets.specs.Lists.{nodesL}
@@ -20,6 +22,9 @@ use Rattle.address_order.specs.Streams.{flat}
 use Rattle.setfile_format.specs.Files.{file, readFile}
 use Rattle.setfile_order.specs.Flow.{headAs, Flow}
 use Rattle.setfile_order.specs.declared.Head.{Head}
+
+unfoldable pub wordFrom : Net → ℕ → ℕ
+wordFrom n k = cond (ltb (width (n .family) - 1 - k) 64) (n .lo * 2 ^ (63 - (width (n .family) - 1 - k)) % 2 ^ 64) (n .hi * 2 ^ (127 - (width (n .family) - 1 - k)) % 2 ^ 64)
 
 pub record Chains (w : List ℕ) (b e : ℕ) (n : Net) (d : ℕ) (p : List ℕ) : Type 0 where
   pub one : 1 ≤ e

@@ -4,7 +4,8 @@ ghost use mathlib.Core.Path.{_≡_};
 ghost use Rattle.nets.specs.Tries.{Trie};
 ghost use Rattle.nodes.specs.Words.{put, place, enc};
 ghost use Rattle.setfile_build.specs.Building.{Chains, Chained, Appends, Appended, Due};
-use crate::bits::bit_at;
+use crate::bits::bits_behind;
+use crate::bits::bits_from;
 use nets::Net;
 use nodes::writing;
 use setfile_lanes::lanes::CURSORS;
@@ -14,7 +15,8 @@ use setfile_order::flowing::advance;
 // The nodes on a path: the root, and one for each bit.
 const PATH: usize = 129;
 
-// Writes from node e on the nodes of a network's path from depth d on, and notes their numbers. Each has one child, on the side of its bit, and the last is a leaf.
+// Writes from node e on the nodes of a network's path from depth d on, and notes their numbers. Each has one child, on the side of its bit, and the last is a leaf. The bits
+// still to come are kept in a word: asked for one by one, they would be taken two at a time by code that costs more than it saves.
 fn chain(w: &mut [u32], b: usize, e: usize, n: Net, d: usize, path: &mut [usize; PATH])
     requires { ⌜ Chains (now w) b e n d (now path) ⌝ }
     ensures { λ _. ⌜ Chained (now (w .entry)) (now (w .exit)) b e n d (now (path .entry)) (now (path .exit)) ⌝ }
@@ -22,9 +24,12 @@ fn chain(w: &mut [u32], b: usize, e: usize, n: Net, d: usize, path: &mut [usize;
     let len = n.len as usize;
     let mut k = d;
     let mut i = e;
+    let mut rest = bits_from(n, d);
     while k < len {
         path[k] = i;
-        writing::store(w, b, i, 1 + bit_at(n, k) as usize);
+        let bit = rest >> 63 == 1;
+        writing::store(w, b, i, 1 + bit as usize);
+        rest = bits_behind(n, k, rest);
         k += 1;
         i += 1;
     }

@@ -71,8 +71,8 @@ pub fn entry(bytes: &[u8], family: u8, i: usize) -> Net
     ensures { λ r. ⌜ r ≡ entryNet family (now (bytes .entry)) i ⌝ }
     ensures { λ r. ⌜ address r < 2 ^ width family ⌝ }
 {
-    let at = file_bytes(family, i);
     if family == IPV4 {
+        let at = file_bytes(family, i);
         return Net {
             family,
             hi: 0,
@@ -80,6 +80,7 @@ pub fn entry(bytes: &[u8], family: u8, i: usize) -> Net
             len: bytes[at + 4],
         };
     }
+    let at = file_bytes(family, i);
     Net {
         family,
         hi: eight(bytes, at),

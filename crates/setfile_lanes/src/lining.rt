@@ -1,56 +1,54 @@
 // Lining up: a lane for each length that the file has.
 ghost use mathlib.Core.Path.{_≡_};
 ghost use mathlib.Core.List.{List};
-ghost use Prim.Native.Nat.{ℕ, _+_, _≤_};
-ghost use Rattle.setfile_lanes.specs.Lanes.{lanesOf, goesOn, Ordered, Adds, Lined};
+ghost use Prim.Native.Nat.{ℕ, _<_};
+ghost use mathlib.Core.Bool.{true, false};
+ghost use Rattle.setfile_format.specs.Files.{entryNet};
+ghost use Rattle.setfile_lanes.specs.Lanes.{Ordered, Alike, Adds, Lined};
 use crate::lanes::CURSORS;
 use crate::lanes::LANES;
 use crate::lanes::Lane;
-use crate::lanes::lane_at;
 use crate::lanes::put_lane;
 use nets::Net;
 use setfile_entries::reading;
 
-// Whether the last lane has entries of this length.
-fn goes_on(cursors: &[u64; CURSORS], len: u8) -> bool
-    requires { ⌜ lanesOf (now cursors) ≤ 129 ⌝ }
-    ensures { λ r. ⌜ r ≡ goesOn (now (cursors .entry)) len ⌝ }
+// One of two numbers.
+fn either(first: bool, a: usize, b: usize) -> usize
+    ensures { λ r. ⌜ (first ≡ true → r ≡ a) × (first ≡ false → r ≡ b) ⌝ }
 {
-    let n = cursors[LANES] as usize;
-    if n == 0 {
-        return false;
-    }
-    let b = lane_at(cursors, n - 1);
-    b.len == len as u64
+    if first { a } else { b }
 }
 
-// Entry i, which is x, comes behind the last lane's, or begins a lane.
-fn add_entry(cursors: &mut [u64; CURSORS], i: usize, x: Net)
-    requires { ⌜ ((d : List ℕ) × (f : ℕ) × (n : ℕ) × Adds d f n (now cursors) i x) ⌝ }
-    ensures { λ _. ⌜ ((d : List ℕ) (f n : ℕ) → Adds d f n (now (cursors .entry)) i x → Lined d f n (now (cursors .exit)) (i + 1)) ⌝ }
+// Where the entries of the length of entry i end: the lengths do not fall, so that the place is found by halves.
+fn run_end(bytes: &[u8], family: u8, n: usize, i: usize, len: u8) -> usize
+    requires { ⌜ Ordered (now bytes) family n × ((i < n) × (len ≡ entryNet family (now bytes) i .len)) ⌝ }
+    ensures { λ r. ⌜ Alike (now (bytes .entry)) family n i r ⌝ }
+{
+    let mut low = i;
+    let mut high = n;
+    while low + 1 < high {
+        let mid = (low + high) / 2;
+        let same = reading::entry(bytes, family, mid).len == len;
+        low = either(same, mid, low);
+        high = either(same, high, mid);
+    }
+    low + 1
+}
+
+// A lane for the entries from i, which is x, up to end, all of one length that no lane has.
+fn add_lane(cursors: &mut [u64; CURSORS], i: usize, end: usize, x: Net)
+    requires { ⌜ ((d : List ℕ) × (f : ℕ) × (n : ℕ) × Adds d f n (now cursors) i end x) ⌝ }
+    ensures { λ _. ⌜ ((d : List ℕ) (f n : ℕ) → Adds d f n (now (cursors .entry)) i end x → Lined d f n (now (cursors .exit)) end) ⌝ }
 {
     let n = cursors[LANES] as usize;
-    let end = i as u64 + 1;
-    if goes_on(cursors, x.len) {
-        let b = lane_at(cursors, n - 1);
-        let longer = Lane {
-            next: b.next,
-            end,
-            hi: b.hi,
-            lo: b.lo,
-            len: b.len,
-        };
-        put_lane(cursors, n - 1, longer);
-        return;
-    }
-    let begun = Lane {
+    let lane = Lane {
         next: i as u64,
-        end,
+        end: end as u64,
         hi: x.hi,
         lo: x.lo,
         len: x.len as u64,
     };
-    put_lane(cursors, n, begun);
+    put_lane(cursors, n, lane);
     cursors[LANES] = n as u64 + 1;
 }
 
@@ -63,7 +61,8 @@ pub fn line_up(bytes: &[u8], family: u8, n: usize, cursors: &mut [u64; CURSORS])
     let mut i = 0;
     while i < n {
         let x = reading::entry(bytes, family, i);
-        add_entry(cursors, i, x);
-        i += 1;
+        let end = run_end(bytes, family, n, i, x.len);
+        add_lane(cursors, i, end, x);
+        i = end;
     }
 }

@@ -65,9 +65,6 @@ survey-first {d} {f} {n} {c} {h} s (i, e) = go (allOf d f n) refl
         }
 
 module _ {d : List ℕ} {f n : ℕ} {c : List ℕ} {h : Head} {k v : ℕ} (s : Survey d f n c h k v) where
-  pub survey-requires : (q : Bits) × (ms : List Bits) × Flow d f c (q ∷ ms) × (h .net ≡ netFrom f q)
-  survey-requires = (s .q, s .ms, s .flow, s .net)
-
   -- the last head: all is counted
   pub survey-end : n ≤ k → checkedAs (checked.File f v) ≡ surveyed f (allOf d f n)
   unfolding surveyed loose moreNodes

@@ -12,6 +12,7 @@ use Rattle.nets.proofs.Numbers.{netBits-netFrom, refusalOf-netFrom, width-le}
 use Rattle.address_order.specs.Streams.{shared}
 use Rattle.setfile_lanes.specs.Lanes.{laneAt, lanesOf}
 use Rattle.setfile_order.specs.Flow.{headAs, Behind, Flow}
+use Rattle.setfile_order.specs.declared.Head.{Head}
 use Rattle.setfile_lanes.specs.declared.lanes.Lane.{Lane}
 use Rattle.setfile_order.proofs.Onwards.{first-short, first-net, flow-first, flow-nothing}
 
@@ -63,3 +64,9 @@ pub behind-head : {d : List ℕ} {f : ℕ} {c c′ : List ℕ} {h : Net} {q : Bi
 behind-head {d} {f} {c} o i s =
     let k = flow-first o in
     record { flow = s; net = i; short = first-short (o .entries) (o .lanes .runs 0 (k .0)) (k .1) }
+
+-- A step: behind the head, and the head that is found there.
+pub stepped : {d : List ℕ} {f : ℕ} {c c′ : List ℕ} {h : Net} {x : Head} → ((q : Bits) (ms : List Bits) → Flow d f c (q ∷ ms) → Flow d f c′ ms)
+    → ((d : List ℕ) (q : Bits) (ms : List Bits) → Behind d f c′ h q ms → x ≡ headAs f q ms)
+    → (q : Bits) (ms : List Bits) → Flow d f c (q ∷ ms) → h ≡ netFrom f q → Flow d f c′ ms × (x ≡ headAs f q ms)
+stepped {d} moved found q ms o e = (moved q ms o, found d q ms (behind-head o e (moved q ms o)))

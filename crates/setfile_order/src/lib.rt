@@ -35,13 +35,15 @@ fn survey(bytes: &[u8], family: u8, n: usize) -> Checked
     let mut h = heads::begin(bytes, family, n, &mut cursors);
     let mut nodes = h.net.len as u32 + 1;
     let mut k = 1;
+    // the two parts of `advance`: called as one it may not be compiled into the loop, and would pass the head through memory
     while k < n {
-        let x = flowing::advance(bytes, family, &mut cursors, h);
-        if x.deep == h.net.len as usize + 1 {
+        let whole = h.net.len as usize + 1;
+        heads::move_on(bytes, family, &mut cursors);
+        h = heads::head(family, &cursors, h.net);
+        if h.deep == whole {
             return Checked::Broken;
         }
-        nodes += (x.net.len as usize + 1 - x.deep) as u32;
-        h = x;
+        nodes += (h.net.len as usize + 1 - h.deep) as u32;
         k += 1;
     }
     Checked::File(family, nodes)

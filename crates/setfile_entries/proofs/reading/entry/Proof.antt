@@ -1,6 +1,6 @@
 -- `reading::entry` meets its contract, in each family. Assumes nothing.
 use mathlib.Core.Path.{_≡_}
-use Prim.Native.Nat.{_+_, _≤_}
+use Prim.Native.Nat.{ℕ, _+_, _≤_}
 use native.Mathlib.Omega.{arith}
 use borrow.Author.Needs.{needs}
 use lib.ListN.{length}
@@ -12,42 +12,52 @@ use Rattle.setfile_entries.proofs.reading.entry.Statement.{statement}
 use Rattle.setfile_entries.proofs.reading.entry.Tie as tie
 
 -- where the entry begins, and that it ends within the bytes
-place : (c : tie.After-file-bytes) → let a = c .before .before .args in c .file-bytes .result ≡ entryAt (a .family) (a .i)
+place : (f i : ℕ) {at : ℕ} → at ≡ fileBytes f i → at ≡ entryAt f i
 unfolding fileBytes
-place c = c .file-bytes .ensures
+place f i e = e
 
-ends : (c : tie.After-file-bytes) → let a = c .before .before .args in (c .file-bytes .result ≤ 71303184) × (c .file-bytes .result + entryBytes (a .family) ≤ length (a .bytes .now))
+ends : (f i : ℕ) {at n : ℕ} → at ≡ fileBytes f i → i ≤ 4194304 → fileBytes f (i + 1) ≤ n → (at ≤ 71303184) × (at + entryBytes f ≤ n)
 unfolding fileBytes
-ends c =
-    let s = c .before .before in
-    (omega (arith, place c, fileBytes-few (s .args .family) (s .args .i) (s .pre .0)), omega (arith, place c, entryAt-next (s .args .family) (s .args .i), s .pre .1))
+ends f i e few fits = (omega (arith, e, fileBytes-few f i few), omega (arith, e, entryAt-next f i, fits))
 
-bytes : (c : tie.After-file-bytes) → Bytes (c .before .before .args .bytes .now)
-bytes c i = omega (arith, c .before .shared-slice-known .given i)
+ends-4 : (c : tie.After-file-bytes) → let a = c .before .before .before .args in (c .file-bytes .result ≤ 71303184) × (c .file-bytes .result + 5 ≤ length (a .bytes .now))
+ends-4 c =
+    let s = c .before .before .before in
+    let x = ends (s .args .family) (s .args .i) (c .file-bytes .ensures) (s .pre .0) (s .pre .1) in
+    (x .0, omega (arith, x .1, entryBytes-4 _ (c .before .if1 .taken)))
+
+ends-6 : (c : tie.After-file-bytes2) → let a = c .before .before .before .args in (c .file-bytes2 .result ≤ 71303184) × (c .file-bytes2 .result + 17 ≤ length (a .bytes .now))
+ends-6 c =
+    let s = c .before .before .before in
+    let x = ends (s .args .family) (s .args .i) (c .file-bytes2 .ensures) (s .pre .0) (s .pre .1) in
+    (x .0, omega (arith, x .1, entryBytes-6 _ (c .before .if1 .left)))
 
 pub entry-spec : {M : Type 1} → statement M
 entry-spec =
     tie.close
     (tie.spec
     (λ c κs. search needs)
-    (λ c κs. let x = ends (c .before) in (omega (arith, x), omega (arith, x, entryBytes-4 _ (c .if1 .taken))))
-    (λ c. omega (arith, ends (c .before .before)))
-    (λ c. omega (arith, ends (c .before .before .before), entryBytes-4 _ (c .before .before .if1 .taken)))
+    (λ c κs. let x = ends-4 c in (omega (arith, x), omega (arith, x)))
+    (λ c. omega (arith, ends-4 (c .before)))
+    (λ c. omega (arith, ends-4 (c .before .before)))
+    (λ c.
+    let s = c .before .before in
+    let a = s .before .before .before .args in
+    let r = c .before .four .ensures in
+    let known : Bytes (a .bytes .now) = λ i. omega (arith, s .before .before .shared-slice-known .given i) in
+    entry-known (a .family) (a .bytes .now) (a .i) known
+    (rw (r .0) (entryNet-4 (a .family) (a .bytes .now) (a .i) _ (place _ _ (s .file-bytes .ensures)) (s .before .if1 .taken) (rw (← r .0) (r .1)))))
+    (λ c κs. search needs)
+    (λ c κs. let x = ends-6 c in (omega (arith, x), omega (arith, x)))
+    (λ c. omega (arith, ends-6 (c .before)))
+    (λ c κs. let x = ends-6 (c .before) in (omega (arith, x), omega (arith, x)))
+    (λ c. omega (arith, ends-6 (c .before .before)))
+    (λ c. omega (arith, ends-6 (c .before .before .before)))
     (λ c.
     let s = c .before .before .before in
-    let a = s .before .before .args in
-    let r = c .before .four .ensures in
-    let e = c .before .before .if1 .taken in
-    entry-known (a .family) (a .bytes .now) (a .i) (bytes s) (rw (r .0) (entryNet-4 (a .family) (a .bytes .now) (a .i) _ (place s) e (rw (← r .0) (r .1)))))
-    (λ c κs. let x = ends (c .before) in (omega (arith, x), omega (arith, x, entryBytes-6 _ (c .if1 .left))))
-    (λ c. omega (arith, ends (c .before .before)))
-    (λ c κs. let x = ends (c .before .before) in (omega (arith, x), omega (arith, x, entryBytes-6 _ (c .before .if1 .left))))
-    (λ c. omega (arith, ends (c .before .before .before)))
-    (λ c. omega (arith, ends (c .before .before .before .before), entryBytes-6 _ (c .before .before .before .if1 .left)))
-    (λ c.
-    let s = c .before .before .before .before in
-    let a = s .before .before .args in
+    let a = s .before .before .before .args in
     let h = c .before .before .eight .ensures in
     let l = c .before .eight2 .ensures in
-    let e = c .before .before .before .if1 .left in
-    entry-known (a .family) (a .bytes .now) (a .i) (bytes s) (rw (h, l) (entryNet-6 (a .family) (a .bytes .now) (a .i) _ (place s) e (rw (← l) (omega arith))))))
+    let known : Bytes (a .bytes .now) = λ i. omega (arith, s .before .before .shared-slice-known .given i) in
+    entry-known (a .family) (a .bytes .now) (a .i) known
+    (rw (h, l) (entryNet-6 (a .family) (a .bytes .now) (a .i) _ (place _ _ (s .file-bytes2 .ensures)) (s .before .if1 .left) (rw (← l) (omega arith))))))

@@ -1,6 +1,6 @@
 -- `flowing::advance` meets its contract. Assumes nothing.
 use borrow.Author.Needs.{needs}
-use Rattle.setfile_order.proofs.First.{behind-head}
+use Rattle.setfile_order.proofs.First.{behind-head, stepped}
 use Rattle.setfile_order.proofs.flowing.advance.Statement.{statement}
 use Rattle.setfile_order.proofs.flowing.advance.Tie as tie
 
@@ -12,4 +12,4 @@ advance-spec =
     (λ c κs.
     let p = c .before .before .before .before .pre in
     (_, _, _, behind-head (p .2) (p .3) (c .before .move-on .ensures (p .0) (p .1) (p .2))))
-    (λ c q ms o e. let s = c .before .before .move-on .ensures q ms o in (s, c .head .ensures _ q ms (behind-head o e s))))
+    (λ c. stepped (c .before .before .move-on .ensures) (c .head .ensures)))
