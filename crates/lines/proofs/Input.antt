@@ -5,8 +5,8 @@ use mathlib.Core.Path.{_≡_, refl, ap, sym, _∙_}
 use Prim.Native.Nat.{ℕ, zero, suc, _+_, _%_, _^_, _<_}
 use native.Mathlib.Nat.{mod-add-mod}
 use native.Mathlib.Omega.{arith}
-use lib.Dec.{eqb, ltb}
-use lib.ListN.{length, take, set, length-set}
+use lib.Dec.{eqb}
+use lib.ListN.{length, take}
 use borrow.Author.Tests.{eqb-true, eqb-false, eq-eqb, ne-eqb}
 use Rattle.pool_state.specs.Decode.{Decoded, damaged, sound, decode}
 use Rattle.lines_take.specs.Lines.{lineFeed, linesOf, lineNo, trimmedIn, wordsWith, Result, taken, poolNo, allTaken}
@@ -16,7 +16,7 @@ use Rattle.lines_reader.specs.declared.Reader.{Reader}
 use Rattle.lines.proofs.Steps.{passed-refused, closed-refused, closed-none, closed-line, checked-refused, checked-sound, checked-damaged, two}
 use Rattle.lines.proofs.Lists.{poolNo-line}
 use Rattle.lines_take.proofs.Taking.{wordsWith-refused}
-use Rattle.lines.proofs.Keeping.{kept-pushed, take-more, lineNo-kept, trimmedIn-kept, wordsWith-kept}
+use Rattle.lines.proofs.Keeping.{pushed-keeps, kept-pushed, take-more, lineNo-kept, trimmedIn-kept, wordsWith-kept}
 use Rattle.lines.proofs.Cutting.{Plain, plain-more, linesOf-feed, linesOf-rest}
 
 -- Pieces passed one after the other are passed as one.
@@ -94,15 +94,6 @@ pub record Comes (x : Reader × List ℕ) (o : Result) : Type 0 where
   pub words : x .1 ≡ o .words
 
 -- A byte of the line.
-pushed-keeps : (r : Reader) (b : ℕ) → (pushed r b .no ≡ r .no) × (pushed r b .number ≡ r .number) × (pushed r b .trimmed ≡ r .trimmed) × (length (pushed r b .line) ≡ length (r .line))
-unfolding pushed
-pushed-keeps r b = go (ltb (r .len) places)
-  where
-    go : (c : Bool) → let p = cond c (record { line = set (r .line) (r .len) b; len = r .len + 1; number = r .number; trimmed = r .trimmed; no = r .no }) r in
-        (p .no ≡ r .no) × (p .number ≡ r .number) × (p .trimmed ≡ r .trimmed) × (length (p .line) ≡ length (r .line))
-    go true = (refl, refl, refl, length-set (r .line) (r .len) b)
-    go false = (refl, refl, refl, refl)
-
 amid-pushed : (r : Reader) (k c : ℕ) (t : List ℕ) (b : ℕ) → Amid r k c t → Amid (pushed r b) k c (t ++ (b ∷ []))
 amid-pushed r k c t b a =
     let p = pushed-keeps r b in

@@ -6,7 +6,7 @@ use Prim.Native.Nat.{ℕ, _+_, _≤_, _<_}
 use native.Mathlib.Numerals.{add-one}
 use native.Mathlib.Omega.{arith}
 use lib.Dec.{leb, ltb}
-use lib.ListN.{length, take, set, length-append}
+use lib.ListN.{length, take, set, length-set, length-append}
 use lib.Seq.{take-all, take-suc-set, take-append-le, length-take-le}
 use borrow.Author.Tests.{leb-true, leb-false, ltb-true, ltb-false}
 use Rattle.text_either.specs.Either.{readEither, enteredEither}
@@ -32,6 +32,15 @@ kept-pushed r b e = go (ltb (r .len) places) refl
         → kept (cond t (record { line = set (r .line) (r .len) b; len = r .len + 1; number = r .number; trimmed = r .trimmed; no = r .no }) r) ≡ take places (kept r ++ (b ∷ []))
     go true q = push-room (r .line) (r .len) b e (ltb-true (r .len) places q)
     go false q = push-full (r .line) (r .len) b e (ltb-false (r .len) places q)
+
+pub pushed-keeps : (r : Reader) (b : ℕ) → (pushed r b .no ≡ r .no) × (pushed r b .number ≡ r .number) × (pushed r b .trimmed ≡ r .trimmed) × (length (pushed r b .line) ≡ length (r .line))
+unfolding pushed
+pushed-keeps r b = go (ltb (r .len) places)
+  where
+    go : (c : Bool) → let p = cond c (record { line = set (r .line) (r .len) b; len = r .len + 1; number = r .number; trimmed = r .trimmed; no = r .no }) r in
+        (p .no ≡ r .no) × (p .number ≡ r .number) × (p .trimmed ≡ r .trimmed) × (length (p .line) ≡ length (r .line))
+    go true = (refl, refl, refl, length-set (r .line) (r .len) b)
+    go false = (refl, refl, refl, refl)
 
 pub take-more : (n : ℕ) (t : List ℕ) (b : ℕ) → take n (take n t ++ (b ∷ [])) ≡ take n (t ++ (b ∷ []))
 take-more n t b = go (leb (length t) n) refl

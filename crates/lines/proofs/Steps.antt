@@ -33,26 +33,11 @@ module _ (w : List ℕ) (r : Reader) where
     unfolding ended trimmedIn
     ended-added e k o i = record { comes = rw (← h .no, ← h .words, eq-eqb (t .no) 0 e, ← k, ← h .cut, ← o, ← i); found = h .found }
 
-  pub stepped-feed : {b : ℕ} {g : Going} {v : List ℕ} → b ≡ lineFeed → Leads (ended w r) g v → Leads (stepped w r b) g v
-  stepped-feed {b} e h = rw (eq-eqb b lineFeed e) h
-
-  pub stepped-byte : {b : ℕ} {s : Reader} {f : Survey} → (b ≡ lineFeed → ⊥) → s ≡ pushed r b → Surveyed w 0 f → Leads (stepped w r b) (record { reader = s; found = f }) w
-  stepped-byte {b} ne h g = record { comes = rw (ne-eqb b lineFeed ne, ← h); found = g }
-
 module _ (w : List ℕ) (r : Reader) where
   pub passed-refused : (s : List ℕ) → (r .no ≡ 0 → ⊥) → (r, w) ≡ passed w r s
   unfolding passed
   passed-refused [] ne = refl
   passed-refused (b ∷ s) ne = rw (ne-eqb (r .no) 0 ne)
-
-  pub passed-all : (s : List ℕ) {i : ℕ} → i ≡ length s → (r, w) ≡ passed w r (drop i s)
-  unfolding passed
-  passed-all s e = rw (e, drop-length s)
-
-  pub passed-step : (s : List ℕ) {i : ℕ} {v : List ℕ} {q : Reader} → i < length s → r .no ≡ 0 → (q, v) ≡ stepped w r (getD s i 0)
-      → passed v q (drop (i + 1) s) ≡ passed w r (drop i s)
-  unfolding passed
-  passed-step s {i} lt e h = rw (add-one i, drop-cons s i 0 lt, eq-eqb (r .no) 0 e) (ap (λ x. passed (x .1) (x .0) (drop (suc i) s)) h)
 
   pub closed-refused : (r .no ≡ 0 → ⊥) → (r, w) ≡ closed w r
   unfolding closed

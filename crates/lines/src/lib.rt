@@ -2,14 +2,15 @@
 pub use lines_reader::Reader;
 use lines_reader::damaged;
 use lines_reader::one_if;
-use lines_reader::push;
+use lines_reader::push_all;
 pub use lines_reader::start;
 use lines_take::Going;
 use lines_take::take_kept;
 use pool_check::survey;
+use text_either::first;
 ghost use mathlib.Core.Path.{_≡_};
 ghost use Rattle.pool_state.specs.Steps.{Surveyed};
-ghost use Rattle.lines.specs.Reading.{ended, stepped, passed, fed, finished};
+ghost use Rattle.lines.specs.Reading.{ended, passed, fed, finished};
 ghost use Rattle.lines.specs.Steps.{Leads};
 
 // The line has ended: its network is added and the next line begins, or the reading ends here.
@@ -30,29 +31,22 @@ fn end(pool: &mut [u32], g: Going) -> Going
     Going { reader, found }
 }
 
-// What one byte of the input does.
-fn step(pool: &mut [u32], g: Going, byte: u8) -> Going
-    requires { ⌜ Surveyed (now pool) 0 (g .found) ⌝ }
-    ensures { λ h. ⌜ Leads (stepped (now (pool .entry)) (g .reader) byte) h (now (pool .exit)) ⌝ }
-{
-    if byte == b'\n' {
-        return end(pool, g);
-    }
-    let found = g.found;
-    let reader = push(g.reader, byte);
-    Going { reader, found }
-}
-
-// The bytes of a piece, up to the first line that is refused.
+// The bytes of a piece, up to the first line that is refused. A turn takes what is left of a line, so that the reader is moved once for it.
 fn pass(pool: &mut [u32], g: Going, piece: &[u8]) -> Reader
     requires { ⌜ Surveyed (now pool) 0 (g .found) ⌝ }
     ensures { λ s. ⌜ (s, now (pool .exit)) ≡ passed (now (pool .entry)) (g .reader) (now (piece .entry)) ⌝ }
 {
     let mut g = g;
     let mut i = 0;
-    while i < piece.len() && g.reader.no == 0 {
-        g = step(pool, g, piece[i]);
-        i += 1;
+    while g.reader.no == 0 {
+        let to = i + first::end(&piece[i..]);
+        let reader = push_all(g.reader, &piece[i..to]);
+        if to == piece.len() {
+            return reader;
+        }
+        let found = g.found;
+        g = end(pool, Going { reader, found });
+        i = to + 1;
     }
     g.reader
 }

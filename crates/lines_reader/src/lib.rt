@@ -1,8 +1,8 @@
-// The line that is being read, byte by byte: before the first, one more, and the end of the reading. No pool.
+// The line that is being read, byte by byte: before the first, some more, and the end of the reading. No pool.
 use nets::Refusal;
 ghost use mathlib.Core.Bool.{cond};
 ghost use mathlib.Core.Path.{_≡_};
-ghost use Rattle.lines_reader.specs.Kept.{begun, pushed, stopped};
+ghost use Rattle.lines_reader.specs.Kept.{begun, pushedAll, stopped};
 
 // The bytes kept of a line: one more than the longest line of a network of either family has, so that a line too long for one is still too long here.
 pub const KEPT: usize = 50;
@@ -30,15 +30,18 @@ pub fn start() -> Reader
     }
 }
 
-// One byte more of the line. There is no place for one that is past those kept.
-pub fn push(mut r: Reader, byte: u8) -> Reader
-    ensures { λ s. ⌜ s ≡ pushed r byte ⌝ }
+// More bytes of the line. There is no place for one that is past those kept. They are stored where the reader stands, which is moved once.
+pub fn push_all(mut r: Reader, part: &[u8]) -> Reader
+    ensures { λ s. ⌜ s ≡ pushedAll r (now (part .entry)) ⌝ }
 {
-    let at = r.len;
-    if at < KEPT {
-        r.line[at] = byte;
-        r.len = at + 1;
+    let mut at = r.len;
+    let mut i = 0;
+    while i < part.len() && at < KEPT {
+        r.line[at] = part[i];
+        at += 1;
+        i += 1;
     }
+    r.len = at;
     r
 }
 

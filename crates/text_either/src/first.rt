@@ -7,7 +7,7 @@ use nets::Entered;
 use nets::IPV4;
 
 // Where the first line ends.
-fn end(input: &[u8]) -> usize
+pub fn end(input: &[u8]) -> usize
     ensures { λ r. ⌜ (r ≤ length (now (input .entry))) × (take r (now (input .entry)) ≡ firstLine (now (input .entry))) ⌝ }
 {
     let mut at = 0;

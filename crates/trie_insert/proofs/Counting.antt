@@ -11,7 +11,8 @@ use Rattle.nodes.specs.Segments.{Views}
 use Rattle.nodes.specs.declared.steps.View.the-variants.{Nothing, Leaf, Inner}
 use Rattle.nodes.proofs.Tries.{size-leaf}
 use Rattle.nodes.proofs.Chains.{size-chain}
-use Rattle.nodes.proofs.Views.{view-none, inward, behind, branch-size, branch-child}
+use Rattle.nodes.proofs.Segments.{none-is}
+use Rattle.nodes.proofs.Views.{inward, behind, branch-size, branch-child}
 use Rattle.trie_insert.specs.Insert.{Held, InsertSize}
 use Rattle.trie_insert.proofs.Insertion.{empty-end, branch, inserted-size, inserted-leaf}
 
@@ -53,10 +54,11 @@ module _ {w : List ℕ} {b i e k z : ℕ} {s p : Bits} (h : Part w b i e s k z p
   unfolding insertT
   sized-end q = h .counts 1 _ (omega (arith, h .within)) (rw q λ t rest u g. sym size-leaf)
 
+  pub sized-empty : (n : ℕ) → k ≡ z → n ≡ length p → InsertSize w b i e s (e - i + (n + 1))
+  sized-empty n o l = h .counts (n + 1) _ (omega arith) λ t rest u g. rw (none-is t (omega (arith, g .end)), size-chain p, l)
+
   pub sized-none : (n : ℕ) → Views w b k z Nothing → n ≡ length p → InsertSize w b i e s (e - i + (n + 1))
-  sized-none n q l =
-      let o : k ≡ z = empty-end q (h .held .stands) in
-      h .counts (n + 1) _ (omega arith) λ t rest u g. rw (view-none k t (q t rest u g), size-chain p, l)
+  sized-none n q l = sized-empty n (empty-end q (h .held .stands)) l
 
   pub sized-leaf : (d : Bool) (q : Bits) → p ≡ d ∷ q → Views w b k z Leaf → InsertSize w b i e s (e - i)
   sized-leaf d q l x = h .counts (z - k) _ (omega arith) (rw l λ t rest u g. omega (arith, inserted-leaf x u d q t rest g .end))

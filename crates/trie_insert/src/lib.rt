@@ -35,6 +35,10 @@ pub fn insert_size(w: &[u32], b: usize, i: usize, e: usize, s: PrefixBits) -> us
                     View::Inner(m) => {
                         p = rest;
                         if bit {
+                            // A way out here makes it a branch on the bit, so that a step to the first child waits for no word.
+                            if m == to {
+                                return n + (rest.len as usize + 1);
+                            }
                             from = m;
                         } else {
                             from += 1;
@@ -100,7 +104,13 @@ pub fn insert(w: &mut [u32], b: usize, i: usize, e: usize, u: usize, s: PrefixBi
     let next = s.next();
     match next {
         NextBit::End => leaf(w, b, i, e, u),
-        NextBit::Bit(bit, rest) => {
+        NextBit::Bit(bit, behind) => {
+            // Field by field: what a whole copy takes along between the fields is waited for at each step.
+            let rest = PrefixBits {
+                hi: behind.hi,
+                lo: behind.lo,
+                len: behind.len,
+            };
             let v = steps::look(w, b, i, e);
             match v {
                 View::Nothing => grow(w, b, i, u, s),

@@ -10,7 +10,7 @@ use Rattle.nodes.specs.Segments.{Views}
 use Rattle.nodes.specs.declared.steps.View.the-variants.{Inner}
 use Rattle.nodes.proofs.Segments.{segment-fit}
 use Rattle.trie_insert.proofs.Insertion.{inner-fit}
-use Rattle.trie_insert.proofs.Counting.{Part, part-all, part-side, sized-end, sized-none, sized-leaf}
+use Rattle.trie_insert.proofs.Counting.{Part, part-all, part-side, sized-end, sized-empty, sized-none, sized-leaf}
 use Rattle.trie_insert.proofs.insert_size.Statement.{statement}
 use Rattle.trie_insert.proofs.insert_size.Tie as tie
 
@@ -41,6 +41,11 @@ inner c t rest u g = sym (c .before .v .given .1) ∙ looked c .look .ensures t 
 
 right : (c : tie.Then1 Inv-loop μ-loop) → Hands (loop (c .before) .loop .p) true (next (c .before) .next2 .given .0 .1 .0)
 right c = hands-bit (c .if1 .taken) (more (next (c .before)))
+
+-- what is left at the second child
+second : (c : tie.Then1 Inv-loop μ-loop) → let l = loop (c .before) in let a = l .before .before .args in let rest = next (c .before) .next2 .given .0 .1 .0 in
+    (rest .len ≤ 128) × Part (a .w .now) (a .b) (a .i) (a .e) (bitsLeft (a .s)) (c .before .before .v .given .0 .0) (l .loop .to) (bitsLeft rest)
+second c = let h = right c in let v = loop (c .before) .loop .inv in (omega (arith, h .len, v .0), part-side true (rw (h .bits) at (v .1)) (inner (c .before)))
 
 left : (c : tie.Else1 Inv-loop μ-loop) → Hands (loop (c .before) .loop .p) false (next (c .before) .next2 .given .0 .1 .0)
 left c = hands-bit (c .if1 .left) (more (next (c .before)))
@@ -78,8 +83,16 @@ insert-size-spec =
     let m = k .before .before in
     sized-leaf (m .before .before .before .loop .inv .1) _ _ (more m .bits) (rw (c .enum-told3 .given .1) at (k .look .ensures)))
     (λ c. search needs)
-    (λ c. omega (arith, right c .len))
-    (λ c. let h = right c in let v = loop (c .before) .loop .inv in (omega (arith, h .len, v .0), part-side true (rw (h .bits) at (v .1)) (inner (c .before))))
+    (λ c. search needs)
+    (λ c. search needs)
+    (λ c.
+    let k = c .before .before in
+    let l = loop (k .before) in
+    let g = l .before .before .pre .1 .stands in
+    omega (arith, segment-fit g, g .few, right k .len, l .loop .inv .0))
+    (λ c. let k = c .before .before in sized-empty (second k .1) _ (c .before .if2 .taken) (sym (length-bitsLeft (next (k .before) .next2 .given .0 .1 .0) (second k .0))))
+    (λ c. omega (arith, right (c .before) .len))
+    (λ c. second (c .before))
     (λ c. omega (arith, inner-fit (inner (c .before)) (loop (c .before) .loop .inv .1 .held .stands)))
     (λ c. omega (arith, left c .len))
     (λ c. let h = left c in let v = loop (c .before) .loop .inv in (omega (arith, h .len, v .0), part-side false (rw (h .bits) at (v .1)) (inner (c .before)))))
