@@ -1,23 +1,17 @@
 -- What the contracts of add and remove come to: one outcome is allowed; and sound words stay sound, with the state that the rule says (`RelistLeaves`). Assumes nothing.
 use mathlib.Core.Path.{_≡_}
-use mathlib.Core.Bool.{Bool, true, false}
 use mathlib.Core.List.{List}
 use Prim.Native.Nat.{ℕ}
-use Rattle.nets.specs.Lists.{isList}
-use Rattle.nets.specs.Networks.{width, netBits}
-use Rattle.nets.specs.Refusals.{firstNo}
 use Rattle.nets.specs.declared.Net.{Net}
-use Rattle.nets.proofs.TrieOf.{isList-add}
-use Rattle.nets.proofs.Laws.{isList-remove}
-use Rattle.pool_state.specs.States.{State, isState}
+use Rattle.pool_state.specs.States.{State}
 use Rattle.pool_state.specs.Decode.{sound, decode}
-use Rattle.pool_state.specs.Changes.{listAt, netRules}
-use Rattle.pool_state.proofs.Claims.{isList-listAt}
+use Rattle.pool_state.specs.Changes.{netRules}
 use Rattle.pool_state.proofs.Decoded.{decode-state}
-use Rattle.pool_state.proofs.Leaves.{RelistLeaves, relist-leaves, netRules-within}
-use Rattle.change.specs.Calls.{listWith, listWithout, Added, Removed, notedAs, Reports}
-use Rattle.change.specs.Steps.{listBy}
+use Rattle.pool_state.proofs.Leaves.{RelistLeaves, relist-leaves}
+use Rattle.change_ask.specs.Calls.{listWith, listWithout, Added, Removed}
+use Rattle.change.specs.Calls.{notedAs, Reports}
 use Rattle.change.specs.declared.Noted.{Noted}
+use Rattle.change_edit.proofs.Lists.{add-list, remove-list}
 use Rattle.change.proofs.Reported.{reports-one}
 
 -- One outcome.
@@ -26,17 +20,6 @@ add-one n h g = reports-one h g
 
 pub remove-one : {w v u : List ℕ} {k : ℕ} {r x : Noted} (n : Net) → Reports n (Removed w k n) (notedAs r) v → Reports n (Removed w k n) (notedAs x) u → (r ≡ x) × (v ≡ u)
 remove-one n h g = reports-one h g
-
--- The list with the network is one, and that without it.
-pub add-list : (n : Net) (S : State) (k : ℕ) → isState S ≡ true → firstNo (netRules n S) ≡ 0 → isList (width (S .family)) (listWith k n S) ≡ true
-add-list n S k e z = isList-add (width (S .family)) (listAt S k) (netBits n) (isList-listAt S k e) (netRules-within n S z)
-
-remove-list : (n : Net) (S : State) (k : ℕ) → isState S ≡ true → firstNo (netRules n S) ≡ 0 → isList (width (S .family)) (listWithout k n S) ≡ true
-remove-list n S k e z = isList-remove (width (S .family)) (listAt S k) (netBits n) (isList-listAt S k e) (netRules-within n S z)
-
-pub by-list : (x : Bool) (n : Net) (S : State) (k : ℕ) → isState S ≡ true → firstNo (netRules n S) ≡ 0 → isList (width (S .family)) (listBy x k n S) ≡ true
-by-list true = add-list
-by-list false = remove-list
 
 -- What is left of a sound pool.
 module _ {w v : List ℕ} {S : State} {k : ℕ} {r : ℕ × ℕ} (n : Net) (d : decode w ≡ sound S) where

@@ -1,35 +1,19 @@
--- The calls with a network.
+-- What the calls with a network answer. What they leave is said in change_ask.
 --
---   listWith k n S, listWithout      the list of set k with the network n added, and with n removed
---   Added w k n r v, Removed         from the words w the call with the network n on set k answers r and leaves the words v
---   notedAs a                        the number and the values of what such a call answers, the report behind the nodes
---   Reports n C r v                  r is the answer of the call C, and reports: it is granted, and a set bit past the length of n was cut
+--   listWith, listWithout, Added, Removed    those of change_ask
+--   notedAs a                                the number and the values of what such a call answers, the report behind the nodes
+--   Reports n C r v                          r is the answer of the call C, and reports: it is granted, and a set bit past the length of n was cut
 use mathlib.Core.Bool.{Bool, false, _&&_}
 use mathlib.Core.List.{List}
 use mathlib.Core.Path.{_≡_}
 use Prim.Native.Nat.{ℕ}
 use lib.Dec.{eqb}
-use Rattle.nets.specs.Bits.{Bits}
-use Rattle.nets.specs.Lists.{addL, removeL}
-use Rattle.nets.specs.Networks.{netBits, hasBitPast}
+use Rattle.nets.specs.Networks.{hasBitPast}
 use Rattle.nets.specs.Refusals.{number}
 use Rattle.nets.specs.declared.Net.{Net}
-use Rattle.pool_state.specs.States.{State}
-use Rattle.pool_state.specs.Changes.{listAt, Relisted, netRules}
 use Rattle.change.specs.declared.Noted.{Noted}
 use Rattle.change.specs.declared.Noted.the-variants as noted
-
-abbrev pub listWith : ℕ → Net → State → List Bits
-listWith k n S = addL (listAt S k) (netBits n)
-
-abbrev pub listWithout : ℕ → Net → State → List Bits
-listWithout k n S = removeL (listAt S k) (netBits n)
-
-abbrev pub Added : List ℕ → ℕ → Net → ℕ × ℕ → List ℕ → Type 0
-Added w k n r v = Relisted w k (netRules n) (listWith k n) r v
-
-abbrev pub Removed : List ℕ → ℕ → Net → ℕ × ℕ → List ℕ → Type 0
-Removed w k n r v = Relisted w k (netRules n) (listWithout k n) r v
+pub use Rattle.change_ask.specs.Calls.{listWith, listWithout, Added, Removed}
 
 -- the number and the values of an answer: the nodes of the set, and the report. A refusal has its number and zeros
 abbrev pub notedAs : Noted → ℕ × (ℕ × Bool)

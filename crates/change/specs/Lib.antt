@@ -1,4 +1,3 @@
--- What the contracts cite: the calls; then, for the inner functions, the steps that the calls share.
+-- What the contracts cite: the calls with a network, and the one that simplifies.
 pub mod Calls
-pub mod Steps
 pub mod Simplified

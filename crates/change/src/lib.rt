@@ -1,30 +1,21 @@
 // Changing one set: adding a network, removing one, simplifying. Where a call is refused, no word changes.
-use adding::Grown;
-use adding::add_found;
-use calling::Asked;
-use calling::ask;
-use editing::edit;
-use editing::size_with;
+use change_add::Grown;
+use change_add::add_found;
+use change_ask::Asked;
+use change_ask::ask;
+use change_edit::edit;
+use change_edit::size_with;
+pub use change_simplify::simplify;
 use nets::Net;
 use nets::Refusal;
 use nets::has_bit_past;
 use pool_change::judging::judge;
 use pool_change::relinking::granted;
-use pool_change::relinking::shift_behind;
 use pool_check::seats::seat_of;
-use pool_header::stride_of;
-use pool_state::Answer;
 use pool_state::Seated;
 use pool_state::Verdict;
-use shrinking::shrink;
-ghost use Rattle.pool_state.specs.Rules.{answerAs};
-ghost use Rattle.change.specs.Calls.{Added, Removed, notedAs, Reports};
-ghost use Rattle.change.specs.Simplified.{Simplifies};
-
-pub mod adding;
-mod calling;
-mod editing;
-mod shrinking;
+ghost use Rattle.change_ask.specs.Calls.{Added, Removed};
+ghost use Rattle.change.specs.Calls.{notedAs, Reports};
 
 // What add and remove answer: the nodes of the set, and whether a set bit past the network's length was cut.
 pub enum Noted {
@@ -68,23 +59,6 @@ pub fn remove(pool: &mut [u32], set: u32, net: Net) -> Noted
                     Noted::Granted(n, has_bit_past(net))
                 }
             }
-        }
-    }
-}
-
-// Simplifies a set: the same addresses, and afterwards no two halves of one block are both listed. Answers the nodes of the set. The result never has more nodes than
-// the set, so nothing is counted before it is written.
-pub fn simplify(pool: &mut [u32], set: u32) -> Answer
-    ensures { λ r. ⌜ Simplifies (now (pool .entry)) set (answerAs r) (now (pool .exit)) ⌝ }
-{
-    let seated = seat_of(pool, set);
-    match seated {
-        Seated::Refused(no) => Answer::Refused(no),
-        Seated::At(found, seat) => {
-            let stride = stride_of(pool);
-            let nodes = shrink(pool, found, seat);
-            shift_behind(pool, seat.base, stride, found, nodes);
-            granted(pool, set, found, nodes)
         }
     }
 }

@@ -22,7 +22,8 @@ use Rattle.pool_state.proofs.Decoded.{decode-state}
 use Rattle.pool_state.proofs.Judged.{changeNo-zero}
 use Rattle.pool_state.proofs.Determined.{changed-one}
 use Rattle.pool_state.proofs.Leaves.{RelistLeaves, relist-leaves}
-use Rattle.combine.specs.Rules.{combineRules, Combined, Merged, Intersected, Excluded, ExcludedApart}
+use Rattle.combine_sources.specs.Rules.{combineRules, Combined}
+use Rattle.combine.specs.Rules.{Merged, Intersected, Excluded, ExcludedApart}
 
 -- One outcome.
 module _ (w : List ℕ) (to first second : ℕ) {r s : Answer} {u v : List ℕ} where

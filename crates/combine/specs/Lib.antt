@@ -1,3 +1,2 @@
--- What a reader must believe of the calls on two sets, and what their inner functions ask and leave.
+-- What a reader must believe of the calls on two sets.
 pub mod Rules
-pub mod Steps

@@ -1,22 +1,35 @@
 // Combining two sets of a pool into a third. Where a call is refused, no word changes.
-use combining::combine;
+use combine_first::by_nodes;
+use combine_sources::Destination;
+use combine_sources::EXCLUDE;
+use combine_sources::EXCLUDE_APART;
+use combine_sources::INTERSECT;
+use combine_sources::MERGE;
+use combine_sources::ask;
+use combine_sources::sources_of;
 use pool_state::Answer;
 ghost use Rattle.pool_state.specs.Rules.{answerAs};
+ghost use Rattle.combine_sources.specs.Steps.{Operation, combineL};
+ghost use Rattle.combine_sources.specs.Rules.{Combined};
 ghost use Rattle.combine.specs.Rules.{Merged, Intersected, Excluded, ExcludedApart};
 
-mod asking;
-mod combining;
-mod copying;
-mod kept;
-
-// The operations, by the numbers that emission knows them by.
-const MERGE: usize = 0;
-
-const INTERSECT: usize = 1;
-
-const EXCLUDE: usize = 2;
-
-const EXCLUDE_APART: usize = 3;
+// Writes what an operation makes of two sets into an empty one. Answers its nodes.
+fn combine(pool: &mut [u32], op: usize, to: u32, first: u32, second: u32) -> Answer
+    requires { ⌜ Operation op ⌝ }
+    ensures { λ r. ⌜ Combined (combineL op) (now (pool .entry)) to first second (answerAs r) (now (pool .exit)) ⌝ }
+{
+    let asked = ask(pool, to, first, second);
+    match asked {
+        Destination::Refused(no) => Answer::Refused(no),
+        Destination::Empty(v) => {
+            let s = sources_of(pool, first, second, v);
+            if pool[5] == 0 {
+                return by_nodes(pool, op, to, s, v);
+            }
+            combine_kept::combine(pool, op, to, s, v)
+        }
+    }
+}
 
 // Writes the union of two sets, simplified, into an empty one. Answers its nodes.
 pub fn merge(pool: &mut [u32], to: u32, first: u32, second: u32) -> Answer

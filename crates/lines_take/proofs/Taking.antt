@@ -19,10 +19,10 @@ use Rattle.pool_state.specs.Changes.{changeRule, wordsAfter, netRules}
 use Rattle.pool_state.specs.Steps.{Surveyed}
 use Rattle.pool_state.specs.declared.Survey.{Survey}
 use Rattle.pool_state.proofs.Answered.{leftOn-refused}
-use Rattle.change.specs.Calls.{listWith, Added}
-use Rattle.change.specs.Steps.{Grows}
-use Rattle.change.specs.declared.adding.Grown.{Grown}
-use Rattle.change.specs.declared.adding.Grown.the-variants as grown
+use Rattle.change_ask.specs.Calls.{listWith, Added}
+use Rattle.change_add.specs.Steps.{Grows}
+use Rattle.change_add.specs.declared.Grown.{Grown}
+use Rattle.change_add.specs.declared.Grown.the-variants as grown
 use Rattle.text_either.specs.Either.{readEither, enteredEither}
 use Rattle.text_either.proofs.Reading.{enteredEither-no}
 use Rattle.text_either.proofs.RoundTrip as lines

@@ -22,7 +22,7 @@ use Rattle.nets.specs.declared.Net.{Net}
 use Rattle.text_either.specs.Either.{readEither, enteredEither}
 use Rattle.pool_state.specs.Decode.{Decoded, damaged, sound, decode}
 use Rattle.pool_state.specs.Changes.{changeRule, wordsAfter, relistRules, relistSet, netRules}
-use Rattle.change.specs.Calls.{listWith}
+use Rattle.change_ask.specs.Calls.{listWith}
 
 abbrev pub lineFeed : ℕ
 lineFeed = 10

@@ -1,6 +1,6 @@
 // One line of a network, added to set 0 of a pool.
-use change::adding::Grown;
-use change::adding::add_found;
+use change_add::Grown;
+use change_add::add_found;
 use lines_reader::KEPT;
 use lines_reader::Reader;
 use nets::Entered;

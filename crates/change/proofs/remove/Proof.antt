@@ -1,8 +1,8 @@
 -- `remove` meets its contract: each return by the law for it, with what the calls on the way to it have found. Assumes nothing.
 use mathlib.Core.Bool.{true, false}
 use borrow.Author.Needs.{needs}
-use Rattle.change.specs.Steps.{Ready}
-use Rattle.change.proofs.Calls.{Weighed, clear-remove, weighed-refused, weighed-edits, weighed-settles, weighed-granted}
+use Rattle.change_ask.specs.Steps.{Ready}
+use Rattle.change_edit.proofs.Weighed.{Weighed, clear-remove, weighed-refused, weighed-edits, weighed-settles, weighed-granted}
 use Rattle.change.proofs.Reported.{reports-refused, reports-granted}
 use Rattle.change.proofs.remove.Statement.{statement}
 use Rattle.change.proofs.remove.Tie as tie

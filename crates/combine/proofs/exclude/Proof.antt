@@ -1,6 +1,6 @@
 -- `exclude` meets its contract: it is a combination. Assumes nothing.
 use borrow.Author.Needs.{needs}
-use Rattle.combine.specs.Steps.{excluding}
+use Rattle.combine_sources.specs.Steps.{excluding}
 use Rattle.combine.proofs.exclude.Statement.{statement}
 use Rattle.combine.proofs.exclude.Tie as tie
 

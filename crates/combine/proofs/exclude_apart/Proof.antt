@@ -1,6 +1,6 @@
 -- `exclude_apart` meets its contract: it is a combination. Assumes nothing.
 use borrow.Author.Needs.{needs}
-use Rattle.combine.specs.Steps.{excludingApart}
+use Rattle.combine_sources.specs.Steps.{excludingApart}
 use Rattle.combine.proofs.exclude_apart.Statement.{statement}
 use Rattle.combine.proofs.exclude_apart.Tie as tie
 

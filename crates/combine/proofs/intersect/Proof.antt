@@ -1,6 +1,6 @@
 -- `intersect` meets its contract: it is a combination. Assumes nothing.
 use borrow.Author.Needs.{needs}
-use Rattle.combine.specs.Steps.{intersecting}
+use Rattle.combine_sources.specs.Steps.{intersecting}
 use Rattle.combine.proofs.intersect.Statement.{statement}
 use Rattle.combine.proofs.intersect.Tie as tie
 

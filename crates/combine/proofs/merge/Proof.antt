@@ -1,6 +1,6 @@
 -- `merge` meets its contract: it is a combination. Assumes nothing.
 use borrow.Author.Needs.{needs}
-use Rattle.combine.specs.Steps.{merging}
+use Rattle.combine_sources.specs.Steps.{merging}
 use Rattle.combine.proofs.merge.Statement.{statement}
 use Rattle.combine.proofs.merge.Tie as tie
 

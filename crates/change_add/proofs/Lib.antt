@@ -1,0 +1,2 @@
+-- Why: adding to a set that is found.
+pub mod Growing

@@ -1,0 +1,2 @@
+-- What the contracts cite: adding to a set that is found.
+pub mod Steps

@@ -1,0 +1,2 @@
+-- Why: simplifying a set.
+pub mod Simplified

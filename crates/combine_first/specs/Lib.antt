@@ -1,0 +1,2 @@
+-- What the contracts cite: what the steps of a combination ask and leave.
+pub mod Steps

@@ -1,0 +1,3 @@
+-- A gap opened, and a result written into it; or a source copied.
+pub mod Gaps
+pub mod Copied
