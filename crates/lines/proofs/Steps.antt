@@ -1,24 +1,19 @@
--- The returns of the calls, by the tests on the way to each; and the loop over a piece: what is left of it completes what is passed. Assumes nothing.
+-- The returns of the calls, by the tests on the way to each. Assumes nothing.
 use mathlib.Core.List.{List, [], _∷_}
 use mathlib.Core.Bool.{true, false, cond}
-use mathlib.Core.Path.{_≡_, refl, ap, sym, _∙_}
-use Prim.Native.Nat.{ℕ, suc, _+_, _%_, _^_, _<_}
-use native.Mathlib.Numerals.{add-one}
+use mathlib.Core.Path.{_≡_, refl, ap, sym}
+use Prim.Native.Nat.{ℕ, _+_, _%_, _^_}
 use native.Mathlib.Omega.{arith}
-use lib.ListN.{length, drop, getD}
-use lib.Seq.{drop-cons, drop-length}
 use borrow.Author.Tests.{eq-eqb, ne-eqb}
 use Rattle.pool_state.specs.Decode.{decode}
 use Rattle.pool_state.specs.Rules.{surveyOf}
-use Rattle.pool_state.specs.Steps.{Surveyed}
 use Rattle.pool_state.specs.declared.Survey.{Survey}
 use Rattle.pool_state.proofs.Seen.{survey-sound, survey-damaged}
-use Rattle.lines_take.specs.Lines.{lineFeed, trimmedIn, poolNo}
-use Rattle.lines_reader.specs.Kept.{kept, pushed, stopped}
-use Rattle.lines.specs.Reading.{ended, stepped, passed, closed, checked, fed, finished}
+use Rattle.lines_take.specs.Lines.{trimmedIn, poolNo}
+use Rattle.lines_reader.specs.Kept.{kept, stopped}
+use Rattle.lines.specs.Reading.{ended, passed, closed, checked, fed, finished}
 use Rattle.lines_take.specs.Taking.{Takes}
 use Rattle.lines.specs.Steps.{Leads}
-use Rattle.lines_take.specs.declared.Going.{Going}
 use Rattle.lines_reader.specs.declared.Reader.{Reader}
 use Rattle.lines_take.specs.declared.Took.{Took}
 
