@@ -23,7 +23,7 @@ use Rattle.pool_state.specs.Decode.{sound, decode}
 use Rattle.pool_state.specs.Rules.{setup, emptyState}
 use Rattle.pool_state.specs.Changes.{setAt, listAt, withSet, fits, changeRules, planRules, markRules, relistRules, relistSet, netRules}
 use Rattle.pool_state.proofs.Claims.{admits-listAt}
-use Rattle.change.proofs.Admitted.{admits-remove, admits-simplify}
+use Rattle.change_ask.proofs.Admitted.{admits-remove, admits-simplify}
 use Rattle.combine.specs.Rules.{combineRules}
 use Rattle.histories.specs.Calls.{Relist, Call, add, remove, simplify, merge, intersect, exclude, excludeApart, relist, replan, makePublic, writes, argsNo, resultOf, callNo, stateAfter, Outcome}
 use Rattle.histories.specs.Histories.{stateFrom, answersFrom, History, step}
