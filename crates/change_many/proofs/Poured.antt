@@ -49,8 +49,8 @@ use Rattle.trie_pour.proofs.Pour.{pour-size}
 use Rattle.setfile.specs.Loading.{fileList}
 use Rattle.setfile_range.specs.Edges.{Rangeable, spanOf, rangeFile}
 use Rattle.setfile_range.proofs.Files.{few-nets, range-reads}
-use Rattle.setfile.proofs.Outcomes.{take-put}
-use Rattle.setfile.proofs.Returns.{decode-few}
+use Rattle.setfile_save.proofs.Outcomes.{take-put}
+use Rattle.setfile_save.proofs.Returns.{decode-few}
 use Rattle.change_many.specs.Calls.{pouredL, fileRules, rangeOf, spanRules}
 use Rattle.change_many.specs.declared.Span.{Span}
 use Rattle.change_many.specs.Steps.{FileReady, SpanReady, Admits, Pourable, Clear, SourcesIn, PoursIn, PourFits, withPoured}

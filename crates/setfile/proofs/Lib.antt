@@ -1,6 +1,3 @@
--- The laws of saving: the returns and outcomes of the call.
-pub mod Returns
-pub mod Outcomes
 -- The laws of loading: the trie of a file's list in the place of its set, and the returns and outcomes of the call.
 pub mod Filling
 pub mod Loads

@@ -31,9 +31,9 @@ use Rattle.pool_state.proofs.Returns.{Owes, changed, change-seat, change-args, 
 use Rattle.pool_state.proofs.Leaves.{RelistLeaves, relist-leaves}
 use Rattle.setfile_format.specs.Files.{File, broken, file, readFile}
 use Rattle.setfile_format.proofs.RoundTrip.{readFile-is}
-use Rattle.setfile.specs.Calls.{fileAt, Saved}
+use Rattle.setfile_save.specs.Calls.{fileAt, Saved}
 use Rattle.setfile.specs.Loading.{loadRules, fileList, Loaded}
-use Rattle.setfile.proofs.Outcomes.{save-reads}
+use Rattle.setfile_save.proofs.Outcomes.{save-reads}
 use Rattle.setfile.proofs.Loads.{loadRules-broken, loadRules-other, loadRules-occupied, loadRules-right}
 
 pub load-determined : {w v u : List ℕ} {k : ℕ} {r s : Answer} (d : List ℕ) → Loaded w k d (answerAs r) v → Loaded w k d (answerAs s) u → (r ≡ s) × (v ≡ u)

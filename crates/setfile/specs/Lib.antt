@@ -1,5 +1,4 @@
 -- The calls on set files; then what the inner functions cite.
 pub mod Calls
 pub mod Loading
-pub mod SaveSteps
 pub mod LoadSteps

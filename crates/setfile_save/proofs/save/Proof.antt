@@ -11,9 +11,9 @@ use Rattle.pool_state.proofs.Seats.{seated-refused}
 use Rattle.listing.proofs.Seats.{Sits, seated-sits}
 use Rattle.listing.proofs.ByForm.{held-somewhere}
 use Rattle.trie_paths.proofs.Placing.{total-is, counts-fit}
-use Rattle.setfile.proofs.Returns.{save-refused, save-few, save-fits, save-savable, save-short, save-granted}
-use Rattle.setfile.proofs.save.Statement.{statement}
-use Rattle.setfile.proofs.save.Tie as tie
+use Rattle.setfile_save.proofs.Returns.{save-refused, save-few, save-fits, save-savable, save-short, save-granted}
+use Rattle.setfile_save.proofs.save.Statement.{statement}
+use Rattle.setfile_save.proofs.save.Tie as tie
 
 sits : (c : tie.After-known-told2) → let a = c .before .before .before .before .before .before .args in (S : State) × Sits (now (a .pool)) (a .set) S (c .before .seated2 .given .0 .1 .0)
 sits c = seated-sits _ _ (c .before .before .before .seat-of .ensures) _ _ (c .before .seated2 .given .1)

@@ -36,8 +36,8 @@ use Rattle.setfile_format.specs.Files.{fileBytes, mostEntries, fileOf}
 use Rattle.setfile_format.proofs.Written.{length-fileOf, fileBytes-few}
 use Rattle.setfile_write.specs.Saving.{Savable}
 use Rattle.kept_save.specs.Saved.{KeptWritable}
-use Rattle.setfile.specs.Calls.{fileAt, saveRules, saveRule, bytesAfter, Saved}
-use Rattle.setfile.specs.SaveSteps.{SavableIn}
+use Rattle.setfile_save.specs.Calls.{fileAt, saveRules, saveRule, bytesAfter, Saved}
+use Rattle.setfile_save.specs.SaveSteps.{SavableIn}
 
 abbrev Fills : List ℕ → ℕ → List ℕ → Answer → List ℕ → Type 0
 Fills w k v r u = Filled (decode w) k (length v) (λ S. length (fileAt S k)) (λ S. length (fileAt S k)) v (λ S. put v 0 (fileAt S k)) r u

@@ -19,8 +19,8 @@ use Rattle.pool_state.proofs.Filled.{filled-one, filled-damaged, filled-noset, 
 use Rattle.pool_state.proofs.Decoded.{decode-state, decode-set}
 use Rattle.setfile_format.specs.Files.{file, readFile}
 use Rattle.setfile_format.proofs.Written.{readFile-fileOf}
-use Rattle.setfile.specs.Calls.{fileAt, Saved}
-use Rattle.setfile.proofs.Returns.{save-fills, decode-few}
+use Rattle.setfile_save.specs.Calls.{fileAt, Saved}
+use Rattle.setfile_save.proofs.Returns.{save-fills, decode-few}
 
 pub save-determined : {w v u x : List ℕ} {k : ℕ} {r s : Answer} → Saved w k v r u → Saved w k v s x → (r ≡ s) × (u ≡ x)
 save-determined g h = filled-one (save-fills g) (save-fills h)

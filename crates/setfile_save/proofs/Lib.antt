@@ -1,0 +1,3 @@
+-- The laws of saving: the returns and outcomes of the call.
+pub mod Returns
+pub mod Outcomes
