@@ -1,16 +1,17 @@
 -- `lanes::descend` meets its contract. The loop's invariant: the walks have gone on from where they began. Assumes nothing.
+use Prim.Native.Nat.{_-_}
 use native.Mathlib.Omega.{arith}
 use borrow.Author.Needs.{needs}
-use Rattle.lookup_many.specs.Lanes.{FourGo, leftOf}
-use Rattle.lookup_many.proofs.Going.{four-on, four-stay, four-twice, four-less}
+use Rattle.lookup_many.specs.Lanes.{AllGo, Live}
+use Rattle.lookup_many.proofs.LaneRows.{all-stay, all-on, all-twice}
 use Rattle.lookup_many.proofs.lanes.descend.Statement.{statement}
 use Rattle.lookup_many.proofs.lanes.descend.Tie as tie
 
 abbrev Inv-loop : tie.InvT-loop
-Inv-loop w b n f₀ f = FourGo w b n f₀ f
+Inv-loop w b n lanes₀ e live₀ k₀ t₀ lanes live k t = AllGo w b n e lanes₀ lanes × Live e k live
 
 abbrev μ-loop : tie.MeasureT-loop
-μ-loop w b n f₀ f = leftOf f
+μ-loop w b n lanes₀ e live₀ k₀ t₀ lanes live k t = 33 - t
 
 pub descend-spec : {M : Type 1} → statement M
 descend-spec =
@@ -18,13 +19,13 @@ descend-spec =
     (tie.spec
     Inv-loop
     μ-loop
-    (λ c. four-stay _ _ _ _ (c .before .pre .1))
-    (λ c κs. (c .before .before .pre .0, four-on _ _ _ _ _ (c .loop .inv)))
-    (λ c κs. search needs)
-    (λ c κs. search needs)
-    (λ c. let s = c .before .before .before in four-twice _ _ _ _ _ _ (s .before .loop .inv) (s .step-four .ensures))
-    (λ c.
-    let b = c .before in
-    let a = b .before in
-    omega (arith, four-less _ _ _ _ _ (a .before .step-four .ensures), a .left .ensures .0, b .left2 .ensures .0, c .if1 .left))
-    (λ c. let s = c .before .before .before in four-twice _ _ _ _ _ _ (s .before .loop .inv) (s .step-four .ensures)))
+    (λ c. let h = c .before .pre in (all-stay _ _ _ _ _ (h .1), h .2))
+    (λ c κs.
+    let l = c .before .before .before in
+    let h = l .before .before .pre in
+    (h .0, all-on _ _ _ _ _ _ (h .1) (l .loop .inv .0), l .loop .inv .1))
+    (λ c. let r = c .before in all-twice _ _ _ _ _ _ _ (r .before .before .before .before .loop .inv .0) (r .round .ensures .0))
+    (λ c. omega (arith, c .before .before .before .before .loop-test .taken))
+    (λ c. omega (arith, c .before .before .before .before .loop-test .taken))
+    (λ c. let r = c .before in (all-twice _ _ _ _ _ _ _ (r .before .before .before .before .loop .inv .0) (r .round .ensures .0), r .round .ensures .1))
+    (λ c. c .before .loop .inv .0))

@@ -1,11 +1,11 @@
--- `fours::end_at` meets its contract: one store. Assumes nothing.
+-- `blocks::end_at` meets its contract: one store. Assumes nothing.
 use denote.Ref.{now}
 use native.Mathlib.Omega.{arith}
 use borrow.Author.Needs.{needs}
 use Rattle.lookup_many.proofs.Rows.{fill-one, asked-one}
 use Rattle.lookup_many.proofs.Ending.{seat-query}
-use Rattle.lookup_many.proofs.fours.end_at.Statement.{statement}
-use Rattle.lookup_many.proofs.fours.end_at.Tie as tie
+use Rattle.lookup_many.proofs.blocks.end_at.Statement.{statement}
+use Rattle.lookup_many.proofs.blocks.end_at.Tie as tie
 
 pub end-at-spec : {M : Type 1} → statement M
 end-at-spec =
