@@ -37,10 +37,11 @@ use Rattle.lookup.specs.Rules.{query, isMember}
 use Rattle.lookup.proofs.Asked.{prefix-bits, prefix-few, query-refused, query-path}
 use Rattle.lookup.proofs.Beginnings.{path-plain}
 use Rattle.lookup_many.specs.Rules.{queryAt, inOne, asked}
-use Rattle.lookup_many.specs.Lanes.{clipped, firstOf, comes, second, On, Goes, laneAt, keepAt, Wide, AllOn, AllGo, Live, laneBy, laneOf, Started, Came, rootIn, placeIn, Seat, Ending, Fits}
-use Rattle.lookup_many.specs.declared.lanes.Lane.{Lane}
-use Rattle.lookup_many.proofs.Going.{walk-leaf, walk-none, comes-next, placed-word}
-use Rattle.lookup_many.proofs.LaneRows.{wide-keep, keep-same, keep-other}
+use Rattle.trie_lanes.specs.Lanes.{comes, On, Goes, laneAt, keepAt, Wide, AllOn, AllGo, Live}
+use Rattle.lookup_many.specs.Lanes.{clipped, firstOf, second, laneBy, laneOf, Started, Came, rootIn, placeIn, Seat, Ending, Fits}
+use Rattle.trie_lanes.specs.declared.Lane.{Lane}
+use Rattle.trie_lanes.proofs.Going.{walk-leaf, walk-none, comes-next, placed-word}
+use Rattle.trie_lanes.proofs.LaneRows.{wide-keep, keep-same, keep-other}
 
 pub seated : {w : List ℕ} {b n k f : ℕ} → isHeader w ≡ true → k < getD w 2 0 → getD w 5 0 ≡ 0 → tagIn w k ≡ 0 → b ≡ base (getD w 2 0) → n ≡ getD w 3 0 → (rootIn w k ≡ 0 → ⊥) → rootIn w k ≤ n → f ≡ getD w 1 0 → Seat w b n k f
 seated h lt z t b n nz le f = record { header = h; known = lt; form = z; plain = t; from = b; nodes = n; one = omega arith; within = le; family = f }

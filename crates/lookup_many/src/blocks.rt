@@ -1,13 +1,6 @@
 // Queries answered in blocks of up to 32, in the first form: their walks begin at the root, go down side by side, and end one after another.
 use crate::asking::number_of;
 use crate::asking::query_at;
-use crate::lanes::LANES;
-use crate::lanes::Lane;
-use crate::lanes::NUMBERS;
-use crate::lanes::descend;
-use crate::lanes::keep;
-use crate::lanes::lane_at;
-use crate::lanes::of_word;
 use lookup::walking::query;
 use nets::Net;
 use nets::NextBit;
@@ -17,6 +10,13 @@ use nets::Refusal;
 use pool_header::HEAD;
 use pool_header::RECORD;
 use trie_index::turn;
+use trie_lanes::LANES;
+use trie_lanes::Lane;
+use trie_lanes::NUMBERS;
+use trie_lanes::descend;
+use trie_lanes::keep;
+use trie_lanes::lane_at;
+use trie_lanes::of_word;
 use trie_lookup::Shown;
 use trie_lookup::walk_down;
 ghost use mathlib.Core.Bool.{true};
@@ -28,7 +28,8 @@ ghost use Rattle.pool_state.specs.Decode.{isHeader};
 ghost use Rattle.lookup.specs.Rules.{query};
 ghost use Rattle.lookup_many.specs.Rules.{queryAt, asked, askedOf};
 ghost use Rattle.trie_index.specs.Index.{fill};
-ghost use Rattle.lookup_many.specs.Lanes.{clipped, firstOf, laneOf, Wide, Started, Goes, Came, Live, Ending, placeIn, Seat, Fits};
+ghost use Rattle.trie_lanes.specs.Lanes.{Wide, Goes, Live};
+ghost use Rattle.lookup_many.specs.Lanes.{clipped, firstOf, laneOf, Started, Came, Ending, placeIn, Seat, Fits};
 
 // How many of so many bits are in the first word.
 fn first(len: u8) -> u8

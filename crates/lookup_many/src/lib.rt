@@ -9,7 +9,6 @@ ghost use Rattle.lookup_many.specs.Rules.{ContainsAll};
 
 mod asking;
 mod blocks;
-mod lanes;
 
 // Writes for each query of a row what contains answers, in one number. A query is three numbers, as list writes them: high word, low word, length; the family is that
 // of all of them. What is left of the row behind its whole queries is not read, entries of the answers past them keep what they had, and a refusal writes nothing.

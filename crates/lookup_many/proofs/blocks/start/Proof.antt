@@ -3,7 +3,8 @@ use mathlib.Core.Path.{_≡_}
 use Prim.Native.Nat.{_-_, _≤_}
 use native.Mathlib.Omega.{arith}
 use borrow.Author.Needs.{needs}
-use Rattle.lookup_many.specs.Lanes.{Started, Live}
+use Rattle.trie_lanes.specs.Lanes.{Live}
+use Rattle.lookup_many.specs.Lanes.{Started}
 use Rattle.lookup_many.proofs.Ending.{started-none, started-next, live-next}
 use Rattle.lookup_many.proofs.blocks.start.Statement.{statement}
 use Rattle.lookup_many.proofs.blocks.start.Tie as tie

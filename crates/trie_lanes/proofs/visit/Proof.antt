@@ -1,8 +1,8 @@
--- `lanes::visit` meets its contract: two steps, and the walk is written. Assumes nothing.
+-- `visit` meets its contract: two steps, and the walk is written. Assumes nothing.
 use borrow.Author.Needs.{needs}
-use Rattle.lookup_many.proofs.LaneRows.{moved}
-use Rattle.lookup_many.proofs.lanes.visit.Statement.{statement}
-use Rattle.lookup_many.proofs.lanes.visit.Tie as tie
+use Rattle.trie_lanes.proofs.LaneRows.{moved}
+use Rattle.trie_lanes.proofs.visit.Statement.{statement}
+use Rattle.trie_lanes.proofs.visit.Tie as tie
 
 pub visit-spec : {M : Type 1} → statement M
 visit-spec =

@@ -8,7 +8,7 @@ ghost use mathlib.Core.Path.{_≡_};
 ghost use Prim.Native.Nat.{_+_, _-_, _≤_, _<_};
 ghost use Rattle.nets.specs.Networks.{bitsWords};
 ghost use Rattle.nodes.specs.Parse.{Room};
-ghost use Rattle.lookup_many.specs.Lanes.{On, Goes, laneAt, keepAt, Wide, AllOn, AllGo, Moved, Live};
+ghost use Rattle.trie_lanes.specs.Lanes.{On, Goes, laneAt, keepAt, Wide, AllOn, AllGo, Moved, Live};
 
 // The most walks side by side.
 pub const LANES: usize = 32;

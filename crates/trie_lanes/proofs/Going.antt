@@ -17,8 +17,8 @@ use Rattle.nodes.specs.Parse.{Room}
 use Rattle.trie_lookup.specs.Walks.{toward, walk}
 use Rattle.trie_lookup.specs.declared.Shown.the-variants.{Member, Nothing}
 use Rattle.trie_lookup.proofs.Turns.{areNodes-in, walk-shows}
-use Rattle.lookup_many.specs.Lanes.{comes, On, Goes}
-use Rattle.lookup_many.specs.declared.lanes.Lane.{Lane}
+use Rattle.trie_lanes.specs.Lanes.{comes, On, Goes}
+use Rattle.trie_lanes.specs.declared.Lane.{Lane}
 
 module _ (w : List ℕ) (b n : ℕ) where
   pub goes-stay : (l : Lane) → On b n l → Goes w b n l l

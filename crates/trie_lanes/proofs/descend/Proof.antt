@@ -1,11 +1,11 @@
--- `lanes::descend` meets its contract. The loop's invariant: the walks have gone on from where they began. Assumes nothing.
+-- `descend` meets its contract. The loop's invariant: the walks have gone on from where they began. Assumes nothing.
 use Prim.Native.Nat.{_-_}
 use native.Mathlib.Omega.{arith}
 use borrow.Author.Needs.{needs}
-use Rattle.lookup_many.specs.Lanes.{AllGo, Live}
-use Rattle.lookup_many.proofs.LaneRows.{all-stay, all-on, all-twice}
-use Rattle.lookup_many.proofs.lanes.descend.Statement.{statement}
-use Rattle.lookup_many.proofs.lanes.descend.Tie as tie
+use Rattle.trie_lanes.specs.Lanes.{AllGo, Live}
+use Rattle.trie_lanes.proofs.LaneRows.{all-stay, all-on, all-twice}
+use Rattle.trie_lanes.proofs.descend.Statement.{statement}
+use Rattle.trie_lanes.proofs.descend.Tie as tie
 
 abbrev Inv-loop : tie.InvT-loop
 Inv-loop w b n lanes₀ e live₀ k₀ t₀ lanes live k t = AllGo w b n e lanes₀ lanes × Live e k live

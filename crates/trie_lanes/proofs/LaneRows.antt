@@ -7,9 +7,9 @@ use native.Mathlib.Decide.{ℕ-discrete}
 use native.Mathlib.Omega.{arith}
 use lib.ListN.{length, getD, set, length-set}
 use lib.Seq.{getD-set-same, getD-set-other}
-use Rattle.lookup_many.specs.Lanes.{On, Goes, laneAt, keepAt, Wide, AllOn, AllGo, Moved, Live}
-use Rattle.lookup_many.specs.declared.lanes.Lane.{Lane}
-use Rattle.lookup_many.proofs.Going.{goes-stay, goes-twice}
+use Rattle.trie_lanes.specs.Lanes.{On, Goes, laneAt, keepAt, Wide, AllOn, AllGo, Moved, Live}
+use Rattle.trie_lanes.specs.declared.Lane.{Lane}
+use Rattle.trie_lanes.proofs.Going.{goes-stay, goes-twice}
 
 -- Of three stores behind each other: what is read elsewhere, and there.
 module _ (xs : List ℕ) (i j k x y z : ℕ) where

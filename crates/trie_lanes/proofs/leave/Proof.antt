@@ -1,8 +1,8 @@
--- `lanes::leave` meets its contract: the row is as it was, or one entry shorter. Assumes nothing.
+-- `leave` meets its contract: the row is as it was, or one entry shorter. Assumes nothing.
 use borrow.Author.Needs.{needs}
-use Rattle.lookup_many.proofs.LaneRows.{live-leave}
-use Rattle.lookup_many.proofs.lanes.leave.Statement.{statement}
-use Rattle.lookup_many.proofs.lanes.leave.Tie as tie
+use Rattle.trie_lanes.proofs.LaneRows.{live-leave}
+use Rattle.trie_lanes.proofs.leave.Statement.{statement}
+use Rattle.trie_lanes.proofs.leave.Tie as tie
 
 pub leave-spec : {M : Type 1} → statement M
 leave-spec =

@@ -1,13 +1,13 @@
--- `lanes::round` meets its contract. The loop's invariant: the walks have gone on, and the row names walks. Assumes nothing.
+-- `round` meets its contract. The loop's invariant: the walks have gone on, and the row names walks. Assumes nothing.
 use mathlib.Core.Bool.{Bool, true, false, cond}
 use mathlib.Core.Path.{_≡_}
 use Prim.Native.Nat.{ℕ, _+_, _-_, _<_}
 use native.Mathlib.Omega.{arith}
 use borrow.Author.Needs.{needs}
-use Rattle.lookup_many.specs.Lanes.{AllGo, Live}
-use Rattle.lookup_many.proofs.LaneRows.{all-stay, all-moved}
-use Rattle.lookup_many.proofs.lanes.round.Statement.{statement}
-use Rattle.lookup_many.proofs.lanes.round.Tie as tie
+use Rattle.trie_lanes.specs.Lanes.{AllGo, Live}
+use Rattle.trie_lanes.proofs.LaneRows.{all-stay, all-moved}
+use Rattle.trie_lanes.proofs.round.Statement.{statement}
+use Rattle.trie_lanes.proofs.round.Tie as tie
 
 abbrev Inv-loop : tie.InvT-loop
 Inv-loop w b n lanes₀ e live₀ count k₀ j₀ lanes live k j = AllGo w b n e lanes₀ lanes × Live e k live

@@ -1,13 +1,13 @@
--- `lanes::step` meets its contract: the walk stays, or it goes one node on. Assumes nothing.
+-- `step` meets its contract: the walk stays, or it goes one node on. Assumes nothing.
 use mathlib.Core.Path.{refl, sym, ap, _∙_}
 use native.Mathlib.Omega.{arith}
 use borrow.Author.Needs.{needs}
 use denote.Ref.{now}
 use lib.ListN.{getD}
 use Rattle.nets.specs.Networks.{nextAs, nextOf}
-use Rattle.lookup_many.proofs.Going.{goes-stay, Steps, goes-step}
-use Rattle.lookup_many.proofs.lanes.step.Statement.{statement}
-use Rattle.lookup_many.proofs.lanes.step.Tie as tie
+use Rattle.trie_lanes.proofs.Going.{goes-stay, Steps, goes-step}
+use Rattle.trie_lanes.proofs.step.Statement.{statement}
+use Rattle.trie_lanes.proofs.step.Tie as tie
 
 steps : (c : tie.Else2) →
     let t = c .before .before in
