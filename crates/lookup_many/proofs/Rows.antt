@@ -1,4 +1,4 @@
--- Rows of numbers that are filled one by one or four at a time; and a length that no network has, cut to a byte. Assumes nothing.
+-- Rows of numbers that are filled one by one or in blocks; and a length that no network has, cut to a byte. Assumes nothing.
 use mathlib.Core.Bool.{Bool, true, false, cond}
 use mathlib.Core.List.{List, [], _∷_, _++_}
 use mathlib.Core.Path.{_≡_, refl, ap, sym, _∙_}
@@ -65,9 +65,9 @@ pub record FilledTo (g : ℕ → ℕ) (m : ℕ) (v u : List ℕ) (i : ℕ) : Typ
   pub is : u ≡ put v 0 (fill g 0 i)
 
 module _ (g : ℕ → ℕ) (v : List ℕ) where
-  pub fill-none : v ≡ put v 0 (fill g 0 0)
+  pub fill-none : (i : ℕ) → v ≡ put v i (fill g i 0)
   unfolding fill
-  fill-none = sym (put-nil v 0)
+  fill-none i = sym (put-nil v i)
 
   pub whole-row : (m d : ℕ) (u t : List ℕ) → d ≤ m → u ≡ put v 0 (fill g 0 d) → t ≡ put u d (fill g d (m - d)) → t ≡ put v 0 (fill g 0 m)
   whole-row m d u t le e f =
@@ -76,14 +76,14 @@ module _ (g : ℕ → ℕ) (v : List ℕ) where
 
   module _ (m : ℕ) where
     pub filled-start : FilledTo g m v v 0
-    filled-start = record { le = omega arith; same = refl; is = fill-none }
+    filled-start = record { le = omega arith; same = refl; is = fill-none 0 }
 
-    pub filled-next : (u t : List ℕ) (i : ℕ) → FilledTo g m v u i → i + 4 ≤ m → t ≡ put u i (fill g i 4) → FilledTo g m v t (i + 4)
-    filled-next u t i h le e =
-        let f : t ≡ put v 0 (fill g 0 (i + 4)) = e ∙ ap (λ y. put y i (fill g i 4)) (h .is) ∙ put-fill g v 0 i 4 i (sym (zero-add i)) in
-        record { le = le; same = ap length f ∙ length-put v 0 (fill g 0 (i + 4)); is = f }
+    pub filled-next : (u t : List ℕ) (i k : ℕ) → FilledTo g m v u i → i + k ≤ m → t ≡ put u i (fill g i k) → FilledTo g m v t (i + k)
+    filled-next u t i k h le e =
+        let f : t ≡ put v 0 (fill g 0 (i + k)) = e ∙ ap (λ y. put y i (fill g i k)) (h .is) ∙ put-fill g v 0 i k i (sym (zero-add i)) in
+        record { le = le; same = ap length f ∙ length-put v 0 (fill g 0 (i + k)); is = f }
 
--- One number, and four written behind each other.
+-- One number, and numbers written behind each other.
 module _ (g : ℕ → ℕ) (v : List ℕ) (i : ℕ) where
   pub fill-one : (x : ℕ) → x ≡ g i → set v i x ≡ put v i (fill g i 1)
   unfolding fill
@@ -91,10 +91,6 @@ module _ (g : ℕ → ℕ) (v : List ℕ) (i : ℕ) where
 
   pub fill-two : (m k : ℕ) (u t : List ℕ) → u ≡ put v i (fill g i m) → t ≡ put u (i + m) (fill g (i + m) k) → t ≡ put v i (fill g i (m + k))
   fill-two m k u t e f = f ∙ ap (λ y. put y (i + m) (fill g (i + m) k)) e ∙ put-fill g v i m k (i + m) refl
-
-  pub fill-four : (a b c d : List ℕ) → a ≡ put v i (fill g i 1) → b ≡ put a (i + 1) (fill g (i + 1) 1) → c ≡ put b (i + 2) (fill g (i + 2) 1) → d ≡ put c (i + 3) (fill g (i + 3) 1)
-      → d ≡ put v i (fill g i 4)
-  fill-four a b c d e f h k = fill-two 3 1 c d (fill-two 2 1 b c (fill-two 1 1 a b e f) h) k
 
 -- What is shown, in one number.
 module _ (n : Net) where

@@ -1,27 +1,29 @@
--- Walks side by side: where one stands, and what it is for it to go on.
+-- The walks of the queries of a call.
 --
---   clip, clipped        a length as a byte, and a query with it: 255 for any that is longer, which no network has
---   On b n l             the walk l stands at a node
---   Goes w b n l r       a walk at l may go on to r: from there the path shows what it shows from l
---   laneOf p q           the walk of the query q at its beginning;  fourOf: those of four queries of a row
---   rootIn w k, placeIn  the number of the root of set k, and the place of that node
---   Seat w b n k f       what the walks of one call share: the header, the first form, where the nodes stand, a set that is not indexed and whose root's number is a node's, and the pool's family
---   Fits qs i m v        the m queries from number i on are in the row, and the answers have a place for each
+--   clip, clipped         a length as a byte, and a query with it: 255 for any that is longer, which no network has
+--   firstOf k, second s   how many of k bits the first word of a query has, and the bits of the second
+--   laneOf p q            the walk of the query q at its beginning;  Started, Came: those of e queries in a row, there and further on
+--   rootIn w k, placeIn   the number of the root of set k, and the place of that node
+--   Seat w b n k f        what the walks of one call share: the header, the first form, where the nodes stand, a set that is not indexed and whose root's number is a node's, and the pool's family
+--   Ending                a walk has come to where the path shows what it shows from the root
+--   Fits qs i m v         the m queries from number i on are in the row, and the answers have a place for each
 use mathlib.Core.Bool.{true, cond}
-use mathlib.Core.List.{List}
+use mathlib.Core.List.{List, _++_}
 use mathlib.Core.Path.{_≡_}
 use Prim.Native.Nat.{ℕ, _+_, _-_, _/_, _≤_, _<_}
 use lib.Dec.{ltb}
 use lib.ListN.{length, getD}
-use Rattle.nets.specs.Networks.{withLen, refusalOf, bitsLeft, startOf, noBits}
+use Rattle.nets.specs.Networks.{withLen, refusalOf, bitsLeft, bitsWords, startOf, noBits}
 use Rattle.nets.specs.Refusals.{answered}
 use Rattle.nets.specs.declared.Net.{Net}
+use Rattle.nets.specs.declared.PrefixBits.{PrefixBits}
 use Rattle.pool_state.specs.Decode.{recordAt, base, isHeader}
 use Rattle.pool_state.specs.Rules.{tagIn}
 use Rattle.trie_lookup.specs.Walks.{walk}
+use Rattle.lookup.specs.Rules.{query}
 use Rattle.lookup_many.specs.Rules.{queryAt}
-use Rattle.lookup_many.specs.declared.lanes.Lane.{Lane}
-use Rattle.lookup_many.specs.declared.lanes.Four.{Four}
+use Rattle.trie_lanes.specs.Lanes.{comes, On, Goes, laneAt, Wide}
+use Rattle.trie_lanes.specs.declared.Lane.{Lane}
 
 abbrev pub clip : ℕ → ℕ
 clip k = cond (ltb k 255) k 255
@@ -29,49 +31,36 @@ clip k = cond (ltb k 255) k 255
 abbrev pub clipped : Net → Net
 clipped q = withLen q (clip (q .len))
 
-pub record On (b n : ℕ) (l : Lane) : Type 0 where
-  pub low : b ≤ l .p
-  pub within : l .p < b + n
-  pub few : l .bits .len ≤ 128
+-- how many bits of a query the first word has, and the bits of the second word
+abbrev pub firstOf : ℕ → ℕ
+firstOf k = cond (ltb k 64) k 64
 
-pub record Goes (w : List ℕ) (b n : ℕ) (l r : Lane) : Type 0 where
-  pub on : On b n r
-  pub less : r .bits .len ≤ l .bits .len
-  pub shows : (d : ℕ) → l .bits .len + d ≤ 128
-      → walk w b n d (l .p + 1 - b) (bitsLeft (l .bits)) ≡ walk w b n (d + (l .bits .len - r .bits .len)) (r .p + 1 - b) (bitsLeft (r .bits))
+abbrev pub second : PrefixBits → PrefixBits
+second s = bitsWords (s .lo) 0 (s .len - firstOf (s .len))
 
-pub record FourOn (o n : ℕ) (f : Four) : Type 0 where
-  pub a : On o n (f .a)
-  pub b : On o n (f .b)
-  pub c : On o n (f .c)
-  pub d : On o n (f .d)
-
-pub record FourGo (w : List ℕ) (o n : ℕ) (f g : Four) : Type 0 where
-  pub a : Goes w o n (f .a) (g .a)
-  pub b : Goes w o n (f .b) (g .b)
-  pub c : Goes w o n (f .c) (g .c)
-  pub d : Goes w o n (f .d) (g .d)
-
--- how many bits four walks have left
-abbrev pub leftOf : Four → ℕ
-leftOf f = f .a .bits .len + f .b .bits .len + f .c .bits .len + f .d .bits .len
+-- by the bits s of a query, and by the query
+abbrev pub laneBy : ℕ → PrefixBits → Lane
+laneBy p s = record { p = p; word = s .hi; left = firstOf (s .len) }
 
 unfoldable pub laneOf : ℕ → Net → Lane
-laneOf p q = record { p = p; bits = answered (refusalOf q) noBits (startOf q) .1 }
+laneOf p q = laneBy p (answered (refusalOf q) noBits (startOf q) .1)
 
-unfoldable pub fourOf : ℕ → ℕ → List ℕ → ℕ → Four
-fourOf p f qs i = record {
-  a = laneOf p (clipped (queryAt f qs i));
-  b = laneOf p (clipped (queryAt f qs (i + 1)));
-  c = laneOf p (clipped (queryAt f qs (i + 2)));
-  d = laneOf p (clipped (queryAt f qs (i + 3)));
-}
+-- the first e walks of a row stand at the beginning of the queries from number i on
+pub record Started (p f : ℕ) (qs : List ℕ) (i e : ℕ) (xs : List ℕ) : Type 0 where
+  pub wide : Wide xs
+  pub each : (a : ℕ) → a < e → laneAt xs a ≡ laneOf p (clipped (queryAt f qs (i + a)))
 
 abbrev pub rootIn : List ℕ → ℕ → ℕ
 rootIn w k = getD w (recordAt k) 0
 
 abbrev pub placeIn : List ℕ → ℕ → ℕ → ℕ
 placeIn w b k = b + (rootIn w k - 1)
+
+-- and have come from there to where the row says
+pub record Came (w : List ℕ) (b n p f : ℕ) (qs : List ℕ) (i e : ℕ) (xs : List ℕ) : Type 0 where
+  pub wide : Wide xs
+  pub few : e ≤ 32
+  pub each : (a : ℕ) → a < e → Goes w b n (laneOf p (clipped (queryAt f qs (i + a)))) (laneAt xs a)
 
 pub record Seat (w : List ℕ) (b n k f : ℕ) : Type 0 where
   pub header : isHeader w ≡ true
@@ -83,6 +72,13 @@ pub record Seat (w : List ℕ) (b n k f : ℕ) : Type 0 where
   pub one : 1 ≤ rootIn w k
   pub within : rootIn w k ≤ n
   pub family : f ≡ getD w 1 0
+
+-- a walk of the query q, of the bits s, has come to l: from there the path shows what it shows from the root
+pub record Ending (w : List ℕ) (b n k : ℕ) (q : Net) (s : PrefixBits) (l : Lane) : Type 0 where
+  pub on : On b n l
+  pub few : s .len ≤ 128
+  pub less : l .left ≤ firstOf (s .len)
+  pub shows : walk w b n (firstOf (s .len) - l .left) (l .p + 1 - b) (comes l ++ bitsLeft (second s)) ≡ query w k q
 
 pub record Fits (qs : List ℕ) (i m : ℕ) (v : List ℕ) : Type 0 where
   pub queries : i + m ≤ length qs / 3

@@ -1,15 +1,14 @@
 // Many lookups in one call: whether a member of a set contains each query of a row. It reads what contains reads for each of them, and no more; walks go down
 // side by side, so that one does not wait for the memory of another.
 use asking::one_by_one;
-use fours::by_fours;
+use blocks::by_blocks;
 use lookup::walking::root;
 use nets::Refusal;
 use pool_state::Answer;
 ghost use Rattle.lookup_many.specs.Rules.{ContainsAll};
 
 mod asking;
-mod fours;
-mod lanes;
+mod blocks;
 
 // Writes for each query of a row what contains answers, in one number. A query is three numbers, as list writes them: high word, low word, length; the family is that
 // of all of them. What is left of the row behind its whole queries is not read, entries of the answers past them keep what they had, and a refusal writes nothing.
@@ -32,7 +31,7 @@ pub fn contains_all(
             if answers.len() < queries.len() / 3 {
                 return Answer::Refused(Refusal::ShortBuffer);
             }
-            let done = by_fours(pool, set, family, queries, answers);
+            let done = by_blocks(pool, set, family, queries, answers);
             one_by_one(pool, set, family, queries, done, answers);
             Answer::Granted(0)
         }

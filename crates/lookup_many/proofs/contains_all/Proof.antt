@@ -34,19 +34,19 @@ contains-all-spec =
     let g = f .before .before in
     let q = g .before .before .before in
     let r = q .before .before .root .ensures in
-    let h = f .by-fours .ensures in
+    let h = f .by-blocks .ensures in
     (root-header _ _ _ r _ (q .enum-told .given .1), root-known _ _ _ r _ (q .enum-told .given .1), h .0, rw (ap length (h .1) ∙ length-put _ _ _) (g .if2 .left)))
     (λ c. all-refused _ _ _ _ _ _ (c .before .before .before .root .ensures) _ (c .before .a .given .1))
     (λ c.
     let o = c .before .before in
     let f = o .before .before .before .before in
-    let h = f .by-fours .ensures in
+    let h = f .by-blocks .ensures in
     ap length (whole-row _ _ _ _ _ _ (h .0) (h .1) (o .one-by-one .ensures)) ∙ length-put _ _ _)
     (λ c.
     let o = c .before .before in
     let f = o .before .before .before .before in
     let g = f .before .before in
     let q = g .before .before .before in
-    let h = f .by-fours .ensures in
+    let h = f .by-blocks .ensures in
     all-granted _ _ _ _ _ _ (q .before .before .root .ensures) _ (q .enum-told .given .1) (g .before .if1 .left) (g .if2 .left)
     (whole-row _ _ _ _ _ _ (h .0) (h .1) (o .one-by-one .ensures))))

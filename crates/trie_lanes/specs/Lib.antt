@@ -1,0 +1,2 @@
+-- Walks side by side.
+pub mod Lanes
