@@ -9,7 +9,7 @@ use calls_bytes::records::{REPLY, call_at, put_reply};
 use calls_kinds::places::{GOES, START, past, stop_at};
 
 // A run that has ended: why, how many calls were done, and how many bytes their answers have.
-#[derive(Drop)]
+#[derive(Clone, Copy)]
 pub struct Ended {
     pub why: u8,
     pub done: u64,

@@ -7,7 +7,7 @@ pub mod table;
 pub mod tails;
 
 // The fixed part of a call; tail is how many bytes follow it.
-#[derive(Drop)]
+#[derive(Clone, Copy)]
 pub struct Call {
     pub code: u8,
     pub a: u32,
@@ -18,7 +18,7 @@ pub struct Call {
 }
 
 // The fixed part of an answer.
-#[derive(Drop)]
+#[derive(Clone, Copy)]
 pub struct Reply {
     pub no: u8,
     pub flag: bool,

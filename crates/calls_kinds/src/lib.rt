@@ -7,7 +7,7 @@ use calls_bytes::{Call, table};
 pub mod places;
 
 // Each kind is answered by one function: that of a group of calls, or of a call by itself.
-#[derive(Drop)]
+#[derive(Clone, Copy)]
 pub enum Kind {
     Layout,
     Report,
@@ -26,7 +26,7 @@ pub enum Kind {
 }
 
 // What a call asks for: bytes for the tail of its answer, and rows.
-#[derive(Drop)]
+#[derive(Clone, Copy)]
 pub struct Asks {
     pub known: bool,
     pub bytes: usize,

@@ -20,7 +20,7 @@ const ROWS: u8 = 4;
 pub const GOES: u8 = 5;
 
 // The next call begins at `at`, its answer at `to`, and so many calls are done.
-#[derive(Drop)]
+#[derive(Clone, Copy)]
 pub struct Place {
     pub at: usize,
     pub to: usize,

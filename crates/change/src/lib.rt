@@ -13,7 +13,7 @@ use pool_check::seats::seat_of;
 use pool_state::{Seated, Verdict};
 
 // What add and remove answer: the nodes of the set, and whether a set bit past the network's length was cut.
-#[derive(Drop)]
+#[derive(Clone, Copy)]
 pub enum Noted {
     Granted(u32, bool),
     Refused(Refusal),

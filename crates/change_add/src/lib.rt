@@ -14,7 +14,7 @@ use pool_sets::claims::claim_at;
 use pool_state::{Survey, Verdict};
 
 // The network is added, with what a pass over the pool finds now; or it is refused, and nothing changed.
-#[derive(Drop)]
+#[derive(Clone, Copy)]
 pub enum Grown {
     Grew(Survey),
     Refused(Refusal),

@@ -7,7 +7,7 @@ use pool_check::seats::seat_of;
 use pool_state::{Seated, Survey};
 
 // A call goes on with what a pass over the pool found and the bits of the network, or it is refused.
-#[derive(Drop)]
+#[derive(Clone, Copy)]
 pub enum Asked {
     Go(Survey, PrefixBits),
     Refused(Refusal),

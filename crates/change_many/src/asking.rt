@@ -13,14 +13,14 @@ use ranges::addresses::Address;
 use setfile_order::{Checked, check};
 
 // A file that can be poured: what a pass over the pool found, and the family of the file. Or the refusal.
-#[derive(Drop)]
+#[derive(Clone, Copy)]
 pub enum AskedFile {
     File(Survey, u8),
     Refused(Refusal),
 }
 
 // A range that can be added: what a pass over the pool found. Or the refusal.
-#[derive(Drop)]
+#[derive(Clone, Copy)]
 pub enum AskedSpan {
     Range(Survey),
     Refused(Refusal),

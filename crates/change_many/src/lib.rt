@@ -15,7 +15,7 @@ mod by_form;
 mod pouring;
 
 // A range of addresses of a family, from its first to its last.
-#[derive(Drop)]
+#[derive(Clone, Copy)]
 pub struct Span {
     pub family: u8,
     pub first: Address,

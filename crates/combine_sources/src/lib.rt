@@ -20,14 +20,14 @@ pub const EXCLUDE: usize = 2;
 pub const EXCLUDE_APART: usize = 3;
 
 // The destination of a combination, which is empty: what a pass over the pool found for it. Or the refusal.
-#[derive(Drop)]
+#[derive(Clone, Copy)]
 pub enum Destination {
     Empty(Survey),
     Refused(Refusal),
 }
 
 // What a combination reads: the nodes from the word `base` on, the roots of its sources, 0 where one is empty, the nodes of the first and those of the other, and the levels that a trie may have.
-#[derive(Drop)]
+#[derive(Clone, Copy)]
 pub struct Sources {
     pub base: usize,
     pub first: usize,

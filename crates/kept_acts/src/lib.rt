@@ -38,7 +38,7 @@ pub fn flat(
 
 // Below a new branch point, in the place of the trie from node i up to node e: where that trie begins, where a network beside it stands, on the side of the bit,
 // and the distance to the first half of the two.
-#[derive(Drop)]
+#[derive(Clone, Copy)]
 struct Sides {
     trie: usize,
     alone: usize,

@@ -20,7 +20,7 @@ use setfile_order::flowing::advance;
 mod branches;
 
 // Where what is written begins, and the head behind what was read.
-#[derive(Drop)]
+#[derive(Clone, Copy)]
 pub struct Built {
     pub start: usize,
     pub head: Head,
@@ -59,7 +59,7 @@ pub fn grow(
 }
 
 // How many nodes, and the head behind what was read.
-#[derive(Drop)]
+#[derive(Clone, Copy)]
 pub struct Tallied {
     pub nodes: usize,
     pub head: Head,

@@ -18,7 +18,7 @@ use setfile_passes::counting::count;
 use setfile_passes::cutting::Poured;
 
 // Whether anything is left, and the head behind what was read.
-#[derive(Drop)]
+#[derive(Clone, Copy)]
 pub struct Marked {
     pub rest: bool,
     pub head: Head,

@@ -13,7 +13,7 @@ use kept_writing::write_node;
 use nets::Net;
 
 // What was written of a trie: nothing, as it is empty; nothing, as it is a single leaf; or that many nodes.
-#[derive(Drop)]
+#[derive(Clone, Copy)]
 pub enum Emitted {
     Empty,
     Full,

@@ -10,7 +10,7 @@ use kept_reading::strings::{bit_at, leads};
 use nets::Net;
 
 // What a path shows: a member of that length, or nothing, each with how many nodes read lead the query; or damage.
-#[derive(Drop)]
+#[derive(Clone, Copy)]
 pub enum Shown {
     Member(u8, u8),
     Nothing(u8),

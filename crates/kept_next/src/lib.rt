@@ -19,7 +19,7 @@ use trie_next::following::Next;
 mod lanes;
 
 // The nearest network so far, if there is any.
-#[derive(Drop)]
+#[derive(Clone, Copy)]
 pub struct Best {
     pub some: bool,
     pub net: Net,

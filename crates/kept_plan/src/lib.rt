@@ -13,7 +13,7 @@ use nets::Net;
 // All stays. All becomes the network or nothing. A member gives way to the blocks beside the network. The network comes to stand beside what is there, on the
 // side of the bit. The half on that side goes, with the branch point over it, whose first half begins at that node. Or that half is gone into: where the
 // second begins, or would, and where the first.
-#[derive(Drop)]
+#[derive(Clone, Copy)]
 pub enum Plan {
     Stay,
     Flat,
@@ -24,7 +24,7 @@ pub enum Plan {
 }
 
 // A half: its first node and its end.
-#[derive(Drop)]
+#[derive(Clone, Copy)]
 pub struct Half {
     pub from: usize,
     pub to: usize,

@@ -14,7 +14,7 @@ use nets::Net;
 
 // What is found of a trie: all of it becomes full or empty; it is empty, and becomes the networks that come into it; or its halves are gone into, the second
 // from a node up to where the first begins, and that up to its end.
-#[derive(Drop)]
+#[derive(Clone, Copy)]
 pub enum Turn {
     Settled,
     Fresh,

@@ -92,7 +92,7 @@ fn block(w: &mut [u32], family: u8, b: usize, i: usize, o: usize, k: usize)
 }
 
 // A branch point: its string, the node where its first half begins, and the string of the first node of its second half.
-#[derive(Drop)]
+#[derive(Clone, Copy)]
 struct Fork {
     path: Net,
     middle: usize,

@@ -9,7 +9,7 @@ use kept_reading::reading::{head, net_at};
 use kept_reading::strings::bit_at;
 
 // Nothing, a member, or two halves: the node where the second begins, or would, and the node where the first begins, or would.
-#[derive(Drop)]
+#[derive(Clone, Copy)]
 pub enum View {
     Nothing,
     Leaf,

@@ -9,7 +9,7 @@ pub const KEPT: usize = 50;
 
 // The line that is being read: its bytes so far, how many, its number from 1 on; how many lines before it were trimmed, a set bit past the length being cut; and the
 // refusal that ended the reading, or 0.
-#[derive(Drop)]
+#[derive(Clone, Copy)]
 pub struct Reader {
     pub line: [u8; KEPT],
     pub len: usize,

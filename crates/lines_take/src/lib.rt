@@ -9,14 +9,14 @@ use nets::Entered;
 use pool_state::Survey;
 
 // A reading under way: the reader, and what a pass over the pool finds as it is now. One pass at the start of a call serves all its lines.
-#[derive(Drop)]
+#[derive(Clone, Copy)]
 pub struct Going {
     pub reader: Reader,
     pub found: Survey,
 }
 
 // What became of a line: its refusal, or 0, whether a set bit was cut, and what a pass over the pool finds then.
-#[derive(Drop)]
+#[derive(Clone, Copy)]
 pub struct Took {
     pub no: u8,
     pub cut: bool,

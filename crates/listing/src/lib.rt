@@ -15,14 +15,14 @@ mod places;
 pub mod seated;
 
 // From the first network on, or behind a network, which need not be listed.
-#[derive(Drop)]
+#[derive(Clone, Copy)]
 pub enum From {
     Start,
     Past(Net),
 }
 
 // What next answers.
-#[derive(Drop)]
+#[derive(Clone, Copy)]
 pub enum Follower {
     Network(Net),
     End,

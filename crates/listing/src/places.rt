@@ -6,7 +6,7 @@ use nets::{Entered, Refusal};
 use nodes::seats::Seat;
 use trie_spots::spots::{Spot, before_all};
 
-#[derive(Drop)]
+#[derive(Clone, Copy)]
 pub enum Placed {
     At(Spot),
     Refused(Refusal),

@@ -11,7 +11,7 @@ use trie_lookup::standing::{head, stand_on};
 use trie_lookup::{Shown, walk_from};
 
 // Where the nodes of the pool begin, how many there are, and the root of a set.
-#[derive(Drop)]
+#[derive(Clone, Copy)]
 pub struct Ground {
     pub b: usize,
     pub n: u32,

@@ -14,7 +14,7 @@ mod second;
 pub mod walking;
 
 // What supernet answers: the member that contains the query, or that there is none; how many nodes were read; and whether a set bit past the query's length was cut.
-#[derive(Drop)]
+#[derive(Clone, Copy)]
 pub enum Covering {
     Member(Net, u8, bool),
     Nothing(u8, bool),
@@ -22,7 +22,7 @@ pub enum Covering {
 }
 
 // What contains answers: whether there is such a member, how many nodes were read, and whether a bit was cut.
-#[derive(Drop)]
+#[derive(Clone, Copy)]
 pub enum Contained {
     Is(bool, u8, bool),
     Refused(Refusal),

@@ -19,7 +19,7 @@ pub fn list(pool: &[u32], set: u32, nets: &mut [Net]) -> Answer
 }
 
 // What a listing into a page of 16 entries answers, and the page.
-#[derive(Drop)]
+#[derive(Clone, Copy)]
 pub struct Page {
     pub answer: Answer,
     pub nets: [Net; 16],

@@ -11,7 +11,7 @@ use pool_state::{Answer, Seated};
 use trie_spots::spots::{Spot, before_all, nowhere};
 
 // How far the listing has come, the entry of the network that it is at, and what it will answer.
-#[derive(Drop)]
+#[derive(Clone, Copy)]
 pub struct Turn {
     pub spot: Spot,
     pub at: usize,

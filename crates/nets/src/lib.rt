@@ -12,7 +12,7 @@ mod words;
 pub use words::has_bit_past;
 
 // The refusals of the table, by name.
-#[derive(Drop)]
+#[derive(Clone, Copy)]
 pub enum Refusal {
     BadSetup,
     Damaged,
@@ -61,7 +61,7 @@ pub const IPV4: u8 = 4;
 pub const IPV6: u8 = 6;
 
 // A family, an address in two words, and a length. An IPv4 address is below 2^32, in the low word.
-#[derive(Drop)]
+#[derive(Clone, Copy)]
 pub struct Net {
     pub family: u8,
     pub hi: u64,
@@ -70,21 +70,21 @@ pub struct Net {
 }
 
 // A network, or why there is none.
-#[derive(Drop)]
+#[derive(Clone, Copy)]
 pub enum Taken {
     Network(Net),
     Refused(Refusal),
 }
 
 // A network taken in, its bits past the length cleared, and whether one of them was set; or why there is none.
-#[derive(Drop)]
+#[derive(Clone, Copy)]
 pub enum Entered {
     Network(Net, bool),
     Refused(Refusal),
 }
 
 // The bits of a network that are still to come, the first of them the highest of the two words.
-#[derive(Drop)]
+#[derive(Clone, Copy)]
 pub struct PrefixBits {
     pub hi: u64,
     pub lo: u64,
@@ -92,14 +92,14 @@ pub struct PrefixBits {
 }
 
 // The bits of a network, or why there are none.
-#[derive(Drop)]
+#[derive(Clone, Copy)]
 pub enum Prefix {
     Bits(PrefixBits),
     Refused(Refusal),
 }
 
 // A bit, with the bits behind it, or the end.
-#[derive(Drop)]
+#[derive(Clone, Copy)]
 pub enum NextBit {
     Bit(bool, PrefixBits),
     End,

@@ -24,7 +24,7 @@ pub fn middle(x: usize, i: usize, e: usize) -> usize
 }
 
 // What is seen of a trie at its root: nothing, a leaf, or an inner node, with where its second child begins, or would.
-#[derive(Drop)]
+#[derive(Clone, Copy)]
 pub enum View {
     Nothing,
     Leaf,

@@ -10,7 +10,7 @@ use nets::{IPV4, Net};
 use std::num::wrapping_add_u64;
 
 // An address in two words; in family 4 the high word is 0.
-#[derive(Drop)]
+#[derive(Clone, Copy)]
 pub struct Address {
     pub hi: u64,
     pub lo: u64,

@@ -16,7 +16,7 @@ const HEAD: usize = 136;
 const FRAME: usize = 65536;
 
 // What came of a frame: whether there was one, how many calls were done, and whether all answers are those that were made.
-#[derive(Drop)]
+#[derive(Clone, Copy)]
 struct Replayed {
     more: bool,
     calls: u64,

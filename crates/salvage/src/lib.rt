@@ -10,7 +10,7 @@ mod tallying;
 mod writing;
 
 // What a salvage has done: the entries read, those of which a bit past the length was cleared, those dropped for their length, those dropped as covered by others, and the bytes written.
-#[derive(Drop)]
+#[derive(Clone, Copy)]
 pub struct Counts {
     pub read: u32,
     pub trimmed: u32,
@@ -20,7 +20,7 @@ pub struct Counts {
 }
 
 // The counts, or why there is no file.
-#[derive(Drop)]
+#[derive(Clone, Copy)]
 pub enum Salvaged {
     File(Counts),
     Refused(Refusal),

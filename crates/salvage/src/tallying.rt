@@ -10,7 +10,7 @@ use nets::{Net, has_bit_past};
 use setfile_entries::reading;
 
 // How many entries have a bit set past their length, and how many a length out of range.
-#[derive(Drop)]
+#[derive(Clone, Copy)]
 pub struct Strays {
     pub trimmed: u32,
     pub long: u32,

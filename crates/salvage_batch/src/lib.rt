@@ -7,21 +7,21 @@ pub mod order;
 pub mod squeezing;
 
 // The end of a network, behind which others are looked for, or no bound.
-#[derive(Drop)]
+#[derive(Clone, Copy)]
 pub struct Edge {
     pub set: bool,
     pub net: Net,
 }
 
 // How many entries are held, and the end behind which none is.
-#[derive(Drop)]
+#[derive(Clone, Copy)]
 pub struct Hold {
     pub count: usize,
     pub edge: Edge,
 }
 
 // How many networks a batch has, and whether there may be more behind it.
-#[derive(Drop)]
+#[derive(Clone, Copy)]
 pub struct Batch {
     pub count: usize,
     pub more: bool,

@@ -12,7 +12,7 @@ use setfile_put::writing::put_at;
 use setfile_sort::sorting::sort;
 
 // How many entries are kept, and the last of them.
-#[derive(Drop)]
+#[derive(Clone, Copy)]
 struct Survivors {
     count: usize,
     last: Net,

@@ -17,7 +17,7 @@ pub const ROOM: usize = 4096;
 pub const BYTES: usize = 69648;
 
 // How many networks are counted, the end of the last, and whether there may be more behind it.
-#[derive(Drop)]
+#[derive(Clone, Copy)]
 struct Tail {
     count: usize,
     after: Edge,

@@ -21,7 +21,7 @@ use setfile_entries::reading::number;
 use setfile_order::{Checked, check};
 
 // A file that can be loaded: what a pass over the pool found for its set, the family of the file and the nodes that its list takes. Or the refusal.
-#[derive(Drop)]
+#[derive(Clone, Copy)]
 pub enum Loadable {
     File(Survey, u8, u32),
     Refused(Refusal),

@@ -14,7 +14,7 @@ use setfile_lanes::lanes::CURSORS;
 use setfile_order::{Head, flowing};
 
 // The file's family, its next network, the length of the path, and whether that network is below the path.
-#[derive(Drop)]
+#[derive(Clone, Copy)]
 pub struct Below {
     pub family: u8,
     pub head: Head,

@@ -4,7 +4,7 @@
 pub const ROOM: usize = 192;
 
 // How far the row is read: whether in the quotes, how many digits, and the last two of them.
-#[derive(Drop)]
+#[derive(Clone, Copy)]
 struct Digits {
     inside: bool,
     count: usize,

@@ -15,7 +15,7 @@ use setfile_sides::sides::{Side, begin, pass};
 use setfile_sides::words::{Address, less};
 
 // Both are at their end; only this file holds this address, the next that any of them holds; or both hold the addresses up to this one.
-#[derive(Drop)]
+#[derive(Clone, Copy)]
 pub enum Meet {
     Over,
     Differ(Holder, Address),

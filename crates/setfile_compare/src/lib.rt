@@ -10,14 +10,14 @@ use setfile_order::{Checked, check};
 mod abreast;
 
 // One of the two files.
-#[derive(Drop)]
+#[derive(Clone, Copy)]
 pub enum Holder {
     First,
     Second,
 }
 
 // They differ, at this address first, which this file holds; they cover the same, and the second is longer than it need be; or it is the shortest.
-#[derive(Drop)]
+#[derive(Clone, Copy)]
 pub enum Compared {
     Differs(Holder, Net),
     Longer,

@@ -13,14 +13,14 @@ pub mod flowing;
 mod heads;
 
 // The next network, and one more than the leading bits that it shares with the one before it; 0 where there is none.
-#[derive(Drop)]
+#[derive(Clone, Copy)]
 pub struct Head {
     pub deep: usize,
     pub net: Net,
 }
 
 // A file's family and the nodes of its list.
-#[derive(Drop)]
+#[derive(Clone, Copy)]
 pub enum Checked {
     Broken,
     File(u8, u32),

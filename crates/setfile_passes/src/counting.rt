@@ -12,7 +12,7 @@ use setfile_order::Head;
 use trie_pour::{Turn, flat_size, glued_size, nodes_of, step};
 
 // How many nodes, and the head behind what was read.
-#[derive(Drop)]
+#[derive(Clone, Copy)]
 pub struct Counted {
     pub nodes: usize,
     pub head: Head,

@@ -14,7 +14,7 @@ use setfile_order::Head;
 use trie_pour::{close, flat, keep, middle};
 
 // Where what is written ends, and the head behind what was read.
-#[derive(Drop)]
+#[derive(Clone, Copy)]
 pub struct Poured {
     pub end: usize,
     pub head: Head,

@@ -12,7 +12,7 @@ use ranges::addresses::{Address, after};
 use trie_paths::halves;
 
 // An edge: whether there is one, the network of the bits that are done, and the bits that are still to come.
-#[derive(Drop)]
+#[derive(Clone, Copy)]
 pub struct Edge {
     pub there: bool,
     pub path: Net,

@@ -17,7 +17,7 @@ use setfile_order::flowing::{advance, open};
 
 // A file that has come to a network, of which the addresses up to `from` are compared, and whose last one is `last`; and whether no two networks so far were
 // the halves of one block.
-#[derive(Drop)]
+#[derive(Clone, Copy)]
 pub struct Side {
     pub head: Head,
     pub from: Address,

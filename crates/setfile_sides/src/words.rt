@@ -8,7 +8,7 @@ use nets::families::width;
 use nets::lengths::less_by;
 
 // An address. Those of 32 bits stand in the low word.
-#[derive(Drop)]
+#[derive(Clone, Copy)]
 pub struct Address {
     pub hi: u64,
     pub lo: u64,

@@ -9,7 +9,7 @@ use pool_state::{Answer, Report};
 
 // What a call answers, as the first two words behind the sign =: numbers, the name `refused` and its number, or a network. Of add and
 // remove the second is the name `cut` where a set bit past the length was cut.
-#[derive(Drop)]
+#[derive(Clone, Copy)]
 pub struct Got {
     pub first: Word,
     pub second: Word,

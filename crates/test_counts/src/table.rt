@@ -16,7 +16,7 @@ pub const NUMBER: u8 = 0;
 
 pub const NAME: u8 = 1;
 
-#[derive(Drop)]
+#[derive(Clone, Copy)]
 pub struct Word {
     pub form: u8,
     pub hi: u64,
@@ -25,7 +25,7 @@ pub struct Word {
 
 // The word that is being read: how many words come before the one that is wanted, and whether that one has ended; what is known of it, and its last
 // group of digits read both ways.
-#[derive(Drop)]
+#[derive(Clone, Copy)]
 struct Part {
     before: usize,
     ended: bool,
@@ -177,7 +177,7 @@ pub fn word_at(row: &[u8], place: usize) -> Word {
 
 // Where a row stands: its first byte, its sign = or else its end, and its end; the byte that ends the text or the comment that is being read, and
 // whether the row is whole.
-#[derive(Drop)]
+#[derive(Clone, Copy)]
 pub struct Place {
     pub start: usize,
     pub sign: usize,
@@ -257,7 +257,7 @@ pub fn next(p: Place, c: u8, at: usize) -> Place {
 }
 
 // A row in a text: its first byte, its sign and its end, in order; or none.
-#[derive(Drop)]
+#[derive(Clone, Copy)]
 pub struct Row {
     pub whole: bool,
     pub start: usize,

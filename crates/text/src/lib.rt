@@ -9,7 +9,7 @@ use nets::{Entered, Net, Refusal, Taken};
 pub mod ipv4;
 
 // How many bytes were written, and whether a set bit past the length was cleared.
-#[derive(Drop)]
+#[derive(Clone, Copy)]
 pub enum Written {
     Bytes(u32, bool),
     Refused(Refusal),

@@ -21,7 +21,7 @@ fn quote_from(s: &[u8], from: usize) -> usize
 }
 
 // A text in quotes: its first byte, and the quote that ends it.
-#[derive(Drop)]
+#[derive(Clone, Copy)]
 struct Span {
     from: usize,
     to: usize,

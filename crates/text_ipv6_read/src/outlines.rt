@@ -11,7 +11,7 @@ use text_ipv6_runs::runs;
 use text_ipv6_runs::runs::Run;
 
 // The groups and how many; whether a double colon stands among them, and behind how many; and the place behind the address.
-#[derive(Drop)]
+#[derive(Clone, Copy)]
 pub struct Outline {
     pub groups: [u16; 8],
     pub count: usize,

@@ -12,7 +12,7 @@ use text_decimal::cursor::{Cursor, Read};
 use text_decimal::{cursor, decimal};
 
 // What stands at a place, and the place behind it.
-#[derive(Drop)]
+#[derive(Clone, Copy)]
 pub enum Found {
     Group(u16, usize),
     Quad(u32, usize),

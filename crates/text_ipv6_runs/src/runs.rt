@@ -7,7 +7,7 @@ use crate::pieces;
 use crate::pieces::Found;
 
 // The groups so far and how many, whether a quad ended them, whether a piece may follow, and where.
-#[derive(Drop)]
+#[derive(Clone, Copy)]
 pub struct Run {
     pub groups: [u16; 8],
     pub count: usize,

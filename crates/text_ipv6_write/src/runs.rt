@@ -7,7 +7,7 @@ ghost use Rattle.text_ipv6_write.specs.Runs.{run_of};
 pub const SHORTEST: usize = 2;
 
 // Where a run begins, and how many groups it has.
-#[derive(Drop)]
+#[derive(Clone, Copy)]
 pub struct Run {
     pub at: usize,
     pub count: usize,

@@ -5,7 +5,7 @@ use crate::opening::open_source;
 use crate::saying::{say_failed, say_long};
 
 // How many bytes the file has; or it is not read, and standard error has said why.
-#[derive(Drop)]
+#[derive(Clone, Copy)]
 pub struct Source {
     pub whole: bool,
     pub bytes: usize,

@@ -7,7 +7,7 @@ const HEAD: usize = 50;
 
 // What became of the input: each line's network is added, and so many lines were trimmed, a set bit past the length being cut; or the number of the first refused
 // line, from 1 on, and its refusal; or it cannot be read.
-#[derive(Drop)]
+#[derive(Clone, Copy)]
 pub enum Input {
     Added(u64),
     Refused(u64, u8),
@@ -15,14 +15,14 @@ pub enum Input {
 }
 
 // The family of the first line, and what became of the input.
-#[derive(Drop)]
+#[derive(Clone, Copy)]
 pub struct Lines {
     pub family: u8,
     pub input: Input,
 }
 
 // Where the reading is after one more piece of the input: got is what the read answered.
-#[derive(Drop)]
+#[derive(Clone, Copy)]
 struct Turn {
     reader: Reader,
     got: isize,

@@ -99,7 +99,7 @@ pub fn piece(w: &[u32], b: usize, i: usize, second: bool) -> usize
 }
 
 // The numbers of the halves of two.
-#[derive(Drop)]
+#[derive(Clone, Copy)]
 pub struct Pair {
     pub a: usize,
     pub c: usize,

@@ -7,7 +7,7 @@ ghost use Rattle.trie_emit.specs.Answers.{answer, Emits, end_of, rest_of, is_ful
 use nodes::writing;
 
 // What was written of a trie: nothing, as it is empty; nothing, as it is a single leaf; or its nodes, up to an end.
-#[derive(Drop)]
+#[derive(Clone, Copy)]
 pub enum Emitted {
     Empty,
     Full,

@@ -18,7 +18,7 @@ pub const NUMBERS: usize = 96;
 const ROUNDS: usize = 33;
 
 // A walk by the first word of a query. It stands at place p of the pool's words; so many bits of the word are still to come, the first of them the highest.
-#[derive(Drop)]
+#[derive(Clone, Copy)]
 pub struct Lane {
     pub p: usize,
     pub word: u64,

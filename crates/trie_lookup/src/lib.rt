@@ -12,7 +12,7 @@ use trie_index::turn;
 pub mod standing;
 
 // What a path shows: a member of that length, or nothing, each with how many nodes were read; or why there is no answer.
-#[derive(Drop)]
+#[derive(Clone, Copy)]
 pub enum Shown {
     Member(u8, u8),
     Nothing(u8),

@@ -10,7 +10,7 @@ use nets::{NextBit, PrefixBits, Refusal};
 use nodes::reading::word_at;
 
 // The first eight bits of a query as a number, and the bits behind them.
-#[derive(Drop)]
+#[derive(Clone, Copy)]
 pub struct Opening {
     pub byte: usize,
     pub rest: PrefixBits,

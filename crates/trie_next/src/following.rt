@@ -13,13 +13,13 @@ use trie_list::lengths;
 use trie_paths::halves;
 
 // Before the first network, or behind the network with these bits, which need not be listed.
-#[derive(Drop)]
+#[derive(Clone, Copy)]
 pub enum Place {
     Start,
     Past(PrefixBits),
 }
 
-#[derive(Drop)]
+#[derive(Clone, Copy)]
 pub enum Next {
     Network(Net),
     End,

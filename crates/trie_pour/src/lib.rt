@@ -10,7 +10,7 @@ use nodes::steps::View;
 use nodes::{steps, writing};
 
 // What is found of a trie: all of it becomes full or empty, or its halves are gone into, of which the first stands up to where the second begins.
-#[derive(Drop)]
+#[derive(Clone, Copy)]
 pub enum Turn {
     Settled,
     Halves(usize, usize, usize),

@@ -3,7 +3,7 @@
 pub mod rows;
 
 // How many ranges were opened, and the address that would go on from the last of them; zero where there is none.
-#[derive(Drop)]
+#[derive(Clone, Copy)]
 pub struct Open {
     pub n: usize,
     pub hi: u64,

@@ -13,7 +13,7 @@ use nodes::steps::View;
 use nodes::{steps, writing};
 
 // The child on the side of a bit: its first node, its end, and how many nodes the other child has.
-#[derive(Drop)]
+#[derive(Clone, Copy)]
 struct Child {
     first: usize,
     end: usize,
@@ -21,7 +21,7 @@ struct Child {
 }
 
 // What a step down a path finds: nothing that stays, a full block of which a part stays, or a child to go on in with the bits left.
-#[derive(Drop)]
+#[derive(Clone, Copy)]
 enum Step {
     Nothing,
     Full,

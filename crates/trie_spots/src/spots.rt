@@ -10,7 +10,7 @@ use nodes::seats::Seat;
 use trie_next::following::{Next, Place, next_after};
 
 // Before the first network, at one, or behind the last: `more` says whether it is at a network, `begun` whether it has been at any, and `net` is the last one.
-#[derive(Drop)]
+#[derive(Clone, Copy)]
 pub struct Spot {
     pub seat: Seat,
     pub begun: bool,

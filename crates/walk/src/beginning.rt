@@ -8,7 +8,7 @@ use pool_state::Seated;
 use trie_spots::spots::{Spot, before_all, nowhere};
 
 // How far a walk has come, and its number of the table.
-#[derive(Drop)]
+#[derive(Clone, Copy)]
 pub struct Stage {
     pub spot: Spot,
     pub no: u8,

@@ -6,7 +6,7 @@ use listing::seated::go_on;
 use trie_spots::spots::Spot;
 
 // The pool, how far the walk has come, the set, and the number of the table: 0, or 2 or 3 where there is nothing to walk through. While `spot.more` says so it is at the network `spot.net`.
-#[derive(Drop)]
+#[derive(Clone, Copy)]
 pub struct Walk<'a> {
     pub pool: &'a [u32],
     pub spot: Spot,

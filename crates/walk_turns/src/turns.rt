@@ -8,7 +8,7 @@ use nets::{Net, Refusal};
 use trie_spots::spots::Spot;
 
 // Whether to go on, and how many networks are still to be passed.
-#[derive(Drop)]
+#[derive(Clone, Copy)]
 pub struct Turn {
     pub more: bool,
     pub left: u32,
