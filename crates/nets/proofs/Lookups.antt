@@ -130,7 +130,9 @@ next_l-step (m ∷ l) p q i e = go (is_past p m) refl (next_l-step l p q (from-w
     go true k ih =
         let x = rw k at e in
         let s : m ≡ q = cc in
-        rw (k, ← s, not-before m m (λ z. omega arith), keep-from (is_past p) m l i.1 (λ z. is_past-on p m z k), keep-from (before m) m l i.1 (lt-before m))
+        let none : before q m ≡ false = rw (← s) (not-before m m (λ z. omega arith)) in
+        let all : keep (before q) l ≡ l = rw (← s) (keep-from (before m) m l i.1 (lt-before m)) in
+        rw (k, none, keep-from (is_past p) m l i.1 (λ z. is_past-on p m z k), all, s)
     go false k ih =
         let x = rw k at e in
         let h = head-kept (is_past p) l q (sym (next_l-keep l p) ∙ x) in

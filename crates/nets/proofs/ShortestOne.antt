@@ -98,7 +98,7 @@ shortest-simplified w f l h s p = go (member (p ++ (false ∷ [])) l) (member (p
     go false y d e = refl
     go true false d e = refl
     go true true d e =
-        let i : (b : Bool) → member (p ++ (b ∷ [])) l ≡ true = λ b. elim b [ false ↦ d | true ↦ e ] in
+        let i : (b : Bool) → member (p ++ (b ∷ [])) l ≡ true = λ b. elim b as (λ k. member (p ++ (k ∷ [])) l ≡ true) [ false ↦ d | true ↦ e ] in
         absurd (omega (arith, others-fewer w l h p i, s.fewest (p ∷ others p l) (λ a n. covers-joined w l h p i a n ∙ s.exactly a n)))
 
 -- a list of a set is the shortest of its addresses exactly if simplifying leaves it

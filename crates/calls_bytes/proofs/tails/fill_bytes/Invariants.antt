@@ -1,0 +1,16 @@
+-- `tails::fill_bytes` meets its contract. The loop's invariant: what is left to fill completes it. Assumes nothing.
+use mathlib.Core.List.{[], ◌∷◌}
+use mathlib.Core.Path.{◌≡◌, refl}
+use Prim.Native.Nat.{◌+◌, ◌-◌, ◌≤◌}
+use native.Mathlib.Nat.{add-zero, sub-zero}
+use lib.ListN.{length, replicate}
+use Rattle.nodes.specs.Words.{put}
+use Rattle.calls_bytes.proofs.Rows.{onward, ended, replicate-on, replicate-none}
+use native.Mathlib.Omega.{arith}
+use Rattle.calls_bytes.proofs.tails.fill_bytes.Given as goal
+
+abbrev pub invariant-loop-i : goal.invariant-loop-i
+invariant-loop-i l = (l.i ≤ l.count) × ((length l.out ≡ length l.initial.out) × (put l.out (l.at + l.i) (replicate (l.count - l.i) l.x) ≡ put l.initial.out l.at (replicate l.count l.x)))
+
+abbrev pub decreases-loop-i : goal.decreases-loop-i
+decreases-loop-i l = l.count - l.i

@@ -1,0 +1,19 @@
+-- `tails::put_words` meets its contract. The loop's invariant: the bytes of the words from i on complete it. Assumes nothing.
+use mathlib.Core.Path.{◌≡◌, refl}
+use Prim.Native.Nat.{◌+◌, ◌*◌, ◌-◌, ◌≤◌}
+use native.Mathlib.Nat.{add-zero, sub-zero}
+use lib.ListN.{length, get_or}
+use Rattle.nodes.specs.Words.{put}
+use Rattle.calls_bytes.specs.Bytes.{u32_bytes}
+use Rattle.calls_bytes.specs.Tails.{words_from, row_bytes}
+use Rattle.calls_bytes.proofs.Written.{length-u32}
+use Rattle.calls_bytes.proofs.Rows.{onward, ended, row_bytes-on, row_bytes-none}
+use borrow.Author.Rules.{rules}
+use native.Mathlib.Omega.{arith}
+use Rattle.calls_bytes.proofs.tails.put_words.Given as goal
+
+abbrev pub invariant-loop-i : goal.invariant-loop-i
+invariant-loop-i l = (l.i ≤ l.count) × ((length l.out ≡ length l.initial.out) × (put l.out (l.at + 4 * l.i) (row_bytes u32_bytes (words_from l.w (l.first + l.i) (l.count - l.i))) ≡ put l.initial.out l.at (row_bytes u32_bytes (words_from l.w l.first l.count))))
+
+abbrev pub decreases-loop-i : goal.decreases-loop-i
+decreases-loop-i l = l.count - l.i

@@ -1,0 +1,19 @@
+-- `tails::store_words` meets its contract. The loop's invariant: the numbers from i on complete it. Assumes nothing.
+use mathlib.Core.List.{[], ◌∷◌}
+use mathlib.Core.Path.{◌≡◌, refl}
+use Prim.Native.Nat.{◌+◌, ◌*◌, ◌-◌, ◌≤◌}
+use native.Mathlib.Nat.{add-zero, sub-zero}
+use lib.ListN.{length}
+use Rattle.nodes.specs.Words.{put}
+use Rattle.calls_bytes.specs.Bytes.{u32_at}
+use Rattle.calls_bytes.specs.Tails.{numbers_from}
+use Rattle.calls_bytes.proofs.Rows.{onward, ended, numbers_from-on, numbers_from-none}
+use borrow.Author.Rules.{rules}
+use native.Mathlib.Omega.{arith}
+use Rattle.calls_bytes.proofs.tails.store_words.Given as goal
+
+abbrev pub invariant-loop-i : goal.invariant-loop-i
+invariant-loop-i l = (l.i ≤ l.count) × ((length l.w ≡ length l.initial.w) × (put l.w (l.first + l.i) (numbers_from l.s (l.p + 4 * l.i) (l.count - l.i)) ≡ put l.initial.w l.first (numbers_from l.s l.p l.count)))
+
+abbrev pub decreases-loop-i : goal.decreases-loop-i
+decreases-loop-i l = l.count - l.i

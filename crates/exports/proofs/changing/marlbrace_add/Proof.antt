@@ -1,9 +1,0 @@
--- `marlbrace_add` meets its contract: add, with its answer in one number. Assumes nothing.
-use borrow.Author.Rules.{rules}
-use Rattle.change.specs.Calls.{noted_as}
-use Rattle.exports.proofs.Told.{tells}
-use Rattle.exports.proofs.changing.marlbrace_add.Statement.{statement}
-use Rattle.exports.proofs.changing.marlbrace_add.Tie as tie
-
-pub marlbrace_add_spec : {M : Type 1} → statement M
-marlbrace_add_spec = tie.close (tie.spec (λ c κs. search rules) (λ c κs. search rules) (λ c κs. search rules) (λ c κs. search rules) (λ c. search rules) (λ c. let n = c.before.before.before.before in tells (noted_as n.add.result) (rw n.before.net.ensures at n.add.ensures) c.before.of-noted.ensures c.packed.ensures))

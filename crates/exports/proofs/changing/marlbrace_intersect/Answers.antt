@@ -1,0 +1,8 @@
+-- `marlbrace_intersect` meets its contract: intersect, with its answer in one number. Assumes nothing.
+use borrow.Author.Rules.{rules}
+use Rattle.pool_state.specs.Rules.{answer_as}
+use Rattle.exports.proofs.Told.{tells}
+use Rattle.exports.proofs.changing.marlbrace_intersect.Goals as goal
+
+pub returns : goal.returns
+returns c = tells (answer_as c.intersect.result) c.intersect.ensures c.of_answer.ensures c.packed.ensures

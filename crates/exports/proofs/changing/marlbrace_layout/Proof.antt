@@ -1,9 +1,0 @@
--- `marlbrace_layout` meets its contract: layout, with its answer in one number. Assumes nothing.
-use borrow.Author.Rules.{rules}
-use Rattle.pool_state.specs.Rules.{answer_as}
-use Rattle.exports.proofs.Told.{tells}
-use Rattle.exports.proofs.changing.marlbrace_layout.Statement.{statement}
-use Rattle.exports.proofs.changing.marlbrace_layout.Tie as tie
-
-pub marlbrace_layout_spec : {M : Type 1} → statement M
-marlbrace_layout_spec = tie.close (tie.spec (λ c κs. search rules) (λ c κs. search rules) (λ c κs. search rules) (λ c. search rules) (λ c. tells (answer_as c.before.before.before.before.layout.result) c.before.before.before.before.layout.ensures c.before.of-answer.ensures c.packed.ensures))

@@ -1,0 +1,8 @@
+-- `marlbrace_layout_indexed` meets its contract: layout, with its answer in one number. Assumes nothing.
+use borrow.Author.Rules.{rules}
+use Rattle.pool_state.specs.Rules.{answer_as}
+use Rattle.exports.proofs.Told.{tells}
+use Rattle.exports.proofs.changing.marlbrace_layout_indexed.Goals as goal
+
+pub returns : goal.returns
+returns c = tells (answer_as c.layout.result) c.layout.ensures c.of_answer.ensures c.packed.ensures

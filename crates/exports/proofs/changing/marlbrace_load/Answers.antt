@@ -1,0 +1,8 @@
+-- `marlbrace_load` meets its contract: load, with its answer in one number. Assumes nothing.
+use borrow.Author.Rules.{rules}
+use Rattle.pool_state.specs.Rules.{answer_as}
+use Rattle.exports.proofs.Told.{tells}
+use Rattle.exports.proofs.changing.marlbrace_load.Goals as goal
+
+pub returns : goal.returns
+returns c = tells (answer_as c.load.result) c.load.ensures c.of_answer.ensures c.packed.ensures

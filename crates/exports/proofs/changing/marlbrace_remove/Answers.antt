@@ -1,0 +1,8 @@
+-- `marlbrace_remove` meets its contract: remove, with its answer in one number. Assumes nothing.
+use borrow.Author.Rules.{rules}
+use Rattle.change.specs.Calls.{noted_as}
+use Rattle.exports.proofs.Told.{tells}
+use Rattle.exports.proofs.changing.marlbrace_remove.Goals as goal
+
+pub returns : goal.returns
+returns c = tells (noted_as c.remove.result) (rw c.net.ensures at c.remove.ensures) c.of_noted.ensures c.packed.ensures

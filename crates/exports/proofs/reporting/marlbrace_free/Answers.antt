@@ -1,0 +1,9 @@
+-- `marlbrace_free` meets its contract: free, with its answer in one number. Assumes nothing.
+use borrow.Author.Rules.{rules}
+use mathlib.Core.Path.{ap, ◌∙◌}
+use Rattle.calls_replies.specs.Replies.{one_reply}
+use Rattle.calls_packed.specs.Packed.{packed}
+use Rattle.exports.proofs.reporting.marlbrace_free.Goals as goal
+
+pub returns : goal.returns
+returns c = c.packed.ensures ∙ ap packed c.of_answer.ensures ∙ ap (λ a. packed (one_reply a)) c.free.ensures

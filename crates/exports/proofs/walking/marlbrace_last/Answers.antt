@@ -1,0 +1,9 @@
+-- `marlbrace_last` meets its contract: last, with its answer in one number. Assumes nothing.
+use borrow.Author.Rules.{rules}
+use mathlib.Core.Path.{ap, ◌∙◌}
+use Rattle.calls_replies.specs.Replies.{found_reply}
+use Rattle.exports.proofs.Told.{with_row}
+use Rattle.exports.proofs.walking.marlbrace_last.Goals as goal
+
+pub returns : goal.returns
+returns c = with_row (c.of_follower-a.ensures ∙ ap found_reply c.last.ensures) c.put_row.ensures c.packed.ensures

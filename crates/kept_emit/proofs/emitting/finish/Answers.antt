@@ -1,0 +1,50 @@
+-- `emitting::finish` meets its contract, by the arms of the answer of its node. Assumes nothing.
+use borrow.Author.Rules.{rules}
+use native.Mathlib.Omega.{arith}
+use mathlib.Core.Path.{sym, ◌∙◌}
+use lib.ListN.{length}
+use Rattle.kept_emit.proofs.Answered.{half-within, path-within, Numbers, numbers, finish-flat, finish-node, Node≢}
+use mathlib.Core.Bool.{true, false}
+use Rattle.trie_paths.specs.Spans.{snoc}
+use Rattle.kept_emit.proofs.emitting.finish.Goals as goal
+
+facts : (c : goal.After-settle-arg-1) → let s = c.args in Numbers s.family (length s.w.now) s.b c.beginning_before-o.result c.beginning_before-m.result
+    s.e s.l s.r
+facts c = let p = c.requires.5 in numbers p _ (c.answer_over-x.ensures _ _ p.both) _ c.in-Node.is _ _
+    c.beginning_before-m.ensures c.beginning_before-o.ensures
+
+facts-settle-arg-in-node-1 : (c : goal.After-settle-arg-in-Node-1) → let s = c.args in Numbers s.family (length s.w.now) s.b c.beginning_before-o.result c.beginning_before-m.result
+    s.e s.l s.r
+facts-settle-arg-in-node-1 c = let p = c.requires.5 in numbers p _ (c.answer_over-x.ensures _ _ p.both) _ c.in-Node.is _ _
+    c.beginning_before-m.ensures c.beginning_before-o.ensures
+
+facts-top-arg-1 : (c : goal.After-top-arg-1) → let s = c.args in Numbers s.family (length s.w.now) s.b c.beginning_before-o.result c.beginning_before-m.result
+    s.e s.l s.r
+facts-top-arg-1 c = let p = c.requires.5 in numbers p _ (c.answer_over-x.ensures _ _ p.both) _ c.in-Node.is _ _
+    c.beginning_before-m.ensures c.beginning_before-o.ensures
+
+pub settle-requires : goal.settle-requires
+settle-requires c = let f = facts c in ((λ h. omega (arith, f.full-l h)), omega (arith, f.second, f.few, f.low))
+
+pub settle-requires-in-Node : goal.settle-requires-in-Node
+settle-requires-in-Node c = let f = facts-settle-arg-in-node-1 c in
+    ((λ h. omega (arith, f.full-r h)), omega (arith, f.first, f.second, f.few, f.low))
+
+pub top-requires : goal.top-requires
+top-requires c = let f = facts-top-arg-1 c in
+    ((λ h g. omega (arith, f.top-room h g)), omega (arith, f.first, f.second, f.few, f.low))
+
+pub returns-in-Empty : goal.returns-in-Empty
+returns-in-Empty c v p t u is h = finish-flat h _ (c.answer_over-x.ensures t u h.both) (λ k q. (Node≢ k).0 (sym c.in-Empty.is ∙ q))
+
+pub returns-in-Full : goal.returns-in-Full
+returns-in-Full c v p t u is h = finish-flat h _ (c.answer_over-x.ensures t u h.both) (λ k q. (Node≢ k).1 (sym c.in-Full.is ∙ q))
+
+pub returns-in-Node : goal.returns-in-Node
+returns-in-Node c v p t u is h = finish-node h _ (c.answer_over-x.ensures t u h.both) _ c.in-Node.is _ _ c.beginning_before-m.ensures
+    c.beginning_before-o.ensures
+    _ _ _ (c.settle.ensures (snoc p false)
+    (c.child-first.ensures _ p is) (half-within h false))
+    (c.settle-in-Node.ensures (snoc p true)
+    (c.child-second.ensures _ p is) (half-within h true)) (c.top.ensures p is
+    (path-within h))

@@ -1,0 +1,87 @@
+-- `combined::leaves` meets its contract, by the fuel. Assumes nothing.
+use mathlib.Core.Path.{◌≡◌, ap, ◌∙◌}
+use mathlib.Core.Bool.{Bool, true, false}
+use Prim.Native.Nat.{ℕ, ◌+◌, ◌<◌}
+use native.Mathlib.Omega.{arith}
+use lib.ListN.{length}
+use Rattle.nets.specs.Bits.{Bits}
+use Rattle.nets.specs.Tries.{Trie}
+use Rattle.nets.proofs.Numbers.{width-le}
+use Rattle.trie_paths.specs.Spans.{snoc}
+use Rattle.trie_paths.proofs.Paths.{length-snoc}
+use Rattle.trie_meets.proofs.Operation.{step-first, step-second}
+use Rattle.kept_emit.specs.Combine.{Inputs}
+use Rattle.kept_emit.proofs.Steps.{op-mixed, Halving, inside, left-inputs, right-inputs}
+use Rattle.kept_meets.proofs.Operation.{leaves_none, leaves-full}
+use Rattle.kept_meets.proofs.combined.+leaves.Goals as goal
+
+abbrev Start : Type 0
+Start = leaves-lts.Start (calls n) (at n) leaves.Post
+
+abbrev Inside : Type 0
+Inside = leaves-lts.After-halves2 (calls n) (at n) leaves.Post
+
+abbrev start : Inside → Start
+start c = c.before.before.before.before.before.before
+
+abbrev Given : Start → Bits → Trie → Trie → Type 0
+Given s p t u = let a = s.args in Inputs a.family a.w.now a.b a.n a.a a.c 0 0 p a.fuel t u
+
+split : (c : Inside) (p : Bits) (t u : Trie) → length p ≡ (start c).args.d → Given (start c) p t u → let a = (start c).args in
+    Halving a.family a.w.now a.b a.n a.op a.a a.c 0 0 p a.fuel t u c.before.halves.result.a c.before.halves.result.c
+    c.halves2.result.a c.halves2.result.c
+split c p t u q s = record {
+  src = s;
+  mixes = op-mixed s _ _ (c.before.before.before.before.outcome.ensures 0 0 p t u q s.first s.second) c.before.before.before.if1.false
+      c.before.before.if2.false;
+  left = c.before.halves.ensures 0 0 p t u q s.first s.second;
+  right = c.halves2.ensures 0 0 p t u q s.first s.second;
+}
+
+deeper : (c : Inside) (p : Bits) → length p ≡ (start c).args.d → (x : Bool) → length (snoc p x) ≡ (start c).args.d + 1
+deeper c p q x = length-snoc p x ∙ ap (λ (k : ℕ). k + 1) q
+
+pub outcome-v-requires : goal.outcome-v-requires
+outcome-v-requires τ c = let (p, t, u, q, s) = c.requires in (s.hold, (0, 0, p, t, u, q, s.first, s.second))
+
+pub returns-then-v-eq-EMPTY : goal.returns-then-v-eq-EMPTY
+returns-then-v-eq-EMPTY τ c p t u q s = leaves_none s _ _ (c.outcome-v.ensures 0 0 p t u q s.first s.second) c.if-v-eq-EMPTY.true
+
+pub returns-then-v-eq-FULL : goal.returns-then-v-eq-FULL
+returns-then-v-eq-FULL τ c p t u q s = leaves-full s _ _ (c.outcome-v.ensures 0 0 p t u q s.first s.second) c.if-v-eq-FULL.true
+
+pub halves-p-requires : goal.halves-p-requires
+halves-p-requires τ c = let (p, t, u, q, s) = c.requires in (s.hold, (0, 0, p, t, u, q, s.first, s.second))
+
+pub halves-q-requires : goal.halves-q-requires
+halves-q-requires τ c = let (p, t, u, q, s) = c.requires in (s.hold, (0, 0, p, t, u, q, s.first, s.second))
+
+pub overflow_add-d : goal.overflow_add-d
+overflow_add-d τ c = let (p, t, u, q, s) = (start n c).requires.1 in omega (arith, inside (split n c p t u q s), width-le (start n c).args.family)
+
+pub overflow_sub-fuel : goal.overflow_sub-fuel
+overflow_sub-fuel τ c = let s = (start n c).requires.1.4 in omega arith
+
+pub leaves-requires : goal.leaves-requires
+leaves-requires τ c = let (p, t, u, q, s) = (start n c).requires.1 in
+    (omega (arith, (start n c).requires.0, s.turn), (snoc p false, _, _, deeper n c p q false, left-inputs (split n c p t u q s)))
+
+pub returns-then-leaves : goal.returns-then-leaves
+returns-then-leaves τ c p t u q s = let d = split n c p t u q s in
+    step-first _ _ t u s.turn d.mixes _ (c.leaves.ensures _ _ _ (deeper n c p q false) (left-inputs d)) c.if-leaves.true
+
+pub overflow_add-d-2 : goal.overflow_add-d-2
+overflow_add-d-2 τ c = let (p, t, u, q, s) = (start n c).requires.1 in
+    omega (arith, inside (split n c p t u q s), width-le (start n c).args.family)
+
+pub overflow_sub-fuel-2 : goal.overflow_sub-fuel-2
+overflow_sub-fuel-2 τ c = let s = (start n c).pre.1.4 in omega arith
+
+pub leaves-requires-2 : goal.leaves-requires-2
+leaves-requires-2 τ c = let (p, t, u, q, s) = (start n c).requires.1 in
+    (omega (arith, (start n c).requires.0, s.turn), (snoc p true, _, _, deeper n c p q true, right-inputs (split n c p t u q s)))
+
+pub returns : goal.returns
+returns τ c p t u q s = let d = split n c p t u q s in
+    step-second _ _ t u s.turn d.mixes _ _ (c.leaves.ensures _ _ _ (deeper n c p q false) (left-inputs d)) c.if-leaves.false
+    (c.leaves-2.ensures _ _ _ (deeper n c p q true) (right-inputs d))

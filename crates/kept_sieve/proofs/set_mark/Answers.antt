@@ -1,0 +1,6 @@
+-- `set_mark` meets its contract. Assumes nothing.
+use borrow.Author.Rules.{rules}
+use Rattle.kept_sieve.proofs.set_mark.Goals as goal
+
+pub returns : goal.returns
+returns c = rw (← c.head-x.ensures) c.store_head.ensures

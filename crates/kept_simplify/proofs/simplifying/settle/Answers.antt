@@ -1,0 +1,16 @@
+-- `simplifying::settle` meets its contract, by its test. Assumes nothing.
+use mathlib.Core.Path.{sym}
+use native.Mathlib.Omega.{arith}
+use borrow.Author.Rules.{rules}
+use Rattle.nodes.proofs.Put.{put-nil}
+use Rattle.kept_simplify.proofs.Written.{rest-one, rest_more}
+use Rattle.kept_simplify.proofs.simplifying.settle.Goals as goal
+
+pub returns-then-k-ne1 : goal.returns-then-k-ne1
+returns-then-k-ne1 c p is le = rw (rest_more _ p _ c.if-k-ne1.true) (sym (put-nil _ _))
+
+pub write_node-requires : goal.write_node-requires
+write_node-requires c = let h = c.requires in record { one = h.0; fits = h.3 c.if-k-ne1.false; low = h.2; few = h.1; near = omega arith }
+
+pub returns : goal.returns
+returns c p is le = rw (rest-one _ p _ c.if-k-ne1.false) (c.write_node.ensures p is le)

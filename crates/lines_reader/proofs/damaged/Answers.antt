@@ -1,0 +1,6 @@
+-- `damaged` meets its contract. Assumes nothing.
+use borrow.Author.Rules.{rules}
+use Rattle.lines_reader.proofs.damaged.Goals as goal
+
+pub returns : goal.returns
+returns c = rw c.number.ensures

@@ -1,0 +1,18 @@
+-- `is_empty` meets its contract, by its test. Assumes nothing.
+use native.Mathlib.Omega.{arith}
+use borrow.Author.Rules.{rules}
+use Rattle.pool_state.proofs.Header.{is_header-header}
+use Rattle.lookup.proofs.Asked.{root-header, empty-over, empty-told, empty-refused}
+use Rattle.lookup.proofs.is_empty.Goals as goal
+
+pub bounds-pool-3 : goal.bounds-pool-3
+bounds-pool-3 c = omega (arith, is_header-header _ (root-header _ _ _ c.root-a.ensures _ c.in-Granted.is))
+
+pub returns-then-pool-r : goal.returns-then-pool-r
+returns-then-pool-r c = empty-over _ _ _ c.root-a.ensures _ c.in-Granted.is c.if-pool-r.true
+
+pub returns-else-pool-r : goal.returns-else-pool-r
+returns-else-pool-r c = empty-told _ _ _ c.root-a.ensures _ c.in-Granted.is c.if-pool-r.false
+
+pub returns-in-Refused : goal.returns-in-Refused
+returns-in-Refused c = empty-refused _ _ _ c.root-a.ensures _ c.in-Refused.is

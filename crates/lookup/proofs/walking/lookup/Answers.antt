@@ -1,0 +1,15 @@
+-- `walking::lookup` meets its contract: what `root` refuses is refused, and else the query is asked. Assumes nothing.
+use mathlib.Core.Path.{◌∙◌}
+use borrow.Author.Rules.{rules}
+use Rattle.lookup.proofs.Asked.{root-header, root-known, lookup-root, lookup-refused}
+use Rattle.lookup.proofs.walking.lookup.Goals as goal
+
+pub query-requires : goal.query-requires
+query-requires c = let r = c.root-a.ensures in
+    (root-header _ _ _ r _ c.in-Granted.is, root-known _ _ _ r _ c.in-Granted.is)
+
+pub returns-in-Granted : goal.returns-in-Granted
+returns-in-Granted c = c.query.ensures ∙ lookup-root _ _ _ c.root-a.ensures _ c.in-Granted.is _
+
+pub returns-in-Refused : goal.returns-in-Refused
+returns-in-Refused c = lookup-refused _ _ _ c.root-a.ensures _ _ c.in-Refused.is

@@ -1,0 +1,16 @@
+-- `writing::shift_down` meets its contract. The loop's invariant: the first i words stand at their new place. Assumes nothing.
+use mathlib.Core.Path.{◌≡◌, sym}
+use Prim.Native.Nat.{◌-◌, ◌≤◌}
+use native.Mathlib.Omega.{arith}
+use borrow.Author.Rules.{rules}
+use lib.ListN.{length, take, drop, length-set}
+use Rattle.nodes.specs.Words.{put}
+use Rattle.nodes.proofs.Put.{put-nil}
+use Rattle.nodes.proofs.Move.{down_step, down-end}
+use Rattle.nodes.proofs.writing.shift_down.Given as goal
+
+abbrev pub invariant-loop-i : goal.invariant-loop-i
+invariant-loop-i l = (l.i ≤ l.count) × ((length l.w ≡ length l.initial.w) × (l.w ≡ put l.initial.w l.to (take l.i (drop l.from l.initial.w))))
+
+abbrev pub decreases-loop-i : goal.decreases-loop-i
+decreases-loop-i l = l.count - l.i

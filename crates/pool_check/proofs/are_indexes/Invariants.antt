@@ -1,0 +1,13 @@
+-- `are_indexes` meets its contract. The loop's invariant: the tags and indexes that are left decide. Assumes nothing.
+use Prim.Native.Nat.{◌-◌}
+use lib.ListN.{get_or}
+use native.Mathlib.Omega.{arith}
+use borrow.Author.Rules.{rules}
+use Rattle.pool_check.proofs.Indexes.{read-header, Left, left-start, left-wrong, left-on, left_end}
+use Rattle.pool_check.proofs.are_indexes.Given as goal
+
+abbrev pub invariant-loop-s : goal.invariant-loop-s
+invariant-loop-s l = Left l.w l.s l.j
+
+abbrev pub decreases-loop-s : goal.decreases-loop-s
+decreases-loop-s l = get_or l.w 2 0 - l.s

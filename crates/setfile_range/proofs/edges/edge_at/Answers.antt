@@ -1,0 +1,11 @@
+-- `edges::edge_at` meets its contract: an address of the family has its bits. Assumes nothing.
+use borrow.Author.Rules.{rules}
+use mathlib.Core.Path.{refl}
+use Rattle.setfile_range.proofs.Walking.{edge-refused, edge-starts}
+use Rattle.setfile_range.proofs.edges.edge_at.Goals as goal
+
+pub returns-in-Bits : goal.returns-in-Bits
+returns-in-Bits c = (refl, edge-starts _ _ c.requires.0 c.requires.1 c.width.ensures _ c.prefix_bits-prefix.ensures _ _ _ c.whole-path.ensures c.in-Bits.is)
+
+pub returns-in-Refused : goal.returns-in-Refused
+returns-in-Refused c = absurd (edge-refused _ _ c.requires.0 c.requires.1 c.width.ensures _ c.prefix_bits-prefix.ensures _ c.in-Refused.is)

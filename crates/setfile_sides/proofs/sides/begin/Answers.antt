@@ -1,0 +1,7 @@
+-- `sides::begin` meets its contract. Assumes nothing.
+use Rattle.std.proofs.Common.{rules}
+use Rattle.setfile_sides.proofs.Opened.{begun-along}
+use Rattle.setfile_sides.proofs.sides.begin.Goals as goal
+
+pub returns : goal.returns
+returns c l e = begun-along e (c.«open».ensures l e) c.arrived.ensures

@@ -1,0 +1,8 @@
+-- `ipv4::length` meets its contract. Assumes nothing.
+use native.Mathlib.Omega.{arith}
+use borrow.Author.Rules.{rules}
+use Rattle.text.proofs.Writing.{lengths}
+use Rattle.text.proofs.ipv4.length.Goals as goal
+
+pub returns : goal.returns
+returns c = omega (arith, (lengths c.args.net).line)

@@ -1,0 +1,23 @@
+-- `cursor::zero_leads` meets its contract. Assumes nothing.
+use mathlib.Core.Path.{refl, sym, ◌∙◌}
+use native.Mathlib.Omega.{arith}
+use lib.ListN.{drop}
+use borrow.Author.Rules.{rules}
+use Rattle.text_decimal.specs.Places.{starts_byte}
+use Rattle.text_decimal.proofs.Places.{starts-within, starts_zero-behind, starts_zero-other}
+use Rattle.text_decimal.proofs.cursor.zero_leads.Goals as goal
+
+pub overflow_add-at : goal.overflow_add-at
+unfolding starts_byte
+overflow_add-at c = let a = c.args in
+    omega (arith, starts-within (starts_byte 48) refl a.s.now a.at (sym c.byte_at.ensures ∙ c.if-byte_at.true))
+
+pub returns-then-byte_at : goal.returns-then-byte_at
+unfolding starts_byte
+returns-then-byte_at c = let a = c.args in
+    c.digit_at.ensures ∙ starts_zero-behind a.s.now a.at (sym c.byte_at.ensures ∙ c.if-byte_at.true)
+
+pub returns-else-byte_at : goal.returns-else-byte_at
+unfolding starts_byte
+returns-else-byte_at c = let a = c.args in
+    c.if-byte_at.false ∙ sym (starts_zero-other (drop a.at a.s.now) (sym c.byte_at.ensures ∙ c.if-byte_at.false))

@@ -1,0 +1,7 @@
+-- `group::put_digit` meets its contract. Assumes nothing.
+use mathlib.Core.Path.{refl, sym}
+use borrow.Author.Rules.{rules}
+use Rattle.text_hex.proofs.group.put_digit.Goals as goal
+
+pub returns : goal.returns
+returns c = rw (sym c.byte.ensures) (record { place = refl; bytes = refl })

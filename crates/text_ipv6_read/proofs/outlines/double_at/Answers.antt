@@ -1,0 +1,25 @@
+-- `outlines::double_at` meets its contract. Assumes nothing.
+use mathlib.Core.Path.{refl, sym, ◌∙◌}
+use native.Mathlib.Omega.{arith}
+use lib.ListN.{drop}
+use borrow.Author.Rules.{rules}
+use Rattle.text_decimal.specs.Places.{starts_byte}
+use Rattle.text_decimal.proofs.Places.{starts-within}
+use Rattle.text_hex.specs.Hex.{colon}
+use Rattle.text_ipv6_read.proofs.Laying.{starts_double-other, starts_double-behind}
+use Rattle.text_ipv6_read.proofs.outlines.double_at.Goals as goal
+
+pub overflow_add-at : goal.overflow_add-at
+unfolding starts_byte
+overflow_add-at c = let a = c.args in
+    omega (arith, starts-within (starts_byte colon) refl a.s.now a.at (sym c.byte_at.ensures ∙ c.if-byte_at.true))
+
+pub returns-then-byte_at : goal.returns-then-byte_at
+unfolding starts_byte
+returns-then-byte_at c = let a = c.args in
+    c.byte_at-then-byte_at.ensures ∙ starts_double-behind a.s.now a.at (sym c.byte_at.ensures ∙ c.if-byte_at.true)
+
+pub returns-else-byte_at : goal.returns-else-byte_at
+unfolding starts_byte
+returns-else-byte_at c = let a = c.args in
+    c.if-byte_at.false ∙ starts_double-other (drop a.at a.s.now) (sym c.byte_at.ensures ∙ c.if-byte_at.false)

@@ -1,0 +1,14 @@
+-- `outlines::group_at` meets its contract: the group stands before the zeros, is one of them, or stands behind. Assumes nothing.
+use native.Mathlib.Omega.{arith}
+use borrow.Author.Rules.{rules}
+use Rattle.text_ipv6_read.proofs.Laying.{group-front, group-zero, group-behind}
+use Rattle.text_ipv6_read.proofs.outlines.group_at.Goals as goal
+
+pub returns-then-i-o : goal.returns-then-i-o
+returns-then-i-o c = group-front c.args.o c.args.i c.requires.0 c.requires.1 c.if-i-o.true
+
+pub returns-then-i-o-2 : goal.returns-then-i-o-2
+returns-then-i-o-2 c = group-zero c.args.o c.args.i c.requires.0 c.requires.1 c.if-i-o.false c.if-i-o-2.true
+
+pub returns : goal.returns
+returns c = group-behind c.args.o c.args.i c.requires.0 c.requires.1 c.if-i-o-2.false

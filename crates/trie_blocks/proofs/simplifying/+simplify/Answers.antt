@@ -1,0 +1,84 @@
+-- `simplifying::simplify` meets its contract, by the trie's levels. Assumes nothing.
+use native.Mathlib.Omega.{arith}
+use Prim.Native.Nat.{ℕ, ◌<◌}
+use borrow.Author.Rules.{rules}
+use Rattle.nets.specs.Tries.{Trie}
+use Rattle.nodes.specs.Segments.{Branch}
+use Rattle.trie_blocks.specs.Simplify.{Source}
+use Rattle.trie_blocks.proofs.Simplify.{Fork, seen_none, seen-leaf, seen-inner, fork-fuel, left-source, rest-source, pending, simplified}
+use Rattle.trie_blocks.proofs.Blocks.{segment-asks, left-apart, right-apart, whole_apart}
+use Rattle.trie_blocks.proofs.simplifying.+simplify.Goals as goal
+
+abbrev Start : Type 0
+Start = simplify-lts.Start (calls n) (at n) simplify.Post
+
+abbrev Inside : Type 0
+Inside = simplify-lts.After-known-told (calls n) (at n) simplify.Post
+
+abbrev start : Inside → Start
+start c = c.before.before.before.before.before.before.before
+
+abbrev Given : Start → Trie → Type 0
+Given s t = let a = s.args in Source a.w.now a.b a.i a.e a.o a.fuel t
+
+fork : (c : Inside) (t : Trie) → Given (start c) t → let a = (start c).args in let m = c.before.v.given.0.0 in
+    (k : Branch a.i m t) × Fork a.w.now a.b a.i a.e a.o a.fuel m k.l k.r
+fork c t g = seen-inner _ t g (rw c.before.v.given.1 at (c.before.before.before.look.ensures t g.rest g.u g.here))
+
+abbrev here : (c : Inside) → let a = (start c).args in let m = c.before.v.given.0.0 in
+    (k : Branch a.i m (start c).requires.1.0.0) × Fork a.w.now a.b a.i a.e a.o a.fuel m k.l k.r
+here c = fork c (start c).requires.1.0.0 (start c).requires.1.0.1
+
+pub moved-requires : goal.moved-requires
+moved-requires τ c = let p = c.requires in ((p.0.0, _, p.0.1), whole_apart p.1 c.if-e-next.true)
+
+pub returns-then-e-next : goal.returns-then-e-next
+returns-then-e-next τ c t g = c.moved.ensures t _ g
+
+pub look-v-requires : goal.look-v-requires
+look-v-requires τ c = let (t, g) = c.requires.0 in (t, g.rest, g.u, g.here)
+
+pub overflow_add-i : goal.overflow_add-i
+overflow_add-i τ c = let g = (start n c).pre.1.0.1 in omega arith
+
+pub overflow_add-o : goal.overflow_add-o
+overflow_add-o τ c = let g = (start n c).pre.1.0.1 in omega arith
+
+pub overflow_sub-fuel : goal.overflow_sub-fuel
+overflow_sub-fuel τ c = fork-fuel (here n c).1
+
+pub simplify-l-requires : goal.simplify-l-requires
+simplify-l-requires τ c = let f = here n c in
+    (omega (arith, fork-fuel f.1, (start n c).pre.0), ((f.0.l, left-source f.1), left-apart f.1 (start n c).pre.1.1))
+
+pub overflow_add-o-in-Inner : goal.overflow_add-o-in-Inner
+overflow_add-o-in-Inner τ c = let g = (start n c).pre.1.0.1 in omega arith
+
+pub end_of-k-requires : goal.end_of-k-requires
+end_of-k-requires τ c = let g = (start n c).pre.1.0.1 in omega arith
+
+pub join_from-p-requires : goal.join_from-p-requires
+join_from-p-requires τ c = let f = here n c in
+    let g = (rest-source f.1 _ _ _ c.simplify-l.ensures c.end_of-k.ensures).here in
+    record { le_m = segment-asks g; apart = right-apart f.1 (start n c).requires.1.1 g }
+
+pub overflow_sub-fuel-in-Inner : goal.overflow_sub-fuel-in-Inner
+overflow_sub-fuel-in-Inner τ c = fork-fuel (here n c).1
+
+pub simplify-r-requires : goal.simplify-r-requires
+simplify-r-requires τ c = let f = here n c in
+    (omega (arith, fork-fuel f.1, (start n c).requires.0), ((f.0.r, rest-source f.1 _ _ _ c.simplify-l.ensures c.end_of-k.ensures), c.join_from-p.ensures))
+
+pub finish-requires : goal.finish-requires
+finish-requires τ c = let f = here n c in
+    (_, _, _, pending f.1 _ _ _ c.simplify-l.ensures c.end_of-k.ensures _ _ c.simplify-r.ensures)
+
+pub returns-in-Nothing : goal.returns-in-Nothing
+returns-in-Nothing τ c t g = seen_none _ _ _ _ t (rw c.in-Nothing.is at (c.look-v.ensures t g.rest g.u g.here))
+
+pub returns-in-Leaf : goal.returns-in-Leaf
+returns-in-Leaf τ c t g = seen-leaf _ _ _ _ t (rw c.in-Leaf.is at (c.look-v.ensures t g.rest g.u g.here))
+
+pub returns-in-Inner : goal.returns-in-Inner
+returns-in-Inner τ c t g = let f = fork n c t g in
+    rw f.0.is (simplified f.1 _ _ _ c.simplify-l.ensures c.end_of-k.ensures _ _ c.simplify-r.ensures _ _ c.finish.ensures)

@@ -1,0 +1,12 @@
+-- `combining::outcome` meets its contract. Assumes nothing.
+use native.Mathlib.Omega.{arith}
+use borrow.Author.Rules.{rules}
+use Rattle.nets.specs.TrieOps.{kind_of}
+use Rattle.trie_emit.proofs.Sources.{rank-le}
+use Rattle.trie_emit.proofs.combining.outcome.Goals as goal
+
+pub settled-requires : goal.settled-requires
+settled-requires c = let (o, g, t, u, m, n) = c.requires in omega (arith, c.kind-y.ensures o g u n, rank-le (kind_of u))
+
+pub returns : goal.returns
+returns c o g t u m n = c.settled.ensures (kind_of t) (kind_of u) (c.kind-x.ensures o g t m) (c.kind-y.ensures o g u n)

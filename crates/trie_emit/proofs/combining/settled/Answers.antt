@@ -1,0 +1,13 @@
+-- `combining::settled` meets its contract, by its tests. Assumes nothing.
+use borrow.Author.Rules.{rules}
+use Rattle.trie_emit.proofs.Sources.{settled-or, settled-and, settled-but}
+use Rattle.trie_emit.proofs.combining.settled.Goals as goal
+
+pub returns-then-op-eq0 : goal.returns-then-op-eq0
+returns-then-op-eq0 c k l ex ey = rw (c.most.ensures, ex, ey) (settled-or _ k l c.if-op-eq0.true)
+
+pub returns-then-op-eq1 : goal.returns-then-op-eq1
+returns-then-op-eq1 c k l ex ey = rw (c.least.ensures, ex, ey) (settled-and _ k l c.if-op-eq1.true)
+
+pub returns : goal.returns
+returns c k l ex ey = rw (c.least-2.ensures, ex, ey) (settled-but _ k l c.if-op-eq0.false c.if-op-eq1.false)

@@ -1,0 +1,17 @@
+-- `chain` meets its contract. The loop's invariant: what is still to be written completes the chain. Assumes nothing.
+use mathlib.Core.Path.{◌≡◌, refl, ◌∙◌}
+use Prim.Native.Nat.{◌+◌, ◌≤◌}
+use native.Mathlib.Omega.{arith}
+use borrow.Author.Rules.{rules}
+use lib.ListN.{length}
+use Rattle.nets.specs.Networks.{bits_left}
+use Rattle.nodes.specs.Words.{put, place, enc, chain}
+use Rattle.nets.proofs.Handing.{hands_end, Hands, hands}
+use Rattle.nodes.proofs.Chains.{bool_byte-le, chain-step, chain-end}
+use Rattle.trie_insert.proofs.chain.Given as goal
+
+abbrev pub invariant-loop-w : goal.invariant-loop-w
+invariant-loop-w l = (1 ≤ l.k) × ((l.p.len ≤ 128) × ((length l.w ≡ length l.initial.w) × ((l.k + l.p.len ≡ l.i + l.initial.p.len) × (put l.w (place l.b l.k) (enc (chain (bits_left l.p))) ≡ put l.initial.w (place l.b l.i) (enc (chain (bits_left l.initial.p)))))))
+
+abbrev pub decreases-loop-w : goal.decreases-loop-w
+decreases-loop-w l = l.p.len

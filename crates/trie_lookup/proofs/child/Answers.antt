@@ -1,0 +1,9 @@
+-- `child` meets its contract. Assumes nothing.
+use borrow.Author.Rules.{rules}
+use Rattle.trie_lookup.proofs.child.Goals as goal
+
+pub returns-then-bit : goal.returns-then-bit
+returns-then-bit c = rw c.if-bit.true
+
+pub returns : goal.returns
+returns c = rw c.if-bit.false

@@ -1,0 +1,14 @@
+-- `standing::head` meets its contract. The loop's invariant: what is taken is the beginning of the query, what is left is its rest. Assumes nothing.
+use Prim.Native.Nat.{◌-◌}
+use native.Mathlib.Omega.{arith}
+use borrow.Author.Rules.{rules}
+use Rattle.nets.specs.Networks.{bits_left}
+use Rattle.nets.proofs.Handing.{hands, hands_end, length-bits_left}
+use Rattle.trie_lookup.proofs.Openings.{Taken, taken_start, taken-low, taken-some, taken-on, taken-end}
+use Rattle.trie_lookup.proofs.standing.head.Given as goal
+
+abbrev pub invariant-loop-k : goal.invariant-loop-k
+invariant-loop-k l = Taken (bits_left l.initial.left) l.initial.left.len l.k l.byte l.left
+
+abbrev pub decreases-loop-k : goal.decreases-loop-k
+decreases-loop-k l = 8 - l.k

@@ -1,0 +1,16 @@
+-- `walk_tested` meets its contract. The loop's invariant: the walk from here shows what the whole walk shows. Assumes nothing.
+use mathlib.Core.Path.{refl, ap, sym, ◌∙◌}
+use Prim.Native.Nat.{◌+◌, ◌-◌}
+use native.Mathlib.Omega.{arith}
+use borrow.Author.Rules.{rules}
+use Rattle.nets.specs.Networks.{bits_left, next_as}
+use Rattle.trie_lookup.specs.Walks.{walk}
+use Rattle.trie_lookup.specs.declared.Shown.{Shown}
+use Rattle.trie_lookup.proofs.Turns.{Down, down-leaf, down-first, down-second, Inner, inner-end, Turned, turned_none, turned-less, turned-within, turned_on}
+use Rattle.trie_lookup.proofs.walk_tested.Given as goal
+
+abbrev pub invariant-loop-left : goal.invariant-loop-left
+invariant-loop-left l = Down l.w l.b l.n (walk l.w l.b l.n l.above (l.p + 1 - l.b) (bits_left l.initial.left)) l.i l.d l.left
+
+abbrev pub decreases-loop-left : goal.decreases-loop-left
+decreases-loop-left l = l.left.len

@@ -1,0 +1,9 @@
+-- `removing::above` meets its contract, by its test. Assumes nothing.
+use borrow.Author.Tests.{eq-eqb, ne_eqb}
+use Rattle.trie_remove.proofs.above.Goals as goal
+
+pub returns-then-c-eq0 : goal.returns-then-c-eq0
+returns-then-c-eq0 c = rw (eq-eqb _ _ c.if-c-eq0.true)
+
+pub returns-else-c-eq0 : goal.returns-else-c-eq0
+returns-else-c-eq0 c = rw (ne_eqb _ _ c.if-c-eq0.false)
