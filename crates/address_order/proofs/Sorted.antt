@@ -3,7 +3,7 @@
 use mathlib.Core.Bool.{Bool, true, false, not, cond, ◌&&◌, ◌||◌, and-false, or-true, false≢true}
 use mathlib.Core.List.{List, [], ◌∷◌}
 use mathlib.Core.Logic.{◌⊎◌, inl, inr}
-use mathlib.Core.Path.{◌≡◌, refl, ap, sym, ◌∙◌}
+use mathlib.Core.Path.{◌≡◌, refl, ap, sym, ◌∙◌, subst}
 use Prim.Native.Nat.{ℕ, suc}
 use native.Mathlib.Omega.{arith}
 use lib.Dec.{leb}
@@ -101,7 +101,7 @@ rise-put n (m ∷ l) r h = go (earlier n m) refl (rise-put n l r.1 (λ k. h (mem
   where
     go : (x : Bool) → earlier n m ≡ x → Rise (put_in_order n l) → Rise (cond x (n ∷ m ∷ l) (m ∷ put_in_order n l))
     go true e ih = (heads-cons n m l e r.0, r)
-    go false e ih = (heads-put m n l (earlier-other n m e (λ x. h (rw x (member-first m l)))) r.0, ih)
+    go false e ih = (heads-put m n l (earlier-other n m e (λ x. h (subst (λ z. member z (m ∷ l) ≡ true) (sym x) (member-first m l)))) r.0, ih)
 
 rise-from : (lo : ℕ) (l : List Bits) → From lo l → Rise (in_address_order l)
 unfolding in_address_order

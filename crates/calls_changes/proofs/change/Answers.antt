@@ -39,7 +39,7 @@ returns-in-26 c = rw c.in-26.is (changed-is c.replan.ensures c.of_answer-in-26.e
 
 pub returns-in_default : goal.returns-in_default
 unfolding change_of
-returns-in_default c = let r = c.in_default.rest in
+returns-in_default c = let r = c.in_default.in_default-own.rest in
     rw (
       ne_eqb _ _ r.0.0.0.0.0.0.0.1,
       ne_eqb _ _ r.0.0.0.0.0.0.1,

@@ -63,42 +63,42 @@ returns-in-49 c = rw c.in-49.is
 
 pub returns-in-2-to-7 : goal.returns-in-2-to-7
 unfolding kind_of kind_in table whole
-returns-in-2-to-7 c = let r = c.in_default-1.rest in
-    kind_of-from 2 8 c.args.code refl (beyond c.if-code-lt1.false r.0.0.0.0.0.0.0.0.0.0.0.0.0.1) c.if-code-lt8.true
+returns-in-2-to-7 c = let r = c.in-2-to-7.in_default-own.rest in
+    kind_of-from 2 8 c.args.code refl (beyond c.in-2-to-7.if-code-lt1-own.false r.0.0.0.0.0.0.0.0.0.0.0.0.0.1) c.in-2-to-7.if-code-lt8-own.true
 
 pub returns-in-8-to-13 : goal.returns-in-8-to-13
 unfolding kind_of kind_in table whole
-returns-in-8-to-13 c = kind_of-from 8 14 c.args.code refl c.if-code-lt8.false c.if-code-lt14.true
+returns-in-8-to-13 c = kind_of-from 8 14 c.args.code refl c.in-8-to-13.if-code-lt8-own.false c.in-8-to-13.if-code-lt14-own.true
 
 pub returns-in-22-to-24 : goal.returns-in-22-to-24
 unfolding kind_of kind_in table whole
-returns-in-22-to-24 c = let r = c.in_default-1.rest in
-    let a = beyond (beyond c.if-code-lt14.false r.0.0.0.0.0.0.0.0.0.0.0.0.1) r.0.0.0.0.0.0.0.0.0.0.0.1 in
+returns-in-22-to-24 c = let r = c.in-22-to-24.in_default-own.rest in
+    let a = beyond (beyond c.in-22-to-24.if-code-lt14-own.false r.0.0.0.0.0.0.0.0.0.0.0.0.1) r.0.0.0.0.0.0.0.0.0.0.0.1 in
     let b = beyond (beyond a r.0.0.0.0.0.0.0.0.0.0.1) r.0.0.0.0.0.0.0.0.0.1 in
     let d = beyond (beyond b r.0.0.0.0.0.0.0.0.1) r.0.0.0.0.0.0.0.1 in
     let e = beyond (beyond d r.0.0.0.0.0.0.1) r.0.0.0.0.0.1 in
-    kind_of-from 22 25 c.args.code refl e c.if-code-lt25.true
+    kind_of-from 22 25 c.args.code refl e c.in-22-to-24.if-code-lt25-own.true
 
 pub returns-in-25-to-27 : goal.returns-in-25-to-27
 unfolding kind_of kind_in table whole
-returns-in-25-to-27 c = kind_of-from 25 28 c.args.code refl c.if-code-lt25.false c.if-code-lt28.true
+returns-in-25-to-27 c = kind_of-from 25 28 c.args.code refl c.in-25-to-27.if-code-lt25-own.false c.in-25-to-27.if-code-lt28-own.true
 
 pub returns-in-29-to-31 : goal.returns-in-29-to-31
 unfolding kind_of kind_in table whole
-returns-in-29-to-31 c = let r = c.in_default-1.rest in
-    kind_of-from 29 32 c.args.code refl (beyond c.if-code-lt28.false r.0.0.0.0.1) c.if-code-lt32.true
+returns-in-29-to-31 c = let r = c.in-29-to-31.in_default-own.rest in
+    kind_of-from 29 32 c.args.code refl (beyond c.in-29-to-31.if-code-lt28-own.false r.0.0.0.0.1) c.in-29-to-31.if-code-lt32-own.true
 
 pub returns-in-32-to-42 : goal.returns-in-32-to-42
 unfolding kind_of kind_in table whole
-returns-in-32-to-42 c = kind_of-from 32 43 c.args.code refl c.if-code-lt32.false c.if-code-lt43.true
+returns-in-32-to-42 c = kind_of-from 32 43 c.args.code refl c.in-32-to-42.if-code-lt32-own.false c.in-32-to-42.if-code-lt43-own.true
 
 pub returns-in_default : goal.returns-in_default
 unfolding kind_of kind_in table whole
-returns-in_default c = kind_of-from 0 1 c.args.code refl zero-le c.if-code-lt1.true
+returns-in_default c = kind_of-from 0 1 c.args.code refl zero-le c.in_default.if-code-lt1-own.true
 
 pub returns-in_default-2 : goal.returns-in_default-2
 unfolding kind_of kind_in table whole
-returns-in_default-2 c = let r = c.in_default-1.rest in
+returns-in_default-2 c = let r = c.in_default.in_default-own.rest in
     let k = c.args.code in
-    let h = beyond (beyond c.if-code-lt43.false r.0.0.0.1) r.0.0.1 in
+    let h = beyond (beyond c.in_default.if-code-lt43-own.false r.0.0.0.1) r.0.0.1 in
     below_or 48 k (λ i. kind_of-from 45 48 k refl h i) (λ i. kind_of-from 50 256 k refl (beyond (beyond i r.0.1) r.1) c.ranges.code.fits)

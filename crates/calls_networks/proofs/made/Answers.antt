@@ -18,5 +18,5 @@ returns-in-39 c = rw c.in-39.is (rw c.groups.ensures at c.of_net-in-39.ensures)
 
 pub returns-in_default : goal.returns-in_default
 unfolding made_of
-returns-in_default c = let r = c.in_default.rest in
+returns-in_default c = let r = c.in_default.in_default-own.rest in
     rw (ne_eqb _ _ r.0.0.1, ne_eqb _ _ r.0.1, ne_eqb _ _ r.1) (rw c.words_to_network.ensures at c.of_taken.ensures)

@@ -33,9 +33,8 @@ pub stride_of-stride-requires : goal.stride_of-stride-requires
 stride_of-stride-requires c = let (t, u, h) = c.requires in h.reads.long
 
 pub shift_behind-requires : goal.shift_behind-requires
-shift_behind-requires c = let b = begin c in
-    let a = b.args in
-    let (t, u, h) = b.pre in
+shift_behind-requires c = let a = c.args in
+    let (t, u, h) = c.requires in
     subst (λ r. Shiftable r a.pool.now a.s.base a.v a.n) (sym c.stride_of-stride.ensures) h.gap
 
 pub moved-a-requires : goal.moved-a-requires

@@ -23,15 +23,14 @@ pub settle-requires : goal.settle-requires
 settle-requires c = let (t, u, h) = c.requires in last-settles h (emitted c t u h)
 
 pub end_of-requires : goal.end_of-requires
-end_of-requires c = let d = done c in let (t, u, h) = c.requires in omega (arith, h.writable.few, h.last)
+end_of-requires c = let (t, u, h) = c.requires in omega (arith, h.writable.few, h.last)
 
 pub overflow_sub-result : goal.overflow_sub-result
-overflow_sub-result c = let d = done c in let (t, u, h) = c.requires in omega (arith, last_end h (emitted-end_of d t u h) c.end_of.ensures)
+overflow_sub-result c = let (t, u, h) = c.requires in omega (arith, last_end h (emitted-end_of c t u h) c.end_of.ensures)
 
 pub overflow_cast-result : goal.overflow_cast-result
-overflow_cast-result c = let d = done c in let (t, u, h) = c.requires in omega (arith, last_end h (emitted-end_of d t u h) c.end_of.ensures, h.writable.few)
+overflow_cast-result c = let (t, u, h) = c.requires in omega (arith, last_end h (emitted-end_of c t u h) c.end_of.ensures, h.writable.few)
 
 pub returns : goal.returns
-returns c t u h = let d = done c in
-    let e = last_end h (emitted-end_of d t u h) c.end_of.ensures in
-    (omega (arith, e), last-wrote h (emitted-end_of d t u h) (omega (arith, e)) c.settle.ensures)
+returns c t u h = let e = last_end h (emitted-end_of c t u h) c.end_of.ensures in
+    (omega (arith, e), last-wrote h (emitted-end_of c t u h) (omega (arith, e)) c.settle.ensures)

@@ -16,17 +16,15 @@ copying c = sym c.is_copy.ensures ∙ c.if-is_copy.true
 copying-slice_known-then-is_copy-1 : (c : goal.After-slice_known-then-is_copy-1) → let a = c.args in is_copy a.op a.s ≡ true
 copying-slice_known-then-is_copy-1 c = sym c.is_copy.ensures ∙ c.if-is_copy.true
 
-emitted : (c : goal.After-settle-arg-1) (t u : Trie) → let m = sourced c in let a = c.args in ResultFits a.pool.now a.op a.s a.v a.n t u
+emitted : (c : goal.After-settle-arg-1) (t u : Trie) → let a = c.args in ResultFits a.pool.now a.op a.s a.v a.n t u
     → Emits c.shift_behind.last.0 c.emit-x.new.w a.s.base a.v.at c.emit-x.result (op_on a.op a.s.levels t u)
-emitted c t u h = let m = sourced c in
-    let e = c.shift_behind.ensures in
-    c.emit-x.ensures _ t u (write-inputs h e m.moved.ensures c.moved-c.ensures) (write-free h e)
+emitted c t u h = let e = c.shift_behind.ensures in
+    c.emit-x.ensures _ t u (write-inputs h e c.moved-a.ensures c.moved-c.ensures) (write-free h e)
 
-emitted-slice_known-4-1 : (c : goal.After-slice_known-4-1) (t u : Trie) → let m = sourced c in let a = c.args in ResultFits a.pool.now a.op a.s a.v a.n t u
+emitted-slice_known-4-1 : (c : goal.After-slice_known-4-1) (t u : Trie) → let a = c.args in ResultFits a.pool.now a.op a.s a.v a.n t u
     → Emits c.shift_behind.last.0 c.emit-x.new.w a.s.base a.v.at c.emit-x.result (op_on a.op a.s.levels t u)
-emitted-slice_known-4-1 c t u h = let m = sourced c in
-    let e = c.shift_behind.ensures in
-    c.emit-x.ensures _ t u (write-inputs h e m.moved.ensures c.moved-c.ensures) (write-free h e)
+emitted-slice_known-4-1 c t u h = let e = c.shift_behind.ensures in
+    c.emit-x.ensures _ t u (write-inputs h e c.moved-a.ensures c.moved-c.ensures) (write-free h e)
 
 pub copy-requires : goal.copy-requires
 copy-requires c = let (t, u, h) = c.requires in
@@ -36,14 +34,12 @@ pub returns-then-is_copy : goal.returns-then-is_copy
 returns-then-is_copy c t u h = copy-wrote h c.shift_behind.ensures (copying-slice_known-then-is_copy-1 c) c.moved-a.ensures c.copy.ensures
 
 pub emit-x-requires : goal.emit-x-requires
-emit-x-requires c = let m = sourced c in
-    let (t, u, h) = c.requires in
+emit-x-requires c = let (t, u, h) = c.requires in
     let e = c.shift_behind.ensures in
-    (_, t, u, write-inputs h e m.moved.ensures c.moved-c.ensures, write-free h e)
+    (_, t, u, write-inputs h e c.moved-a.ensures c.moved-c.ensures, write-free h e)
 
 pub settle-requires : goal.settle-requires
-settle-requires c = let m = sourced c in
-    let (t, u, h) = c.requires in
+settle-requires c = let (t, u, h) = c.requires in
     write-settles h c.shift_behind.ensures (emitted c t u h)
 
 pub returns : goal.returns

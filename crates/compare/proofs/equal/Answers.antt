@@ -68,24 +68,21 @@ pub returns-then-root-eq0 : goal.returns-then-root-eq0
 returns-then-root-eq0 c = equal-none (seats-then-root-eq0 c).surveyed c.if-pool-second.false c.if-n-eq0.false c.if-root-eq0.true
 
 pub overflow_add-root-in-At : goal.overflow_add-root-in-At
-overflow_add-root-in-At c = let e = both c in
-    omega (arith, (sizes-struct_known-in-at-1 c).held, (sizes-struct_known-in-at-1 c).claimed, (sizes-struct_known-in-at-1 c).nodes, c.type_inv.pool (record_at c.args.second))
+overflow_add-root-in-At c = omega (arith, (sizes-struct_known-in-at-1 c).held, (sizes-struct_known-in-at-1 c).claimed, (sizes-struct_known-in-at-1 c).nodes, c.type_inv.pool (record_at c.args.second))
 
 pub returns-then-found-root : goal.returns-then-found-root
-returns-then-found-root c = let e = both c in equal-short (seats-then-found-root c).surveyed e.if1.left c.if-n-eq0.false c.if-root-eq0.false c.if-found-root.true
+returns-then-found-root c = equal-short (seats-then-found-root c).surveyed c.if-pool-second.false c.if-n-eq0.false c.if-root-eq0.false c.if-found-root.true
 
 pub stride_of-s-requires : goal.stride_of-s-requires
 stride_of-s-requires c = omega (arith, (sizes-else-found-root c).long)
 
 pub same_nodes-requires : goal.same_nodes-requires
-same_nodes-requires c = let e = both c in
-    let h = seats-stride_of-s c in
-    equal-asks h.surveyed e.if1.left c.if-n-eq0.false c.if-root-eq0.false c.if-found-root.false h.seat c.stride_of-s.ensures
+same_nodes-requires c = let h = seats-stride_of-s c in
+    equal-asks h.surveyed c.if-pool-second.false c.if-n-eq0.false c.if-root-eq0.false c.if-found-root.false h.seat c.stride_of-s.ensures
 
 pub returns-in-Refused : goal.returns-in-Refused
 returns-in-Refused c = equal-refused _ _ _ (seated-refused _ _ c.seat_of-seated.ensures _ c.in-Refused.is)
 
 pub returns-else-found-root : goal.returns-else-found-root
-returns-else-found-root c = let e = both c in
-    let h = seats-same_nodes c in
-    equal_words h.surveyed e.if1.left c.if-n-eq0.false c.if-root-eq0.false c.if-found-root.false h.seat c.stride_of-s.ensures _ c.same_nodes.ensures
+returns-else-found-root c = let h = seats-same_nodes c in
+    equal_words h.surveyed c.if-pool-second.false c.if-n-eq0.false c.if-root-eq0.false c.if-found-root.false h.seat c.stride_of-s.ensures _ c.same_nodes.ensures

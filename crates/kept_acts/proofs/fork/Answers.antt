@@ -21,30 +21,21 @@ pub overflow_sub-e : goal.overflow_sub-e
 overflow_sub-e c = let (n, p, s, t, rest, ip, is, g) = c.requires in omega (arith, fork-fits g)
 
 pub move_nodes-requires-2 : goal.move_nodes-requires-2
-move_nodes-requires-2 c = let o = places c in
-    let (n, p, s, t, rest, ip, is, g) = o.before.before.pre in
-    fork-moves-two g o.before.before.args.bit o.beside.ensures c.move_nodes.ensures
+move_nodes-requires-2 c = let (n, p, s, t, rest, ip, is, g) = c.requires in
+    fork-moves-two g c.args.bit c.beside-h.ensures c.move_nodes.ensures
 
 pub write_node-requires : goal.write_node-requires
-write_node-requires c = let m = moved c in
-    let o = places m in
-    let (n, p, s, t, rest, ip, is, g) = o.before.before.pre in
-    fork-writes g o.before.before.args.bit o.beside.ensures m.move-nodes.ensures c.move_nodes-2.ensures
+write_node-requires c = let (n, p, s, t, rest, ip, is, g) = c.requires in
+    fork-writes g c.args.bit c.beside-h.ensures c.move_nodes.ensures c.move_nodes-2.ensures
 
 pub write_node-requires-2 : goal.write_node-requires-2
-write_node-requires-2 c = let k = headed c in
-    let m = moved k in
-    let o = places m in
-    let (n, p, s, t, rest, ip, is, g) = o.before.before.pre in
-    fork-writes-two g o.before.before.args.bit o.beside.ensures m.move-nodes.ensures k.move-nodes2.ensures (c.write_node.ensures p ip g.short)
+write_node-requires-2 c = let (n, p, s, t, rest, ip, is, g) = c.requires in
+    fork-writes-two g c.args.bit c.beside-h.ensures c.move_nodes.ensures c.move_nodes-2.ensures (c.write_node.ensures p ip g.short)
 
 pub overflow_add-result : goal.overflow_add-result
-overflow_add-result c = let (n, p, s, t, rest, ip, is, g) = (places c).before.before.requires in
+overflow_add-result c = let (n, p, s, t, rest, ip, is, g) = c.requires in
     omega (arith, fork-fits g)
 
 pub returns : goal.returns
-returns c n p s t rest ip is g = let k = headed c in
-    let m = moved k in
-    let o = places m in
-    fork-became g o.before.before.args.bit o.beside.ensures m.move-nodes.ensures k.move-nodes2.ensures (c.write_node.ensures p ip g.short)
+returns c n p s t rest ip is g = fork-became g c.args.bit c.beside-h.ensures c.move_nodes.ensures c.move_nodes-2.ensures (c.write_node.ensures p ip g.short)
     (c.write_node-2.ensures s is g.long)

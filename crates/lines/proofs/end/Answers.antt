@@ -7,9 +7,8 @@ pub take_kept-took-requires : goal.take_kept-took-requires
 take_kept-took-requires c = c.requires
 
 pub returns-then-took-ne0 : goal.returns-then-took-ne0
-returns-then-took-ne0 c = let t = took c in let a = t.before.before.before.args in ended-refused a.pool.now a.g.reader t.take-kept.ensures c.if-took-ne0.true
+returns-then-took-ne0 c = let a = c.args in ended-refused a.pool.now a.g.reader c.take_kept-took.ensures c.if-took-ne0.true
 
 pub returns : goal.returns
-returns c = let t = took c in
-    let a = t.before.before.before.args in
-    ended-added a.pool.now a.g.reader t.take-kept.ensures c.if-took-ne0.false c.wrapping_add_u64.ensures c.one_if.ensures c.wrapping_add_u64-2.ensures
+returns c = let a = c.args in
+    ended-added a.pool.now a.g.reader c.take_kept-took.ensures c.if-took-ne0.false c.wrapping_add_u64.ensures c.one_if.ensures c.wrapping_add_u64-2.ensures

@@ -55,7 +55,7 @@ pub overflow_mul-n : goal.overflow_mul-n
 overflow_mul-n c = omega (arith, few c)
 
 pub returns-then-rows-n : goal.returns-then-rows-n
-returns-then-rows-n c = ranges-short (sits-then-rows-n c).1 (counted c) c.if-rows-n.taken
+returns-then-rows-n c = ranges-short (sits-then-rows-n c).1 (counted c) c.if-rows-n.true
 
 pub write_ranges-requires : goal.write_ranges-requires
 write_ranges-requires c = (_, (sits-write_ranges-arg-1 c).1.holds)
@@ -68,4 +68,4 @@ returns-in-Refused c = ranges-refused _ (seated-refused _ _ c.seat_of-seated.ens
 
 pub returns-else-rows-n : goal.returns-else-rows-n
 returns-else-rows-n c = let h = (sits-slice_known-in-at-1 c).1 in
-    ranges-granted h (counted-slice_known-in-at-1 c) c.if-rows-n.left (c.write_ranges.ensures _ h.holds)
+    ranges-granted h (counted-slice_known-in-at-1 c) c.if-rows-n.false (c.write_ranges.ensures _ h.holds)

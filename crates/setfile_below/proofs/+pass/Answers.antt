@@ -10,28 +10,52 @@ use Rattle.setfile_below.specs.Stream.{At}
 use Rattle.setfile_below.proofs.Streams.{at_some, pass-nothing, whole-flow, pass-whole, Parted, parted, part-under, at_first, first-falls, at_second, second-falls, pass-both}
 use Rattle.setfile_below.proofs.+pass.Goals as goal
 
-abbrev at : ℕ → In 2 pass-kinds.ps
-at t = and 2 pass-kinds.ps (is 2 pass-kinds.ps μ-pass t) pass.Pre
+abbrev Given : (τ : ℕ) → goal.Else-is_whole τ → Bits → Bits → Trie → List Bits → Type 0
+Given τ c q p t ms = let a = c.args in At a.bytes.now a.cursors.now a.s q p t ms
 
-abbrev Start : Type 0
-Start = pass-lts.Start (calls n) (at n) pass.Post
+part : (τ : ℕ) → (c : goal.Else-is_whole τ) (q p : Bits) (t : Trie) (ms : List Bits) → Given τ c q p t ms → let a = c.args in Parted a.bytes.now a.cursors.now a.s q p t ms
+part τ c q p t ms g = let h = not-false _ c.if-not-s.false in
+    parted g h (sym (c.is_whole.ensures q p t ms g.under (at_some g h)) ∙ c.if-is_whole.false)
 
-abbrev Inside : Type 0
-Inside = pass-lts.Else2 (calls n) (at n) pass.Post
+abbrev here : (τ : ℕ) → (c : goal.Else-is_whole τ) → let (q, p, t, ms, g) = c.requires in let a = c.args in Parted a.bytes.now a.cursors.now a.s q p t ms
+here τ c = let (q, p, t, ms, g) = c.requires in part τ c q p t ms g
 
-abbrev start : Inside → Start
-start c = c.before.before.before.before.before.before
+abbrev Given-pass-arg-1 : (τ : ℕ) → goal.After-pass-arg-1 τ → Bits → Bits → Trie → List Bits → Type 0
+Given-pass-arg-1 τ c q p t ms = let a = c.args in At a.bytes.now a.cursors.now a.s q p t ms
 
-abbrev Given : Start → Bits → Bits → Trie → List Bits → Type 0
-Given s q p t ms = let a = s.args in At a.bytes.now a.cursors.now a.s q p t ms
+part-pass-arg-1 : (τ : ℕ) → (c : goal.After-pass-arg-1 τ) (q p : Bits) (t : Trie) (ms : List Bits) → Given-pass-arg-1 τ c q p t ms → let a = c.args in Parted a.bytes.now a.cursors.now a.s q p t ms
+part-pass-arg-1 τ c q p t ms g = let h = not-false _ c.if-not-s.false in
+    parted g h (sym (c.is_whole.ensures q p t ms g.under (at_some g h)) ∙ c.if-is_whole.false)
 
-part : (c : Inside) (q p : Bits) (t : Trie) (ms : List Bits) → Given (start c) q p t ms → let a = (start c).args in Parted a.bytes.now a.cursors.now a.s q p t ms
-part c q p t ms g =
-    let h = not-false _ c.before.before.if1.false in
-    parted g h (sym (c.before.is_whole.ensures q p t ms g.under (at_some g h)) ∙ c.if2.false)
+abbrev here-pass-arg-1 : (τ : ℕ) → (c : goal.After-pass-arg-1 τ) → let (q, p, t, ms, g) = c.requires in let a = c.args in Parted a.bytes.now a.cursors.now a.s q p t ms
+here-pass-arg-1 τ c = let (q, p, t, ms, g) = c.requires in part-pass-arg-1 τ c q p t ms g
 
-abbrev here : (c : Inside) → let (q, p, t, ms, g) = (start c).requires.1 in let a = (start c).args in Parted a.bytes.now a.cursors.now a.s q p t ms
-here c = let (q, p, t, ms, g) = (start c).requires.1 in part c q p t ms g
+abbrev Given-pass-h : (τ : ℕ) → goal.After-pass-h τ → Bits → Bits → Trie → List Bits → Type 0
+Given-pass-h τ c q p t ms = let a = c.args in At a.bytes.now a.cursors.now a.s q p t ms
+
+part-pass-h : (τ : ℕ) → (c : goal.After-pass-h τ) (q p : Bits) (t : Trie) (ms : List Bits) → Given-pass-h τ c q p t ms → let a = c.args in Parted a.bytes.now a.cursors.now a.s q p t ms
+part-pass-h τ c q p t ms g = let h = not-false _ c.if-not-s.false in
+    parted g h (sym (c.is_whole.ensures q p t ms g.under (at_some g h)) ∙ c.if-is_whole.false)
+
+abbrev here-pass-h : (τ : ℕ) → (c : goal.After-pass-h τ) → let (q, p, t, ms, g) = c.requires in let a = c.args in Parted a.bytes.now a.cursors.now a.s q p t ms
+here-pass-h τ c = let (q, p, t, ms, g) = c.requires in part-pass-h τ c q p t ms g
+
+abbrev Given-pass-arg-2-1 : (τ : ℕ) → goal.After-pass-arg-2-1 τ → Bits → Bits → Trie → List Bits → Type 0
+Given-pass-arg-2-1 τ c q p t ms = let a = c.args in At a.bytes.now a.cursors.now a.s q p t ms
+
+part-pass-arg-2-1 : (τ : ℕ) → (c : goal.After-pass-arg-2-1 τ) (q p : Bits) (t : Trie) (ms : List Bits) → Given-pass-arg-2-1 τ c q p t ms → let a = c.args in Parted a.bytes.now a.cursors.now a.s q p t ms
+part-pass-arg-2-1 τ c q p t ms g = let h = not-false _ c.if-not-s.false in
+    parted g h (sym (c.is_whole.ensures q p t ms g.under (at_some g h)) ∙ c.if-is_whole.false)
+
+abbrev here-pass-arg-2-1 : (τ : ℕ) → (c : goal.After-pass-arg-2-1 τ) → let (q, p, t, ms, g) = c.requires in let a = c.args in Parted a.bytes.now a.cursors.now a.s q p t ms
+here-pass-arg-2-1 τ c = let (q, p, t, ms, g) = c.requires in part-pass-arg-2-1 τ c q p t ms g
+
+abbrev Given-pass : (τ : ℕ) → goal.After-pass τ → Bits → Bits → Trie → List Bits → Type 0
+Given-pass τ c q p t ms = let a = c.args in At a.bytes.now a.cursors.now a.s q p t ms
+
+part-pass : (τ : ℕ) → (c : goal.After-pass τ) (q p : Bits) (t : Trie) (ms : List Bits) → Given-pass τ c q p t ms → let a = c.args in Parted a.bytes.now a.cursors.now a.s q p t ms
+part-pass τ c q p t ms g = let h = not-false _ c.if-not-s.false in
+    parted g h (sym (c.is_whole.ensures q p t ms g.under (at_some g h)) ∙ c.if-is_whole.false)
 
 pub returns-then-not-s : goal.returns-then-not-s
 returns-then-not-s τ c q p t ms g = pass-nothing g (not-true _ c.if-not-s.true)
@@ -52,23 +76,23 @@ returns-then-is_whole τ c q p t ms g = let h = at_some g (not-false _ c.if-not-
     pass-whole g e h (c.advance.ensures _ _ f.0 f.1)
 
 pub first-x-requires : goal.first-x-requires
-first-x-requires τ c = part-under (here n c)
+first-x-requires τ c = part-under (here τ c)
 
 pub pass-h-requires : goal.pass-h-requires
-pass-h-requires τ c = let g = here n c in
+pass-h-requires τ c = let g = here-pass-arg-1 τ c in
     (omega (arith, first-falls g _ c.first-x.ensures, (start n c).requires.0), (_, _, _, _, at_first g _ c.first-x.ensures))
 
 pub second-y-requires : goal.second-y-requires
-second-y-requires τ c = part-under (here n c)
+second-y-requires τ c = part-under (here-pass-h τ c)
 
 pub pass-requires : goal.pass-requires
-pass-requires τ c = let g = here n c in
+pass-requires τ c = let g = here-pass-arg-2-1 τ c in
     let x = c.first-x.ensures in
     let k = c.pass-h.ensures _ _ _ _ (at_first g _ x) in
     (omega (arith, second-falls g _ x.0 k _ c.second-y.ensures, (start n c).requires.0), (_, _, _, _, at_second g _ x.0 k _ c.second-y.ensures))
 
 pub returns : goal.returns
-returns τ c q p t ms s = let g = part n c q p t ms s in
+returns τ c q p t ms s = let g = part-pass τ c q p t ms s in
     let x = c.first-x.ensures in
     let k = c.pass-h.ensures _ _ _ _ (at_first g _ x) in
     let y = c.second-y.ensures in

@@ -22,7 +22,7 @@ use Rattle.setfile_range.proofs.put_aside.Goals as goal
 one : (c : goal.After-put_at-arg-1) (f : ℕ) (p : Bits) (d : Bool) (q : Bits) → let a = c.args in On f a.x p (d ∷ q) → aside_of a.apart a.x.there a.bit p d ≡ snoc p (not a.bit) ∷ []
 one c f p d q o = aside-one c.args.bit p (not-false _ c.if-not-apart.false-raw) (not-false _ c.if-not-x.false) (sym (c.bit_of.ensures f p d q o) ∙ same-is _ _ (not-false _ c.if-bit_of-bit.false))
 
-fits : (c : goal.After-put_at-arg-1) → let a = start c in (a.args.n + 1 ≤ most_entries) × (file_bytes a.pre.0 a.args.n + entry_bytes a.pre.0 ≤ length a.args.out.now)
+fits : (c : goal.After-put_at-arg-1) → (c.args.n + 1 ≤ most_entries) × (file_bytes c.requires.0 c.args.n + entry_bytes c.requires.0 ≤ length c.args.out.now)
 fits c = let (f, p, d, q, o, h) = c.requires in one-fits f _ _ _ (one c f p d q o) h
 
 -- the network is of the family
@@ -33,14 +33,14 @@ family c f p e = (path-is _ f _ (c.down-y.ensures f p e)).1
 one-file_bytes : (c : goal.After-file_bytes) (f : ℕ) (p : Bits) (d : Bool) (q : Bits) → let a = c.args in On f a.x p (d ∷ q) → aside_of a.apart a.x.there a.bit p d ≡ snoc p (not a.bit) ∷ []
 one-file_bytes c f p d q o = aside-one c.args.bit p (not-false _ c.if-not-apart.false-raw) (not-false _ c.if-not-x.false) (sym (c.bit_of.ensures f p d q o) ∙ same-is _ _ (not-false _ c.if-bit_of-bit.false))
 
-fits-file_bytes : (c : goal.After-file_bytes) → let a = start c in (a.args.n + 1 ≤ most_entries) × (file_bytes a.pre.0 a.args.n + entry_bytes a.pre.0 ≤ length a.args.out.now)
+fits-file_bytes : (c : goal.After-file_bytes) → (c.args.n + 1 ≤ most_entries) × (file_bytes c.requires.0 c.args.n + entry_bytes c.requires.0 ≤ length c.args.out.now)
 fits-file_bytes c = let (f, p, d, q, o, h) = c.requires in one-fits f _ _ _ (one-file_bytes c f p d q o) h
 
 -- what is left aside is one network
 one-slice_known-2-1 : (c : goal.After-slice_known-2-1) (f : ℕ) (p : Bits) (d : Bool) (q : Bits) → let a = c.args in On f a.x p (d ∷ q) → aside_of a.apart a.x.there a.bit p d ≡ snoc p (not a.bit) ∷ []
 one-slice_known-2-1 c f p d q o = aside-one c.args.bit p (not-false _ c.if-not-apart.false-raw) (not-false _ c.if-not-x.false) (sym (c.bit_of.ensures f p d q o) ∙ same-is _ _ (not-false _ c.if-bit_of-bit.false))
 
-fits-slice_known-2-1 : (c : goal.After-slice_known-2-1) → let a = start c in (a.args.n + 1 ≤ most_entries) × (file_bytes a.pre.0 a.args.n + entry_bytes a.pre.0 ≤ length a.args.out.now)
+fits-slice_known-2-1 : (c : goal.After-slice_known-2-1) → (c.args.n + 1 ≤ most_entries) × (file_bytes c.requires.0 c.args.n + entry_bytes c.requires.0 ≤ length c.args.out.now)
 fits-slice_known-2-1 c = let (f, p, d, q, o, h) = c.requires in one-fits f _ _ _ (one-slice_known-2-1 c f p d q o) h
 
 -- the network is of the family

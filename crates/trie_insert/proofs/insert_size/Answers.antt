@@ -13,52 +13,45 @@ use Rattle.trie_insert.proofs.Insertion.{inner-fit}
 use Rattle.trie_insert.proofs.Counting.{Part, part-all, part-side, sized-end, sized-empty, sized-none, sized-leaf}
 use Rattle.trie_insert.proofs.insert_size.Goals as goal
 
--- at an inner node
-abbrev Fork : Type 0
-Fork = tie.After-known-told2 invariant-loop decreases-loop
-
-abbrev looked : Fork → tie.After-look invariant-loop decreases-loop
-looked c = c.before.before.before
-
-abbrev next : Fork → tie.After-next2 invariant-loop decreases-loop
-next c = (looked c).before.before
-
-abbrev loop : Fork → tie.At-loop invariant-loop decreases-loop
-loop c = (next c).before.before.before
-
-inner : (c : Fork) → let l = loop c in let a = l.before.before.args in Views a.w.now a.b l.loop.from l.loop.to (Inner c.before.v.given.0.0)
-inner c t rest u g = sym c.before.v.given.1 ∙ (looked c).look.ensures t rest u g
-
 more : (c : goal.In-Leaf) → Hands c.loop-bit.p c.in-Bit.bit c.in-Bit.rest
 more c = hands _ _ _ _ c.loop-bit.invariant.0 c.next-next.ensures c.in-Bit.is
 
 more-struct_known-then-m-to-1 : (c : goal.After-struct_known-then-m-to-1) → Hands c.loop-bit.p c.in-Bit.bit c.in-Bit.rest
 more-struct_known-then-m-to-1 c = hands _ _ _ _ c.loop-bit.invariant.0 c.next-next.ensures c.in-Bit.is
 
-right : (c : goal.After-struct_known-then-m-to-1) → Hands (loop c).loop.p true (next c).next2.given.0.1.0
-right c = hands-bit c.if-bit.true (more-struct_known-then-m-to-1 (next c))
+right : (c : goal.After-struct_known-then-m-to-1) → Hands c.loop-bit.p true c.in-Bit.rest
+right c = hands-bit c.if-bit.true (more-struct_known-then-m-to-1 c)
+
+inner : (c : goal.After-struct_known-then-m-to-1) → let a = c.args in Views a.w.now a.b c.loop-bit.from c.loop-bit.to (Inner c.in-Inner.m)
+inner c t rest u g = sym c.in-Inner.is ∙ c.look-v.ensures t rest u g
 
 -- what is left at the second child
-second : (c : goal.After-struct_known-then-m-to-1) → let l = loop c in let a = l.before.before.args in let rest = (next c).next2.given.0.1.0 in
-    (rest.len ≤ 128) × Part a.w.now a.b a.i a.e (bits_left a.s) c.in-Inner.m l.loop.to (bits_left rest)
-second c = let h = right c in let v = (loop c).loop.inv in (omega (arith, h.len, v.0), part-side true (rw h.bits at v.1) (inner c))
+second : (c : goal.After-struct_known-then-m-to-1) → let a = c.args in let rest = c.in-Bit.rest in
+    (rest.len ≤ 128) × Part a.w.now a.b a.i a.e (bits_left a.s) c.in-Inner.m c.loop-bit.to (bits_left rest)
+second c = let h = right c in let v = c.loop-bit.invariant in (omega (arith, h.len, v.0), part-side true (rw h.bits at v.1) (inner c))
 
 more-else-m-to : (c : goal.Else-m-to) → Hands c.loop-bit.p c.in-Bit.bit c.in-Bit.rest
 more-else-m-to c = hands _ _ _ _ c.loop-bit.invariant.0 c.next-next.ensures c.in-Bit.is
 
-right-else-m-to : (c : goal.Else-m-to) → Hands (loop c).loop.p true (next c).next2.given.0.1.0
-right-else-m-to c = hands-bit c.if-bit.true (more-else-m-to (next c))
+right-else-m-to : (c : goal.Else-m-to) → Hands c.loop-bit.p true c.in-Bit.rest
+right-else-m-to c = hands-bit c.if-bit.true (more-else-m-to c)
+
+inner-else-m-to : (c : goal.Else-m-to) → let a = c.args in Views a.w.now a.b c.loop-bit.from c.loop-bit.to (Inner c.in-Inner.m)
+inner-else-m-to c t rest u g = sym c.in-Inner.is ∙ c.look-v.ensures t rest u g
 
 -- what is left at the second child
-second-else-m-to : (c : goal.Else-m-to) → let l = loop c in let a = l.before.before.args in let rest = (next c).next2.given.0.1.0 in
-    (rest.len ≤ 128) × Part a.w.now a.b a.i a.e (bits_left a.s) c.in-Inner.m l.loop.to (bits_left rest)
-second-else-m-to c = let h = right-else-m-to c in let v = (loop c).loop.inv in (omega (arith, h.len, v.0), part-side true (rw h.bits at v.1) (inner c))
+second-else-m-to : (c : goal.Else-m-to) → let a = c.args in let rest = c.in-Bit.rest in
+    (rest.len ≤ 128) × Part a.w.now a.b a.i a.e (bits_left a.s) c.in-Inner.m c.loop-bit.to (bits_left rest)
+second-else-m-to c = let h = right-else-m-to c in let v = c.loop-bit.invariant in (omega (arith, h.len, v.0), part-side true (rw h.bits at v.1) (inner-else-m-to c))
+
+inner-else-bit : (c : goal.Else-bit) → let a = c.args in Views a.w.now a.b c.loop-bit.from c.loop-bit.to (Inner c.in-Inner.m)
+inner-else-bit c t rest u g = sym c.in-Inner.is ∙ c.look-v.ensures t rest u g
 
 more-else-bit : (c : goal.Else-bit) → Hands c.loop-bit.p c.in-Bit.bit c.in-Bit.rest
 more-else-bit c = hands _ _ _ _ c.loop-bit.invariant.0 c.next-next.ensures c.in-Bit.is
 
-left : (c : goal.Else-bit) → Hands (loop c).loop.p false (next c).next2.given.0.1.0
-left c = hands-bit c.if-bit.false (more-else-bit (next c))
+left : (c : goal.Else-bit) → Hands c.loop-bit.p false c.in-Bit.rest
+left c = hands-bit c.if-bit.false (more-else-bit c)
 
 pub overflow_sub-n : goal.overflow_sub-n
 overflow_sub-n c = omega (arith, c.requires.1.stands.end)
@@ -93,12 +86,11 @@ pub returns-in-Leaf : goal.returns-in-Leaf
 returns-in-Leaf c = sized-leaf c.loop-bit.invariant.1 _ _ (more c).bits (rw c.in-Leaf.is at c.look-v.ensures)
 
 pub overflow_add-result-then-m-to-2 : goal.overflow_add-result-then-m-to-2
-overflow_add-result-then-m-to-2 c = let l = loop c in
-    let g = l.before.before.pre.1.stands in
-    omega (arith, segment-fit g, g.few, (right c).len, l.loop.inv.0)
+overflow_add-result-then-m-to-2 c = let g = c.requires.1.stands in
+    omega (arith, segment-fit g, g.few, (right c).len, c.loop-bit.invariant.0)
 
 pub returns-then-m-to : goal.returns-then-m-to
-returns-then-m-to c = sized-empty (second c).1 _ c.if-m-to.true (sym (length-bits_left (next c).next2.given.0.1.0 (second c).0))
+returns-then-m-to c = sized-empty (second c).1 _ c.if-m-to.true (sym (length-bits_left c.in-Bit.rest (second c).0))
 
 pub loop-bit-smaller-then-bit : goal.loop-bit-smaller-then-bit
 loop-bit-smaller-then-bit c = omega (arith, (right-else-m-to c).len)
@@ -107,10 +99,10 @@ pub loop-bit-preserved-then-bit : goal.loop-bit-preserved-then-bit
 loop-bit-preserved-then-bit c = second-else-m-to c
 
 pub overflow_add-from : goal.overflow_add-from
-overflow_add-from c = omega (arith, inner-fit (inner c) (loop c).loop.inv.1.held.stands)
+overflow_add-from c = omega (arith, inner-fit (inner-else-bit c) c.loop-bit.invariant.1.held.stands)
 
 pub loop-bit-smaller : goal.loop-bit-smaller
 loop-bit-smaller c = omega (arith, (left c).len)
 
 pub loop-bit-preserved : goal.loop-bit-preserved
-loop-bit-preserved c = let h = left c in let v = (loop c).loop.inv in (omega (arith, h.len, v.0), part-side false (rw h.bits at v.1) (inner c))
+loop-bit-preserved c = let h = left c in let v = c.loop-bit.invariant in (omega (arith, h.len, v.0), part-side false (rw h.bits at v.1) (inner-else-bit c))

@@ -10,61 +10,49 @@ use Rattle.trie_lookup.proofs.Turns.{Placed, placed-asks, placed-start, Seen, se
 use Rattle.trie_lookup.proofs.walk_down.Goals as goal
 
 seen : (c : goal.Then-x-eq0) →
-    let t = told c in
-    let o = turn t.before.before in
     let a = c.args in
-    Seen a.w.now a.b a.n (walk a.w.now a.b a.n (a.len - a.bits.len) a.root (bits_left a.bits)) a.len o.loop.p o.loop.left (get_or a.w.now o.loop.p 0)
-    t.next2.given.0.0 t.next2.given.0.1.0
-seen c = let t = told c in
-    record { placed = c.loop-bit.inv; is = refl; before = c.if-last-q.false; next = sym t.before.before.next.ensures ∙ ap next_as t.next2.given.1 }
+    Seen a.w.now a.b a.n (walk a.w.now a.b a.n (a.len - a.bits.len) a.root (bits_left a.bits)) a.len c.loop-bit.p c.loop-bit.left (get_or a.w.now c.loop-bit.p 0)
+    c.in-Bit.bit c.in-Bit.later
+seen c = record { placed = c.loop-bit.invariant; is = refl; before = c.if-last-q.false; next = sym c.next-next.ensures ∙ ap next_as c.in-Bit.is }
 
 seen-then-x-lone : (c : goal.Then-x-lone) →
-    let t = told c in
-    let o = turn t.before.before in
     let a = c.args in
-    Seen a.w.now a.b a.n (walk a.w.now a.b a.n (a.len - a.bits.len) a.root (bits_left a.bits)) a.len o.loop.p o.loop.left (get_or a.w.now o.loop.p 0)
-    t.next2.given.0.0 t.next2.given.0.1.0
-seen-then-x-lone c = let t = told c in
-    record { placed = c.loop-bit.inv; is = refl; before = c.if-last-q.false; next = sym t.before.before.next.ensures ∙ ap next_as t.next2.given.1 }
+    Seen a.w.now a.b a.n (walk a.w.now a.b a.n (a.len - a.bits.len) a.root (bits_left a.bits)) a.len c.loop-bit.p c.loop-bit.left (get_or a.w.now c.loop-bit.p 0)
+    c.in-Bit.bit c.in-Bit.later
+seen-then-x-lone c = record { placed = c.loop-bit.invariant; is = refl; before = c.if-last-q.false; next = sym c.next-next.ensures ∙ ap next_as c.in-Bit.is }
 
 seen-else-x-lone : (c : goal.Else-x-lone) →
-    let t = told c in
-    let o = turn t.before.before in
     let a = c.args in
-    Seen a.w.now a.b a.n (walk a.w.now a.b a.n (a.len - a.bits.len) a.root (bits_left a.bits)) a.len o.loop.p o.loop.left (get_or a.w.now o.loop.p 0)
-    t.next2.given.0.0 t.next2.given.0.1.0
-seen-else-x-lone c = let t = told c in
-    record { placed = c.loop-bit.inv; is = refl; before = c.if-last-q.false; next = sym t.before.before.next.ensures ∙ ap next_as t.next2.given.1 }
+    Seen a.w.now a.b a.n (walk a.w.now a.b a.n (a.len - a.bits.len) a.root (bits_left a.bits)) a.len c.loop-bit.p c.loop-bit.left (get_or a.w.now c.loop-bit.p 0)
+    c.in-Bit.bit c.in-Bit.later
+seen-else-x-lone c = record { placed = c.loop-bit.invariant; is = refl; before = c.if-last-q.false; next = sym c.next-next.ensures ∙ ap next_as c.in-Bit.is }
 
 seen-child-p : (c : goal.After-child-p) →
-    let t = told c in
-    let o = turn t.before.before in
     let a = c.args in
-    Seen a.w.now a.b a.n (walk a.w.now a.b a.n (a.len - a.bits.len) a.root (bits_left a.bits)) a.len o.loop.p o.loop.left (get_or a.w.now o.loop.p 0)
-    t.next2.given.0.0 t.next2.given.0.1.0
-seen-child-p c = let t = told c in
-    record { placed = c.loop-bit.inv; is = refl; before = c.if-last-q.false; next = sym t.before.before.next.ensures ∙ ap next_as t.next2.given.1 }
+    Seen a.w.now a.b a.n (walk a.w.now a.b a.n (a.len - a.bits.len) a.root (bits_left a.bits)) a.len c.loop-bit.p c.loop-bit.left (get_or a.w.now c.loop-bit.p 0)
+    c.in-Bit.bit c.in-Bit.later
+seen-child-p c = record { placed = c.loop-bit.invariant; is = refl; before = c.if-last-q.false; next = sym c.next-next.ensures ∙ ap next_as c.in-Bit.is }
 
 pub loop-bit-init : goal.loop-bit-init
 loop-bit-init c = let h = c.requires in placed-start h.1 h.2 h.3 h.4
 
 pub walk_tested-requires : goal.walk_tested-requires
-walk_tested-requires c = let o = turn c in placed-asks c.requires.0 o.loop.inv
+walk_tested-requires c = placed-asks c.requires.0 c.loop-bit.invariant
 
 pub returns-in-End : goal.returns-in-End
-returns-in-End c = c.walk_tested.ensures ∙ c.loop-bit.inv.down.rest
+returns-in-End c = c.walk_tested.ensures ∙ c.loop-bit.invariant.down.rest
 
 pub overflow_cast-x : goal.overflow_cast-x
 overflow_cast-x c = omega (arith, c.type_inv.w c.loop-bit.p)
 
 pub overflow_add-q : goal.overflow_add-q
-overflow_add-q c = omega (arith, c.type_inv.w c.loop-bit.p, placed-asks c.requires.0 c.loop-bit.inv)
+overflow_add-q c = omega (arith, c.type_inv.w c.loop-bit.p, placed-asks c.requires.0 c.loop-bit.invariant)
 
 pub walk_tested-requires-then-last-q : goal.walk_tested-requires-then-last-q
-walk_tested-requires-then-last-q c = let o = turn c in placed-asks c.requires.0 o.loop.inv
+walk_tested-requires-then-last-q c = placed-asks c.requires.0 c.loop-bit.invariant
 
 pub returns-then-last-q : goal.returns-then-last-q
-returns-then-last-q c = c.walk_tested-then-last-q.ensures ∙ c.loop-bit.inv.down.rest
+returns-then-last-q c = c.walk_tested-then-last-q.ensures ∙ c.loop-bit.invariant.down.rest
 
 pub returns-then-x-eq0 : goal.returns-then-x-eq0
 returns-then-x-eq0 c = seen-leaf (seen c) c.if-x-eq0.true
@@ -73,10 +61,10 @@ pub returns-then-x-lone : goal.returns-then-x-lone
 returns-then-x-lone c = seen-lone (seen-then-x-lone c) c.if-x-eq0.false c.if-x-lt3.true (λ e. c.if-x-lone.true (e ∙ sym c.lone.ensures))
 
 pub walk_tested-requires-then-x-eq0-2 : goal.walk_tested-requires-then-x-eq0-2
-walk_tested-requires-then-x-eq0-2 c = let o = turn c in placed-asks c.requires.0 o.loop.inv
+walk_tested-requires-then-x-eq0-2 c = placed-asks c.requires.0 c.loop-bit.invariant
 
 pub returns-then-x-eq0-2 : goal.returns-then-x-eq0-2
-returns-then-x-eq0-2 c = c.walk_tested-then-x-eq0-2.ensures ∙ c.loop-bit.inv.down.rest
+returns-then-x-eq0-2 c = c.walk_tested-then-x-eq0-2.ensures ∙ c.loop-bit.invariant.down.rest
 
 pub loop-bit-smaller-else-x-lone : goal.loop-bit-smaller-else-x-lone
 loop-bit-smaller-else-x-lone c = seen-less (seen-else-x-lone c)

@@ -24,4 +24,4 @@ returns-in-31 c = let a = c.args in
 pub returns-in_default : goal.returns-in_default
 unfolding load_of span_by
 returns-in_default c = let a = c.args in
-    rw (ne_eqb _ _ c.in_default.rest.0.0.1, ne_eqb _ _ c.in_default.rest.0.1, ne_eqb _ _ c.in_default.rest.1) (loaded-is a.pool.now a.s.now a.c c.of_answer-in_default.ensures c.load.ensures)
+    rw (ne_eqb _ _ c.in_default.in_default-own.rest.0.0.1, ne_eqb _ _ c.in_default.in_default-own.rest.0.1, ne_eqb _ _ c.in_default.in_default-own.rest.1) (loaded-is a.pool.now a.s.now a.c c.of_answer-in_default.ensures c.load.ensures)

@@ -4,14 +4,14 @@ use Rattle.pool_state.proofs.Seats.{Seats, seated-refused, seated-at}
 use Rattle.change_many.proofs.Asked.{file-refused, file-broken, file-family, file-ready}
 use Rattle.change_many.proofs.asking.ask_file.Goals as goal
 
-seats : (c : goal.Then-family-seat) → let d = seated c in let a = d.before.before.before.before.before.args in Seats a.pool.now a.set d.seated2.given.0.0 d.seated2.given.0.1.0
-seats c = let d = seated c in seated-at _ _ d.before.before.seat-of.ensures _ _ d.seated2.given.1
+seats : (c : goal.Then-family-seat) → let a = c.args in Seats a.pool.now a.set c.in-At.found c.in-At.seat
+seats c = seated-at _ _ c.seat_of-seated.ensures _ _ c.in-At.is
 
-seats-in-broken : (c : goal.In-Broken) → let d = seated c in let a = d.before.before.before.before.before.args in Seats a.pool.now a.set d.seated2.given.0.0 d.seated2.given.0.1.0
-seats-in-broken c = let d = seated c in seated-at _ _ d.before.before.seat-of.ensures _ _ d.seated2.given.1
+seats-in-broken : (c : goal.In-Broken) → let a = c.args in Seats a.pool.now a.set c.in-At.found c.in-At.seat
+seats-in-broken c = seated-at _ _ c.seat_of-seated.ensures _ _ c.in-At.is
 
-seats-else-family-seat : (c : goal.Else-family-seat) → let d = seated c in let a = d.before.before.before.before.before.args in Seats a.pool.now a.set d.seated2.given.0.0 d.seated2.given.0.1.0
-seats-else-family-seat c = let d = seated c in seated-at _ _ d.before.before.seat-of.ensures _ _ d.seated2.given.1
+seats-else-family-seat : (c : goal.Else-family-seat) → let a = c.args in Seats a.pool.now a.set c.in-At.found c.in-At.seat
+seats-else-family-seat c = seated-at _ _ c.seat_of-seated.ensures _ _ c.in-At.is
 
 pub returns-then-family-seat : goal.returns-then-family-seat
 returns-then-family-seat c = file-family _ (seats c) c.check-checked.ensures c.in-File.is c.if-family-seat.true

@@ -16,11 +16,10 @@ pub stride_of-s-requires : goal.stride_of-s-requires
 stride_of-s-requires c = omega (arith, figures c.requires.2.surveyed)
 
 pub shift_behind-requires : goal.shift_behind-requires
-shift_behind-requires c = let s = seated c in seat-gap c.requires.2 s.seat-in.ensures c.stride_of-s.ensures refl
+shift_behind-requires c = seat-gap c.requires.2 c.seat_in-at.ensures c.stride_of-s.ensures refl
 
 pub pour_seated-requires : goal.pour_seated-requires
-pour_seated-requires c = let s = seated c in
-    (_, _, grown-pours c.requires.2 s.seat-in.ensures c.stride_of-s.ensures c.if-v-n.true c.shift_behind.ensures refl)
+pour_seated-requires c = (_, _, grown-pours c.requires.2 c.seat_in-at.ensures c.stride_of-s.ensures c.if-v-n.true c.shift_behind.ensures refl)
 
 pub returns-then-v-n : goal.returns-then-v-n
 returns-then-v-n c S l h = let q = c.seat_in-at.ensures in
@@ -29,12 +28,11 @@ returns-then-v-n c S l h = let q = c.seat_in-at.ensures in
     grown-wrote h q o c.if-v-n.true e (c.pour_seated.ensures _ _ (grown-pours h q o c.if-v-n.true e refl))
 
 pub pour_seated-requires-2 : goal.pour_seated-requires-2
-pour_seated-requires-2 c = let s = seated c in (_, _, shrunk-pours c.requires.2 s.seat-in.ensures refl)
+pour_seated-requires-2 c = (_, _, shrunk-pours c.requires.2 c.seat_in-at.ensures refl)
 
 pub shift_behind-requires-2 : goal.shift_behind-requires-2
-shift_behind-requires-2 c = let s = seated c in
-    let h = c.requires.2 in
-    let q = s.seat-in.ensures in
+shift_behind-requires-2 c = let h = c.requires.2 in
+    let q = c.seat_in-at.ensures in
     let o = c.stride_of-s.ensures in
     seat-gap h q o (shrunk-length h q (c.pour_seated-2.ensures _ _ (shrunk-pours h q refl)))
 

@@ -15,10 +15,10 @@ pub settle-requires : goal.settle-requires
 settle-requires c = let (t, g) = c.requires in (g.one, settle-fits g (c.simplify-x.ensures t g))
 
 pub overflow_sub-result : goal.overflow_sub-result
-overflow_sub-result c = let s = done c in let (t, g) = c.requires in omega (arith, end_fits g (s.simplify.ensures t g) c.end_of.ensures)
+overflow_sub-result c = let (t, g) = c.requires in omega (arith, end_fits g (c.simplify-x.ensures t g) c.end_of.ensures)
 
 pub overflow_cast-result : goal.overflow_cast-result
-overflow_cast-result c = let s = done c in let (t, g) = c.requires in omega (arith, end_fits g (s.simplify.ensures t g) c.end_of.ensures)
+overflow_cast-result c = let (t, g) = c.requires in omega (arith, end_fits g (c.simplify-x.ensures t g) c.end_of.ensures)
 
 pub returns : goal.returns
 returns c t g = shrunk g (c.simplify-x.ensures t g) c.end_of.ensures c.settle.ensures

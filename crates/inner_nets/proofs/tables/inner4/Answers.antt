@@ -33,4 +33,4 @@ returns-in-5 c = rw c.in-5.is c.net-in-5.ensures
 
 pub returns-in_default : goal.returns-in_default
 unfolding inner_nets4
-returns-in_default c = c.net-in_default.ensures ∙ sym (get_or-eq_default inner_nets4 no_net {n = c.args.i} (omega (arith, c.in_default.rest)))
+returns-in_default c = c.net-in_default.ensures ∙ sym (get_or-eq_default inner_nets4 no_net {n = c.args.i} (omega (arith, c.in_default.in_default-own.rest)))

@@ -25,4 +25,4 @@ returns-in-3 c = rw c.in-3.is c.net-in-3.ensures
 
 pub returns-in_default : goal.returns-in_default
 unfolding inner_nets6
-returns-in_default c = c.net-in_default.ensures ∙ sym (get_or-eq_default inner_nets6 no_net {n = c.args.i} (omega (arith, c.in_default.rest)))
+returns-in_default c = c.net-in_default.ensures ∙ sym (get_or-eq_default inner_nets6 no_net {n = c.args.i} (omega (arith, c.in_default.in_default-own.rest)))

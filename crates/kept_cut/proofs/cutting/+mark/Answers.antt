@@ -14,43 +14,136 @@ use Rattle.kept_cut.proofs.Steps.{stay-left, away-left, as_member, member-left}
 use Rattle.kept_cut.proofs.Forks.{Fork, fork, first-cuts, second-cuts, closing, fork-left}
 use Rattle.kept_cut.proofs.cutting.+mark.Goals as goal
 
-abbrev at : ℕ → In 3 mark-kinds.ps
-at t = and 3 mark-kinds.ps (is 3 mark-kinds.ps μ-mark t) mark.Pre
+abbrev Given : (τ : ℕ) → goal.After-member-arg-in-Leaf-1 τ → Bits → Bits → Trie → List Bits → Trie → Type 0
+Given τ c q p u ms t = let a = c.args in Cuts a.w.now a.b a.n a.i a.e a.bytes.now a.cursors.now a.s q p u ms t
 
-abbrev Start : Type 0
-Start = lts.Start (calls n) (at n) mark.Post
+some : (τ : ℕ) → (c : goal.After-member-arg-in-Leaf-1 τ) → c.args.s.some ≡ true
+some τ c = not-false _ c.if-not-s.false
 
-abbrev Given : Start → Bits → Bits → Trie → List Bits → Trie → Type 0
-Given s q p u ms t = let a = s.args in Cuts a.w.now a.b a.n a.i a.e a.bytes.now a.cursors.now a.s q p u ms t
+sighted : (τ : ℕ) → (c : goal.After-member-arg-in-Leaf-1 τ) (q p : Bits) (u : Trie) (ms : List Bits) (t : Trie) → Given τ c q p u ms t → Sighted c.args.i u t c.sight-v.result
+sighted τ c q p u ms t g = c.sight-v.ensures q p u ms t g.here g.at.under (at_some g.at (some τ c))
 
-abbrev Seen : Type 0
-Seen = lts.After-sight (calls n) (at n) mark.Post
+abbrev Given-mark-arg-in-inner-1 : (τ : ℕ) → goal.After-mark-arg-in-Inner-1 τ → Bits → Bits → Trie → List Bits → Trie → Type 0
+Given-mark-arg-in-inner-1 τ c q p u ms t = let a = c.args in Cuts a.w.now a.b a.n a.i a.e a.bytes.now a.cursors.now a.s q p u ms t
 
-abbrev start : Seen → Start
-start c = c.before.before.before.before.before.before.before
+some-mark-arg-in-inner-1 : (τ : ℕ) → (c : goal.After-mark-arg-in-Inner-1 τ) → c.args.s.some ≡ true
+some-mark-arg-in-inner-1 τ c = not-false _ c.if-not-s.false
 
-some : (c : Seen) → (start c).args.s.some ≡ true
-some c = not-false _ c.before.before.if1.false
+sighted-mark-arg-in-inner-1 : (τ : ℕ) → (c : goal.After-mark-arg-in-Inner-1 τ) (q p : Bits) (u : Trie) (ms : List Bits) (t : Trie) → Given-mark-arg-in-inner-1 τ c q p u ms t → Sighted c.args.i u t c.sight-v.result
+sighted-mark-arg-in-inner-1 τ c q p u ms t g = c.sight-v.ensures q p u ms t g.here g.at.under (at_some g.at (some-mark-arg-in-inner-1 τ c))
 
-sighted : (c : Seen) (q p : Bits) (u : Trie) (ms : List Bits) (t : Trie) → Given (start c) q p u ms t → Sighted (start c).args.i u t c.sight.result
-sighted c q p u ms t g = c.sight.ensures q p u ms t g.here g.at.under (at_some g.at (some c))
+forked : (τ : ℕ) → (c : goal.After-mark-arg-in-Inner-1 τ) (q p : Bits) (u : Trie) (ms : List Bits) (t : Trie) → Given-mark-arg-in-inner-1 τ c q p u ms t
+    → let a = c.args in Fork a.w.now a.b a.n a.i a.e a.bytes.now a.cursors.now
+    a.s q p u ms t c.in-Inner.a c.in-Inner.m
+forked τ c q p u ms t g = fork g (some-mark-arg-in-inner-1 τ c) (subst (λ z. Sighted c.args.i u t z) c.in-Inner.is (sighted-mark-arg-in-inner-1 τ c q p u ms t g))
 
--- both halves are gone into
-abbrev Inside : Type 0
-Inside = lts.After-known-told (calls n) (at n) mark.Post
+abbrev here : (τ : ℕ) → (c : goal.After-mark-arg-in-Inner-1 τ) → let a = c.args in let (q, p, u, ms, t, g) = c.requires in
+    Fork a.w.now a.b a.n a.i a.e a.bytes.now a.cursors.now a.s q p u ms t c.in-Inner.a c.in-Inner.m
+here τ c = let (q, p, u, ms, t, g) = c.requires in forked τ c q p u ms t g
 
-abbrev seen : Inside → Seen
-seen c = c.before.before.before
+abbrev Given-first : (τ : ℕ) → goal.After-first τ → Bits → Bits → Trie → List Bits → Trie → Type 0
+Given-first τ c q p u ms t = let a = c.args in Cuts a.w.now a.b a.n a.i a.e a.bytes.now a.cursors.now a.s q p u ms t
 
-forked : (c : Inside) (q p : Bits) (u : Trie) (ms : List Bits) (t : Trie) → Given (start (seen c)) q p u ms t
-    → let a = (start (seen c)).args in let v = c.before.v.given.0 in Fork a.w.now a.b a.n a.i a.e a.bytes.now a.cursors.now
-    a.s q p u ms t v.0 v.1.0
-forked c q p u ms t g =
-    fork g (some (seen c)) (subst (λ z. Sighted (start (seen c)).args.i u t z) c.before.v.given.1 (sighted (seen c) q p u ms t g))
+some-first : (τ : ℕ) → (c : goal.After-first τ) → c.args.s.some ≡ true
+some-first τ c = not-false _ c.if-not-s.false
 
-abbrev here : (c : Inside) → let a = (start (seen c)).args in let v = c.before.v.given.0 in let (q, p, u, ms, t, g) = (start (seen c)).pre.1 in
-    Fork a.w.now a.b a.n a.i a.e a.bytes.now a.cursors.now a.s q p u ms t v.0 v.1.0
-here c = let (q, p, u, ms, t, g) = (start (seen c)).pre.1 in forked c q p u ms t g
+sighted-first : (τ : ℕ) → (c : goal.After-first τ) (q p : Bits) (u : Trie) (ms : List Bits) (t : Trie) → Given-first τ c q p u ms t → Sighted c.args.i u t c.sight-v.result
+sighted-first τ c q p u ms t g = c.sight-v.ensures q p u ms t g.here g.at.under (at_some g.at (some-first τ c))
+
+forked-first : (τ : ℕ) → (c : goal.After-first τ) (q p : Bits) (u : Trie) (ms : List Bits) (t : Trie) → Given-first τ c q p u ms t
+    → let a = c.args in Fork a.w.now a.b a.n a.i a.e a.bytes.now a.cursors.now
+    a.s q p u ms t c.in-Inner.a c.in-Inner.m
+forked-first τ c q p u ms t g = fork g (some-first τ c) (subst (λ z. Sighted c.args.i u t z) c.in-Inner.is (sighted-first τ c q p u ms t g))
+
+abbrev here-first : (τ : ℕ) → (c : goal.After-first τ) → let a = c.args in let (q, p, u, ms, t, g) = c.requires in
+    Fork a.w.now a.b a.n a.i a.e a.bytes.now a.cursors.now a.s q p u ms t c.in-Inner.a c.in-Inner.m
+here-first τ c = let (q, p, u, ms, t, g) = c.requires in forked-first τ c q p u ms t g
+
+abbrev Given-mark-arg-in-inner-3-1 : (τ : ℕ) → goal.After-mark-arg-in-Inner-3-1 τ → Bits → Bits → Trie → List Bits → Trie → Type 0
+Given-mark-arg-in-inner-3-1 τ c q p u ms t = let a = c.args in Cuts a.w.now a.b a.n a.i a.e a.bytes.now a.cursors.now a.s q p u ms t
+
+some-mark-arg-in-inner-3-1 : (τ : ℕ) → (c : goal.After-mark-arg-in-Inner-3-1 τ) → c.args.s.some ≡ true
+some-mark-arg-in-inner-3-1 τ c = not-false _ c.if-not-s.false
+
+sighted-mark-arg-in-inner-3-1 : (τ : ℕ) → (c : goal.After-mark-arg-in-Inner-3-1 τ) (q p : Bits) (u : Trie) (ms : List Bits) (t : Trie) → Given-mark-arg-in-inner-3-1 τ c q p u ms t → Sighted c.args.i u t c.sight-v.result
+sighted-mark-arg-in-inner-3-1 τ c q p u ms t g = c.sight-v.ensures q p u ms t g.here g.at.under (at_some g.at (some-mark-arg-in-inner-3-1 τ c))
+
+forked-mark-arg-in-inner-3-1 : (τ : ℕ) → (c : goal.After-mark-arg-in-Inner-3-1 τ) (q p : Bits) (u : Trie) (ms : List Bits) (t : Trie) → Given-mark-arg-in-inner-3-1 τ c q p u ms t
+    → let a = c.args in Fork a.w.now a.b a.n a.i a.e a.bytes.now a.cursors.now
+    a.s q p u ms t c.in-Inner.a c.in-Inner.m
+forked-mark-arg-in-inner-3-1 τ c q p u ms t g = fork g (some-mark-arg-in-inner-3-1 τ c) (subst (λ z. Sighted c.args.i u t z) c.in-Inner.is (sighted-mark-arg-in-inner-3-1 τ c q p u ms t g))
+
+abbrev here-mark-arg-in-inner-3-1 : (τ : ℕ) → (c : goal.After-mark-arg-in-Inner-3-1 τ) → let a = c.args in let (q, p, u, ms, t, g) = c.requires in
+    Fork a.w.now a.b a.n a.i a.e a.bytes.now a.cursors.now a.s q p u ms t c.in-Inner.a c.in-Inner.m
+here-mark-arg-in-inner-3-1 τ c = let (q, p, u, ms, t, g) = c.requires in forked-mark-arg-in-inner-3-1 τ c q p u ms t g
+
+abbrev Given-second : (τ : ℕ) → goal.After-second τ → Bits → Bits → Trie → List Bits → Trie → Type 0
+Given-second τ c q p u ms t = let a = c.args in Cuts a.w.now a.b a.n a.i a.e a.bytes.now a.cursors.now a.s q p u ms t
+
+some-second : (τ : ℕ) → (c : goal.After-second τ) → c.args.s.some ≡ true
+some-second τ c = not-false _ c.if-not-s.false
+
+sighted-second : (τ : ℕ) → (c : goal.After-second τ) (q p : Bits) (u : Trie) (ms : List Bits) (t : Trie) → Given-second τ c q p u ms t → Sighted c.args.i u t c.sight-v.result
+sighted-second τ c q p u ms t g = c.sight-v.ensures q p u ms t g.here g.at.under (at_some g.at (some-second τ c))
+
+forked-second : (τ : ℕ) → (c : goal.After-second τ) (q p : Bits) (u : Trie) (ms : List Bits) (t : Trie) → Given-second τ c q p u ms t
+    → let a = c.args in Fork a.w.now a.b a.n a.i a.e a.bytes.now a.cursors.now
+    a.s q p u ms t c.in-Inner.a c.in-Inner.m
+forked-second τ c q p u ms t g = fork g (some-second τ c) (subst (λ z. Sighted c.args.i u t z) c.in-Inner.is (sighted-second τ c q p u ms t g))
+
+abbrev here-second : (τ : ℕ) → (c : goal.After-second τ) → let a = c.args in let (q, p, u, ms, t, g) = c.requires in
+    Fork a.w.now a.b a.n a.i a.e a.bytes.now a.cursors.now a.s q p u ms t c.in-Inner.a c.in-Inner.m
+here-second τ c = let (q, p, u, ms, t, g) = c.requires in forked-second τ c q p u ms t g
+
+abbrev Given-settle-arg-1 : (τ : ℕ) → goal.After-settle-arg-1 τ → Bits → Bits → Trie → List Bits → Trie → Type 0
+Given-settle-arg-1 τ c q p u ms t = let a = c.args in Cuts a.w.now a.b a.n a.i a.e a.bytes.now a.cursors.now a.s q p u ms t
+
+some-settle-arg-1 : (τ : ℕ) → (c : goal.After-settle-arg-1 τ) → c.args.s.some ≡ true
+some-settle-arg-1 τ c = not-false _ c.if-not-s.false
+
+sighted-settle-arg-1 : (τ : ℕ) → (c : goal.After-settle-arg-1 τ) (q p : Bits) (u : Trie) (ms : List Bits) (t : Trie) → Given-settle-arg-1 τ c q p u ms t → Sighted c.args.i u t c.sight-v.result
+sighted-settle-arg-1 τ c q p u ms t g = c.sight-v.ensures q p u ms t g.here g.at.under (at_some g.at (some-settle-arg-1 τ c))
+
+forked-settle-arg-1 : (τ : ℕ) → (c : goal.After-settle-arg-1 τ) (q p : Bits) (u : Trie) (ms : List Bits) (t : Trie) → Given-settle-arg-1 τ c q p u ms t
+    → let a = c.args in Fork a.w.now a.b a.n a.i a.e a.bytes.now a.cursors.now
+    a.s q p u ms t c.in-Inner.a c.in-Inner.m
+forked-settle-arg-1 τ c q p u ms t g = fork g (some-settle-arg-1 τ c) (subst (λ z. Sighted c.args.i u t z) c.in-Inner.is (sighted-settle-arg-1 τ c q p u ms t g))
+
+abbrev here-settle-arg-1 : (τ : ℕ) → (c : goal.After-settle-arg-1 τ) → let a = c.args in let (q, p, u, ms, t, g) = c.requires in
+    Fork a.w.now a.b a.n a.i a.e a.bytes.now a.cursors.now a.s q p u ms t c.in-Inner.a c.in-Inner.m
+here-settle-arg-1 τ c = let (q, p, u, ms, t, g) = c.requires in forked-settle-arg-1 τ c q p u ms t g
+
+some-slice_known-in-nothing-1 : (τ : ℕ) → (c : goal.After-slice_known-in-Nothing-1 τ) → c.args.s.some ≡ true
+some-slice_known-in-nothing-1 τ c = not-false _ c.if-not-s.false
+
+abbrev Given-slice_known-in-nothing-1 : (τ : ℕ) → goal.After-slice_known-in-Nothing-1 τ → Bits → Bits → Trie → List Bits → Trie → Type 0
+Given-slice_known-in-nothing-1 τ c q p u ms t = let a = c.args in Cuts a.w.now a.b a.n a.i a.e a.bytes.now a.cursors.now a.s q p u ms t
+
+sighted-slice_known-in-nothing-1 : (τ : ℕ) → (c : goal.After-slice_known-in-Nothing-1 τ) (q p : Bits) (u : Trie) (ms : List Bits) (t : Trie) → Given-slice_known-in-nothing-1 τ c q p u ms t → Sighted c.args.i u t c.sight-v.result
+sighted-slice_known-in-nothing-1 τ c q p u ms t g = c.sight-v.ensures q p u ms t g.here g.at.under (at_some g.at (some-slice_known-in-nothing-1 τ c))
+
+abbrev Given-slice_known-in-leaf-1 : (τ : ℕ) → goal.After-slice_known-in-Leaf-1 τ → Bits → Bits → Trie → List Bits → Trie → Type 0
+Given-slice_known-in-leaf-1 τ c q p u ms t = let a = c.args in Cuts a.w.now a.b a.n a.i a.e a.bytes.now a.cursors.now a.s q p u ms t
+
+some-slice_known-in-leaf-1 : (τ : ℕ) → (c : goal.After-slice_known-in-Leaf-1 τ) → c.args.s.some ≡ true
+some-slice_known-in-leaf-1 τ c = not-false _ c.if-not-s.false
+
+sighted-slice_known-in-leaf-1 : (τ : ℕ) → (c : goal.After-slice_known-in-Leaf-1 τ) (q p : Bits) (u : Trie) (ms : List Bits) (t : Trie) → Given-slice_known-in-leaf-1 τ c q p u ms t → Sighted c.args.i u t c.sight-v.result
+sighted-slice_known-in-leaf-1 τ c q p u ms t g = c.sight-v.ensures q p u ms t g.here g.at.under (at_some g.at (some-slice_known-in-leaf-1 τ c))
+
+abbrev Given-slice_known-in-inner-3-1 : (τ : ℕ) → goal.After-slice_known-in-Inner-3-1 τ → Bits → Bits → Trie → List Bits → Trie → Type 0
+Given-slice_known-in-inner-3-1 τ c q p u ms t = let a = c.args in Cuts a.w.now a.b a.n a.i a.e a.bytes.now a.cursors.now a.s q p u ms t
+
+some-slice_known-in-inner-3-1 : (τ : ℕ) → (c : goal.After-slice_known-in-Inner-3-1 τ) → c.args.s.some ≡ true
+some-slice_known-in-inner-3-1 τ c = not-false _ c.if-not-s.false
+
+sighted-slice_known-in-inner-3-1 : (τ : ℕ) → (c : goal.After-slice_known-in-Inner-3-1 τ) (q p : Bits) (u : Trie) (ms : List Bits) (t : Trie) → Given-slice_known-in-inner-3-1 τ c q p u ms t → Sighted c.args.i u t c.sight-v.result
+sighted-slice_known-in-inner-3-1 τ c q p u ms t g = c.sight-v.ensures q p u ms t g.here g.at.under (at_some g.at (some-slice_known-in-inner-3-1 τ c))
+
+forked-slice_known-in-inner-3-1 : (τ : ℕ) → (c : goal.After-slice_known-in-Inner-3-1 τ) (q p : Bits) (u : Trie) (ms : List Bits) (t : Trie) → Given-slice_known-in-inner-3-1 τ c q p u ms t
+    → let a = c.args in Fork a.w.now a.b a.n a.i a.e a.bytes.now a.cursors.now
+    a.s q p u ms t c.in-Inner.a c.in-Inner.m
+forked-slice_known-in-inner-3-1 τ c q p u ms t g = fork g (some-slice_known-in-inner-3-1 τ c) (subst (λ z. Sighted c.args.i u t z) c.in-Inner.is (sighted-slice_known-in-inner-3-1 τ c q p u ms t g))
 
 pub returns-then-not-s : goal.returns-then-not-s
 returns-then-not-s τ c q p u ms t g = let h = not-true _ c.if-not-s.true in (stay-left g h _, pass-nothing g.at h)
@@ -64,21 +157,21 @@ away-requires τ c = (start n c).pre.1
 
 pub member-requires : goal.member-requires
 member-requires τ c = let (q, p, u, ms, t, g) = (start n c).requires.1 in
-    let z = subst (λ z. Sighted (start n c).args.i u t z) c.in-Leaf.is (sighted n c q p u ms t g) in
+    let z = subst (λ z. Sighted (start n c).args.i u t z) c.in-Leaf.is (sighted τ c q p u ms t g) in
     (q, p, u, ms, as_member g z)
 
 pub first-requires : goal.first-requires
-first-requires τ c = part-under (here n c).part
+first-requires τ c = part-under (here τ c).part
 
 pub mark-l-requires : goal.mark-l-requires
-mark-l-requires τ c = let k = here n c in
+mark-l-requires τ c = let k = here-first τ c in
     (omega (arith, first-falls k.part _ c.first.ensures, (start n (seen n c)).pre.0), (_, _, _, _, _, first-cuts k _ c.first.ensures))
 
 pub second-requires : goal.second-requires
-second-requires τ c = part-under (here n c).part
+second-requires τ c = part-under (here-mark-arg-in-inner-3-1 τ c).part
 
 pub mark-r-requires : goal.mark-r-requires
-mark-r-requires τ c = let k = here n c in
+mark-r-requires τ c = let k = here-second τ c in
     let f = c.first.ensures in
     let l = c.mark-l.ensures _ _ _ _ _ (first-cuts k _ f) in (
       omega (arith, second-falls k.part _ f.0 l.1 _ c.second.ensures, (start n (seen n c)).pre.0),
@@ -86,7 +179,7 @@ mark-r-requires τ c = let k = here n c in
     )
 
 pub settle-rest-requires : goal.settle-rest-requires
-settle-rest-requires τ c = let k = here n c in
+settle-rest-requires τ c = let k = here-settle-arg-1 τ c in
     let f = c.first.ensures in
     let l = c.mark-l.ensures _ _ _ _ _ (first-cuts k _ f) in
     let v = c.second.ensures in
@@ -95,15 +188,15 @@ settle-rest-requires τ c = let k = here n c in
 
 pub returns-in-Nothing : goal.returns-in-Nothing
 returns-in-Nothing τ c q p u ms t g = let k = c.away.ensures q p u ms t g in
-    (away-left g (some n c) (subst (λ c. Sighted (start n c).args.i u t c) c.in-Nothing.is (sighted n c q p u ms t g)) _ k.0, k.1)
+    (away-left g (some-slice_known-in-nothing-1 τ c) (subst (λ c. Sighted (start n c).args.i u t c) c.in-Nothing.is (sighted-slice_known-in-nothing-1 τ c q p u ms t g)) _ k.0, k.1)
 
 pub returns-in-Leaf : goal.returns-in-Leaf
-returns-in-Leaf τ c q p u ms t g = let h = subst (λ c. Sighted (start n c).args.i u t c) c.in-Leaf.is (sighted n c q p u ms t g) in
+returns-in-Leaf τ c q p u ms t g = let h = subst (λ c. Sighted (start n c).args.i u t c) c.in-Leaf.is (sighted-slice_known-in-leaf-1 τ c q p u ms t g) in
     let k = c.member.ensures q p u ms (as_member g h) in
-    (member-left g h (some n c) _ k.0, k.1)
+    (member-left g h (some-slice_known-in-leaf-1 τ c) _ k.0, k.1)
 
 pub returns-in-Inner : goal.returns-in-Inner
-returns-in-Inner τ c q p u ms t g = let k = forked n c q p u ms t g in
+returns-in-Inner τ c q p u ms t g = let k = forked-slice_known-in-inner-3-1 τ c q p u ms t g in
     let f = c.first.ensures in
     let l = c.mark-l.ensures _ _ _ _ _ (first-cuts k _ f) in
     let v = c.second.ensures in

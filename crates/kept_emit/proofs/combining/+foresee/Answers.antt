@@ -13,27 +13,60 @@ use Rattle.nets.proofs.Numbers.{width-le}
 use Rattle.kept_emit.proofs.Steps.{op-none, op-full, op-mixed, Halving, inside, left-inputs, right-inputs, foreseen-both, foreseen}
 use Rattle.kept_emit.proofs.combining.+foresee.Goals as goal
 
-abbrev Start : Type 0
-Start = foresee-lts.Start (calls n) (at n) foresee.Post
+abbrev Given : (τ : ℕ) → goal.After-halves-q τ → ℕ → ℕ → Bits → Trie → Trie → Type 0
+Given τ c o e p t u = let a = c.args in Inputs a.family a.w.now a.b a.n a.a a.c o e p a.fuel t u
 
-abbrev Inside : Type 0
-Inside = foresee-lts.After-halves2 (calls n) (at n) foresee.Post
-
-abbrev start : Inside → Start
-start c = c.before.before.before.before.before.before
-
-abbrev Given : Start → ℕ → ℕ → Bits → Trie → Trie → Type 0
-Given s o e p t u = let a = s.args in Inputs a.family a.w.now a.b a.n a.a a.c o e p a.fuel t u
-
-split : (c : Inside) (o e : ℕ) (p : Bits) (t u : Trie) → length p ≡ (start c).args.d → Given (start c) o e p t u → let a = (start c).args in
-    Halving a.family a.w.now a.b a.n a.op a.a a.c o e p a.fuel t u c.before.halves.result.a c.before.halves.result.c
-    c.halves2.result.a c.halves2.result.c
-split c o e p t u q s = record {
+split : (τ : ℕ) → (c : goal.After-halves-q τ) (o e : ℕ) (p : Bits) (t u : Trie) → length p ≡ c.args.d → Given τ c o e p t u → let a = c.args in
+    Halving a.family a.w.now a.b a.n a.op a.a a.c o e p a.fuel t u c.halves-p.result.a c.halves-p.result.c
+    c.halves-q.result.a c.halves-q.result.c
+split τ c o e p t u q s = record {
   src = s;
-  mixes = op-mixed s _ _ (c.before.before.before.before.outcome.ensures o e p t u q s.first s.second) c.before.before.before.if1.false
-      c.before.before.if2.false;
-  left = c.before.halves.ensures o e p t u q s.first s.second;
-  right = c.halves2.ensures o e p t u q s.first s.second;
+  mixes = op-mixed s _ _ (c.outcome-v.ensures o e p t u q s.first s.second) c.if-v-eq-EMPTY.false
+      c.if-v-eq-FULL.false;
+  left = c.halves-p.ensures o e p t u q s.first s.second;
+  right = c.halves-q.ensures o e p t u q s.first s.second;
+}
+
+abbrev Given-foresee-l : (τ : ℕ) → goal.After-foresee-l τ → ℕ → ℕ → Bits → Trie → Trie → Type 0
+Given-foresee-l τ c o e p t u = let a = c.args in Inputs a.family a.w.now a.b a.n a.a a.c o e p a.fuel t u
+
+split-foresee-l : (τ : ℕ) → (c : goal.After-foresee-l τ) (o e : ℕ) (p : Bits) (t u : Trie) → length p ≡ c.args.d → Given-foresee-l τ c o e p t u → let a = c.args in
+    Halving a.family a.w.now a.b a.n a.op a.a a.c o e p a.fuel t u c.halves-p.result.a c.halves-p.result.c
+    c.halves-q.result.a c.halves-q.result.c
+split-foresee-l τ c o e p t u q s = record {
+  src = s;
+  mixes = op-mixed s _ _ (c.outcome-v.ensures o e p t u q s.first s.second) c.if-v-eq-EMPTY.false
+      c.if-v-eq-FULL.false;
+  left = c.halves-p.ensures o e p t u q s.first s.second;
+  right = c.halves-q.ensures o e p t u q s.first s.second;
+}
+
+abbrev Given-foresee-r : (τ : ℕ) → goal.After-foresee-r τ → ℕ → ℕ → Bits → Trie → Trie → Type 0
+Given-foresee-r τ c o e p t u = let a = c.args in Inputs a.family a.w.now a.b a.n a.a a.c o e p a.fuel t u
+
+split-foresee-r : (τ : ℕ) → (c : goal.After-foresee-r τ) (o e : ℕ) (p : Bits) (t u : Trie) → length p ≡ c.args.d → Given-foresee-r τ c o e p t u → let a = c.args in
+    Halving a.family a.w.now a.b a.n a.op a.a a.c o e p a.fuel t u c.halves-p.result.a c.halves-p.result.c
+    c.halves-q.result.a c.halves-q.result.c
+split-foresee-r τ c o e p t u q s = record {
+  src = s;
+  mixes = op-mixed s _ _ (c.outcome-v.ensures o e p t u q s.first s.second) c.if-v-eq-EMPTY.false
+      c.if-v-eq-FULL.false;
+  left = c.halves-p.ensures o e p t u q s.first s.second;
+  right = c.halves-q.ensures o e p t u q s.first s.second;
+}
+
+abbrev Given-answer_over : (τ : ℕ) → goal.After-answer_over τ → ℕ → ℕ → Bits → Trie → Trie → Type 0
+Given-answer_over τ c o e p t u = let a = c.args in Inputs a.family a.w.now a.b a.n a.a a.c o e p a.fuel t u
+
+split-answer_over : (τ : ℕ) → (c : goal.After-answer_over τ) (o e : ℕ) (p : Bits) (t u : Trie) → length p ≡ c.args.d → Given-answer_over τ c o e p t u → let a = c.args in
+    Halving a.family a.w.now a.b a.n a.op a.a a.c o e p a.fuel t u c.halves-p.result.a c.halves-p.result.c
+    c.halves-q.result.a c.halves-q.result.c
+split-answer_over τ c o e p t u q s = record {
+  src = s;
+  mixes = op-mixed s _ _ (c.outcome-v.ensures o e p t u q s.first s.second) c.if-v-eq-EMPTY.false
+      c.if-v-eq-FULL.false;
+  left = c.halves-p.ensures o e p t u q s.first s.second;
+  right = c.halves-q.ensures o e p t u q s.first s.second;
 }
 
 pub outcome-v-requires : goal.outcome-v-requires
@@ -52,19 +85,19 @@ pub halves-q-requires : goal.halves-q-requires
 halves-q-requires τ c = let (o, e, p, t, u, q, s) = c.requires in (s.hold, (o, e, p, t, u, q, s.first, s.second))
 
 pub overflow_add-d : goal.overflow_add-d
-overflow_add-d τ c = let (o, e, p, t, u, q, s) = (start n c).requires.1 in omega (arith, inside (split n c o e p t u q s), width-le (start n c).args.family)
+overflow_add-d τ c = let (o, e, p, t, u, q, s) = (start n c).requires.1 in omega (arith, inside (split τ c o e p t u q s), width-le (start n c).args.family)
 
 pub overflow_sub-fuel : goal.overflow_sub-fuel
 overflow_sub-fuel τ c = let s = (start n c).requires.1.6 in omega arith
 
 pub foresee-l-requires : goal.foresee-l-requires
 foresee-l-requires τ c = let (o, e, p, t, u, q, s) = (start n c).requires.1 in
-    (omega (arith, (start n c).requires.0, s.turn), (o, e, snoc p false, _, _, length-snoc p false ∙ ap (λ (k : ℕ). k + 1) q, left-inputs (split n c o e p t u q s)))
+    (omega (arith, (start n c).requires.0, s.turn), (o, e, snoc p false, _, _, length-snoc p false ∙ ap (λ (k : ℕ). k + 1) q, left-inputs (split τ c o e p t u q s)))
 
 pub overflow_add-d-2 : goal.overflow_add-d-2
 overflow_add-d-2 τ c = let (o, e, p, t, u, q, s) = (start n c).pre.1 in omega (
   arith,
-  inside (split n c o e p t u q s),
+  inside (split-foresee-l τ c o e p t u q s),
   width-le (start n
       c).args.family,
 )
@@ -83,7 +116,7 @@ foresee-r-requires τ c = let (o, e, p, t, u, q, s) = (start n c).pre.1 in (
     _,
     length-snoc p true
         ∙ ap (λ (k : ℕ). k + 1) q,
-    right-inputs (split n c o e p t u q s),
+    right-inputs (split-foresee-l τ c o e p t u q s),
   ),
 )
 
@@ -91,12 +124,12 @@ pub answer_over-requires : goal.answer_over-requires
 answer_over-requires τ c = let (o, e, p, t, u, q, s) = (start n c).pre.1 in (
   _,
   _,
-  foreseen-both (split n c o e p t u q s) _ _
+  foreseen-both (split-foresee-r τ c o e p t u q s) _ _
       (λ o₁ e₁ k v z le i. c.foresee-l.ensures o₁ e₁ k v z (le ∙ ap (λ (j : ℕ). j + 1) q) i)
       (λ o₁ e₁ k v z le i. c.foresee-r.ensures o₁ e₁ k v z (le ∙ ap (λ (j : ℕ). j + 1) q) i),
 )
 
 pub returns : goal.returns
-returns τ c o e p t u q s = foreseen (split n c o e p t u q s) _ _
+returns τ c o e p t u q s = foreseen (split-answer_over τ c o e p t u q s) _ _
     (λ o₁ e₁ k v z le i. c.foresee-l.ensures o₁ e₁ k v z (le ∙ ap (λ (j : ℕ). j + 1) q) i)
     (λ o₁ e₁ k v z le i. c.foresee-r.ensures o₁ e₁ k v z (le ∙ ap (λ (j : ℕ). j + 1) q) i) _ c.answer_over.ensures

@@ -19,49 +19,208 @@ use Rattle.kept_pour.proofs.Passes.{fresh, Opened, opened, opened-pour, opened-s
 use Rattle.kept_pour.proofs.Fills.{fill-keeps, fill-room, fill-grows, fill-as, of-family, path-of, fill-first, fill-second, fill-closing}
 use Rattle.kept_pour.proofs.filling.+fill.Goals as goal
 
-abbrev at : ℕ → In 3 fill-kinds.ps
-at t = and 3 fill-kinds.ps (is 3 fill-kinds.ps μ-fill t) fill.Pre
-
-abbrev Start : Type 0
-Start = fill-lts.Start (calls n) (at n) fill.Post
-
--- it is known whether the path itself is listed, what is found, and that it is two halves; the first half is written
-abbrev Known : Type 0
-Known = fill-lts.After-is-whole (calls n) (at n) fill.Post
-
-abbrev Stepped : Type 0
-Stepped = fill-lts.After-step (calls n) (at n) fill.Post
-
-abbrev Inside : Type 0
-Inside = fill-lts.After-known-told (calls n) (at n) fill.Post
-
-abbrev start : Known → Start
-start c = c.before.before.before.before.before.before.before
-
-abbrev Given : Start → Bits → Bits → Trie → List Bits → Trie → Type 0
-Given s q p u ms t =
-    let a = s.args in
+abbrev Given : (τ : ℕ) → goal.After-flat-arg-1 τ → Bits → Bits → Trie → List Bits → Trie → Type 0
+Given τ c q p u ms t = let a = c.args in
     At a.bytes.now a.cursors.now a.s q p u ms × Fills a.s.family a.w.now a.b a.n a.i a.e a.g a.into p u t
 
-abbrev some : (c : Known) → (start c).args.s.some ≡ true
-some c = not-false _ c.before.before.if1.false
+said : (τ : ℕ) → (c : goal.After-flat-arg-1 τ) (q p : Bits) (u : Trie) (ms : List Bits) (t : Trie) → Given τ c q p u ms t
+    → let a = c.args in Says a.s.family a.w.now a.b a.n p a.e a.into c.is_whole.result t c.step-x.result
+said τ c q p u ms t (g, f) = c.step-x.ensures p t f.part (sym g.under.depth)
 
-said : (c : Stepped) (q p : Bits) (u : Trie) (ms : List Bits) (t : Trie) → Given (start c.before) q p u ms t
-    → let a = (start c.before).args in Says a.s.family a.w.now a.b a.n p a.e a.into c.before.is_whole.result t c.step.result
-said c q p u ms t (g, f) = c.step.ensures p t f.part (sym g.under.depth)
+abbrev some : (τ : ℕ) → (c : goal.After-flat-arg-1 τ) → c.args.s.some ≡ true
+some τ c = not-false _ c.if-not-s.false
 
-inside : (c : Inside) (q p : Bits) (u : Trie) (ms : List Bits) (t : Trie) → let k = c.before.before.before.before in Given (start k) q p u ms t
-    → let a = (start k).args in let v = c.before.x.given.0 in
-    Opened a.w.now a.b a.n a.e a.into a.bytes.now a.cursors.now a.s q p u ms t v.0 v.1.0 v.1.1.0
-inside c q p u ms t (g, f) =
-    let k = c.before.before.before.before in
-    let h = some k in
-    opened g h (k.is_whole.ensures q p u ms g.under (at_some g h)) (rw c.before.x.given.1 at (said c.before.before.before q p u ms t (g, f)))
+abbrev some-tally-arg-1 : (τ : ℕ) → (c : goal.After-tally-arg-1 τ) → c.args.s.some ≡ true
+some-tally-arg-1 τ c = not-false _ c.if-not-s.false
 
-abbrev here : (c : Inside) → let k = c.before.before.before.before in let (q, p, u, ms, t, is, g, f) = (start k).requires.1 in
-    let a = (start k).args in let v = c.before.x.given.0 in
-    Opened a.w.now a.b a.n a.e a.into a.bytes.now a.cursors.now a.s q p u ms t v.0 v.1.0 v.1.1.0
-here c = let (q, p, u, ms, t, is, g, f) = (start c.before.before.before.before).pre.1 in inside c q p u ms t (g, f)
+abbrev Given-grow-arg-in-fresh-1 : (τ : ℕ) → goal.After-grow-arg-in-Fresh-1 τ → Bits → Bits → Trie → List Bits → Trie → Type 0
+Given-grow-arg-in-fresh-1 τ c q p u ms t = let a = c.args in
+    At a.bytes.now a.cursors.now a.s q p u ms × Fills a.s.family a.w.now a.b a.n a.i a.e a.g a.into p u t
+
+said-grow-arg-in-fresh-1 : (τ : ℕ) → (c : goal.After-grow-arg-in-Fresh-1 τ) (q p : Bits) (u : Trie) (ms : List Bits) (t : Trie) → Given-grow-arg-in-fresh-1 τ c q p u ms t
+    → let a = c.args in Says a.s.family a.w.now a.b a.n p a.e a.into c.is_whole.result t c.step-x.result
+said-grow-arg-in-fresh-1 τ c q p u ms t (g, f) = c.step-x.ensures p t f.part (sym g.under.depth)
+
+abbrev some-grow-arg-in-fresh-1 : (τ : ℕ) → (c : goal.After-grow-arg-in-Fresh-1 τ) → c.args.s.some ≡ true
+some-grow-arg-in-fresh-1 τ c = not-false _ c.if-not-s.false
+
+abbrev Given-in-halves : (τ : ℕ) → goal.In-Halves τ → Bits → Bits → Trie → List Bits → Trie → Type 0
+Given-in-halves τ c q p u ms t = let a = c.args in
+    At a.bytes.now a.cursors.now a.s q p u ms × Fills a.s.family a.w.now a.b a.n a.i a.e a.g a.into p u t
+
+abbrev some-in-halves : (τ : ℕ) → (c : goal.In-Halves τ) → c.args.s.some ≡ true
+some-in-halves τ c = not-false _ c.if-not-s.false
+
+said-in-halves : (τ : ℕ) → (c : goal.In-Halves τ) (q p : Bits) (u : Trie) (ms : List Bits) (t : Trie) → Given-in-halves τ c q p u ms t
+    → let a = c.args in Says a.s.family a.w.now a.b a.n p a.e a.into c.is_whole.result t c.step-x.result
+said-in-halves τ c q p u ms t (g, f) = c.step-x.ensures p t f.part (sym g.under.depth)
+
+inside : (τ : ℕ) → (c : goal.In-Halves τ) (q p : Bits) (u : Trie) (ms : List Bits) (t : Trie) → Given-in-halves τ c q p u ms t
+    → let a = c.args in Opened a.w.now a.b a.n a.e a.into a.bytes.now a.cursors.now a.s q p u ms t c.in-Halves.a c.in-Halves.m c.in-Halves.z
+inside τ c q p u ms t (g, f) = let h = some-in-halves τ c in
+    opened g h (c.is_whole.ensures q p u ms g.under (at_some g h)) (rw c.in-Halves.is at (said-in-halves τ c q p u ms t (g, f)))
+
+abbrev here : (τ : ℕ) → (c : goal.In-Halves τ) → let (q, p, u, ms, t, is, g, f) = c.requires in
+    let a = c.args in Opened a.w.now a.b a.n a.e a.into a.bytes.now a.cursors.now a.s q p u ms t c.in-Halves.a c.in-Halves.m c.in-Halves.z
+here τ c = let (q, p, u, ms, t, is, g, f) = c.requires in inside τ c q p u ms t (g, f)
+
+abbrev Given-first-s0 : (τ : ℕ) → goal.After-first-s0 τ → Bits → Bits → Trie → List Bits → Trie → Type 0
+Given-first-s0 τ c q p u ms t = let a = c.args in
+    At a.bytes.now a.cursors.now a.s q p u ms × Fills a.s.family a.w.now a.b a.n a.i a.e a.g a.into p u t
+
+abbrev some-first-s0 : (τ : ℕ) → (c : goal.After-first-s0 τ) → c.args.s.some ≡ true
+some-first-s0 τ c = not-false _ c.if-not-s.false
+
+said-first-s0 : (τ : ℕ) → (c : goal.After-first-s0 τ) (q p : Bits) (u : Trie) (ms : List Bits) (t : Trie) → Given-first-s0 τ c q p u ms t
+    → let a = c.args in Says a.s.family a.w.now a.b a.n p a.e a.into c.is_whole.result t c.step-x.result
+said-first-s0 τ c q p u ms t (g, f) = c.step-x.ensures p t f.part (sym g.under.depth)
+
+inside-first-s0 : (τ : ℕ) → (c : goal.After-first-s0 τ) (q p : Bits) (u : Trie) (ms : List Bits) (t : Trie) → Given-first-s0 τ c q p u ms t
+    → let a = c.args in Opened a.w.now a.b a.n a.e a.into a.bytes.now a.cursors.now a.s q p u ms t c.in-Halves.a c.in-Halves.m c.in-Halves.z
+inside-first-s0 τ c q p u ms t (g, f) = let h = some-first-s0 τ c in
+    opened g h (c.is_whole.ensures q p u ms g.under (at_some g h)) (rw c.in-Halves.is at (said-first-s0 τ c q p u ms t (g, f)))
+
+abbrev here-first-s0 : (τ : ℕ) → (c : goal.After-first-s0 τ) → let (q, p, u, ms, t, is, g, f) = c.requires in
+    let a = c.args in Opened a.w.now a.b a.n a.e a.into a.bytes.now a.cursors.now a.s q p u ms t c.in-Halves.a c.in-Halves.m c.in-Halves.z
+here-first-s0 τ c = let (q, p, u, ms, t, is, g, f) = c.requires in inside-first-s0 τ c q p u ms t (g, f)
+
+abbrev Given-fill-arg-in-halves-1 : (τ : ℕ) → goal.After-fill-arg-in-Halves-1 τ → Bits → Bits → Trie → List Bits → Trie → Type 0
+Given-fill-arg-in-halves-1 τ c q p u ms t = let a = c.args in
+    At a.bytes.now a.cursors.now a.s q p u ms × Fills a.s.family a.w.now a.b a.n a.i a.e a.g a.into p u t
+
+abbrev some-fill-arg-in-halves-1 : (τ : ℕ) → (c : goal.After-fill-arg-in-Halves-1 τ) → c.args.s.some ≡ true
+some-fill-arg-in-halves-1 τ c = not-false _ c.if-not-s.false
+
+said-fill-arg-in-halves-1 : (τ : ℕ) → (c : goal.After-fill-arg-in-Halves-1 τ) (q p : Bits) (u : Trie) (ms : List Bits) (t : Trie) → Given-fill-arg-in-halves-1 τ c q p u ms t
+    → let a = c.args in Says a.s.family a.w.now a.b a.n p a.e a.into c.is_whole.result t c.step-x.result
+said-fill-arg-in-halves-1 τ c q p u ms t (g, f) = c.step-x.ensures p t f.part (sym g.under.depth)
+
+inside-fill-arg-in-halves-1 : (τ : ℕ) → (c : goal.After-fill-arg-in-Halves-1 τ) (q p : Bits) (u : Trie) (ms : List Bits) (t : Trie) → Given-fill-arg-in-halves-1 τ c q p u ms t
+    → let a = c.args in Opened a.w.now a.b a.n a.e a.into a.bytes.now a.cursors.now a.s q p u ms t c.in-Halves.a c.in-Halves.m c.in-Halves.z
+inside-fill-arg-in-halves-1 τ c q p u ms t (g, f) = let h = some-fill-arg-in-halves-1 τ c in
+    opened g h (c.is_whole.ensures q p u ms g.under (at_some g h)) (rw c.in-Halves.is at (said-fill-arg-in-halves-1 τ c q p u ms t (g, f)))
+
+abbrev here-fill-arg-in-halves-1 : (τ : ℕ) → (c : goal.After-fill-arg-in-Halves-1 τ) → let (q, p, u, ms, t, is, g, f) = c.requires in
+    let a = c.args in Opened a.w.now a.b a.n a.e a.into a.bytes.now a.cursors.now a.s q p u ms t c.in-Halves.a c.in-Halves.m c.in-Halves.z
+here-fill-arg-in-halves-1 τ c = let (q, p, u, ms, t, is, g, f) = c.requires in inside-fill-arg-in-halves-1 τ c q p u ms t (g, f)
+
+abbrev Given-second-arg-1 : (τ : ℕ) → goal.After-second-arg-1 τ → Bits → Bits → Trie → List Bits → Trie → Type 0
+Given-second-arg-1 τ c q p u ms t = let a = c.args in
+    At a.bytes.now a.cursors.now a.s q p u ms × Fills a.s.family a.w.now a.b a.n a.i a.e a.g a.into p u t
+
+abbrev some-second-arg-1 : (τ : ℕ) → (c : goal.After-second-arg-1 τ) → c.args.s.some ≡ true
+some-second-arg-1 τ c = not-false _ c.if-not-s.false
+
+said-second-arg-1 : (τ : ℕ) → (c : goal.After-second-arg-1 τ) (q p : Bits) (u : Trie) (ms : List Bits) (t : Trie) → Given-second-arg-1 τ c q p u ms t
+    → let a = c.args in Says a.s.family a.w.now a.b a.n p a.e a.into c.is_whole.result t c.step-x.result
+said-second-arg-1 τ c q p u ms t (g, f) = c.step-x.ensures p t f.part (sym g.under.depth)
+
+inside-second-arg-1 : (τ : ℕ) → (c : goal.After-second-arg-1 τ) (q p : Bits) (u : Trie) (ms : List Bits) (t : Trie) → Given-second-arg-1 τ c q p u ms t
+    → let a = c.args in Opened a.w.now a.b a.n a.e a.into a.bytes.now a.cursors.now a.s q p u ms t c.in-Halves.a c.in-Halves.m c.in-Halves.z
+inside-second-arg-1 τ c q p u ms t (g, f) = let h = some-second-arg-1 τ c in
+    opened g h (c.is_whole.ensures q p u ms g.under (at_some g h)) (rw c.in-Halves.is at (said-second-arg-1 τ c q p u ms t (g, f)))
+
+abbrev here-second-arg-1 : (τ : ℕ) → (c : goal.After-second-arg-1 τ) → let (q, p, u, ms, t, is, g, f) = c.requires in
+    let a = c.args in Opened a.w.now a.b a.n a.e a.into a.bytes.now a.cursors.now a.s q p u ms t c.in-Halves.a c.in-Halves.m c.in-Halves.z
+here-second-arg-1 τ c = let (q, p, u, ms, t, is, g, f) = c.requires in inside-second-arg-1 τ c q p u ms t (g, f)
+
+abbrev Given-second-s1 : (τ : ℕ) → goal.After-second-s1 τ → Bits → Bits → Trie → List Bits → Trie → Type 0
+Given-second-s1 τ c q p u ms t = let a = c.args in
+    At a.bytes.now a.cursors.now a.s q p u ms × Fills a.s.family a.w.now a.b a.n a.i a.e a.g a.into p u t
+
+abbrev some-second-s1 : (τ : ℕ) → (c : goal.After-second-s1 τ) → c.args.s.some ≡ true
+some-second-s1 τ c = not-false _ c.if-not-s.false
+
+said-second-s1 : (τ : ℕ) → (c : goal.After-second-s1 τ) (q p : Bits) (u : Trie) (ms : List Bits) (t : Trie) → Given-second-s1 τ c q p u ms t
+    → let a = c.args in Says a.s.family a.w.now a.b a.n p a.e a.into c.is_whole.result t c.step-x.result
+said-second-s1 τ c q p u ms t (g, f) = c.step-x.ensures p t f.part (sym g.under.depth)
+
+inside-second-s1 : (τ : ℕ) → (c : goal.After-second-s1 τ) (q p : Bits) (u : Trie) (ms : List Bits) (t : Trie) → Given-second-s1 τ c q p u ms t
+    → let a = c.args in Opened a.w.now a.b a.n a.e a.into a.bytes.now a.cursors.now a.s q p u ms t c.in-Halves.a c.in-Halves.m c.in-Halves.z
+inside-second-s1 τ c q p u ms t (g, f) = let h = some-second-s1 τ c in
+    opened g h (c.is_whole.ensures q p u ms g.under (at_some g h)) (rw c.in-Halves.is at (said-second-s1 τ c q p u ms t (g, f)))
+
+abbrev here-second-s1 : (τ : ℕ) → (c : goal.After-second-s1 τ) → let (q, p, u, ms, t, is, g, f) = c.requires in
+    let a = c.args in Opened a.w.now a.b a.n a.e a.into a.bytes.now a.cursors.now a.s q p u ms t c.in-Halves.a c.in-Halves.m c.in-Halves.z
+here-second-s1 τ c = let (q, p, u, ms, t, is, g, f) = c.requires in inside-second-s1 τ c q p u ms t (g, f)
+
+abbrev Given-fill-arg-in-halves-3-1 : (τ : ℕ) → goal.After-fill-arg-in-Halves-3-1 τ → Bits → Bits → Trie → List Bits → Trie → Type 0
+Given-fill-arg-in-halves-3-1 τ c q p u ms t = let a = c.args in
+    At a.bytes.now a.cursors.now a.s q p u ms × Fills a.s.family a.w.now a.b a.n a.i a.e a.g a.into p u t
+
+abbrev some-fill-arg-in-halves-3-1 : (τ : ℕ) → (c : goal.After-fill-arg-in-Halves-3-1 τ) → c.args.s.some ≡ true
+some-fill-arg-in-halves-3-1 τ c = not-false _ c.if-not-s.false
+
+said-fill-arg-in-halves-3-1 : (τ : ℕ) → (c : goal.After-fill-arg-in-Halves-3-1 τ) (q p : Bits) (u : Trie) (ms : List Bits) (t : Trie) → Given-fill-arg-in-halves-3-1 τ c q p u ms t
+    → let a = c.args in Says a.s.family a.w.now a.b a.n p a.e a.into c.is_whole.result t c.step-x.result
+said-fill-arg-in-halves-3-1 τ c q p u ms t (g, f) = c.step-x.ensures p t f.part (sym g.under.depth)
+
+inside-fill-arg-in-halves-3-1 : (τ : ℕ) → (c : goal.After-fill-arg-in-Halves-3-1 τ) (q p : Bits) (u : Trie) (ms : List Bits) (t : Trie) → Given-fill-arg-in-halves-3-1 τ c q p u ms t
+    → let a = c.args in Opened a.w.now a.b a.n a.e a.into a.bytes.now a.cursors.now a.s q p u ms t c.in-Halves.a c.in-Halves.m c.in-Halves.z
+inside-fill-arg-in-halves-3-1 τ c q p u ms t (g, f) = let h = some-fill-arg-in-halves-3-1 τ c in
+    opened g h (c.is_whole.ensures q p u ms g.under (at_some g h)) (rw c.in-Halves.is at (said-fill-arg-in-halves-3-1 τ c q p u ms t (g, f)))
+
+abbrev here-fill-arg-in-halves-3-1 : (τ : ℕ) → (c : goal.After-fill-arg-in-Halves-3-1 τ) → let (q, p, u, ms, t, is, g, f) = c.requires in
+    let a = c.args in Opened a.w.now a.b a.n a.e a.into a.bytes.now a.cursors.now a.s q p u ms t c.in-Halves.a c.in-Halves.m c.in-Halves.z
+here-fill-arg-in-halves-3-1 τ c = let (q, p, u, ms, t, is, g, f) = c.requires in inside-fill-arg-in-halves-3-1 τ c q p u ms t (g, f)
+
+abbrev Given-close-arg-1 : (τ : ℕ) → goal.After-close-arg-1 τ → Bits → Bits → Trie → List Bits → Trie → Type 0
+Given-close-arg-1 τ c q p u ms t = let a = c.args in
+    At a.bytes.now a.cursors.now a.s q p u ms × Fills a.s.family a.w.now a.b a.n a.i a.e a.g a.into p u t
+
+abbrev some-close-arg-1 : (τ : ℕ) → (c : goal.After-close-arg-1 τ) → c.args.s.some ≡ true
+some-close-arg-1 τ c = not-false _ c.if-not-s.false
+
+said-close-arg-1 : (τ : ℕ) → (c : goal.After-close-arg-1 τ) (q p : Bits) (u : Trie) (ms : List Bits) (t : Trie) → Given-close-arg-1 τ c q p u ms t
+    → let a = c.args in Says a.s.family a.w.now a.b a.n p a.e a.into c.is_whole.result t c.step-x.result
+said-close-arg-1 τ c q p u ms t (g, f) = c.step-x.ensures p t f.part (sym g.under.depth)
+
+inside-close-arg-1 : (τ : ℕ) → (c : goal.After-close-arg-1 τ) (q p : Bits) (u : Trie) (ms : List Bits) (t : Trie) → Given-close-arg-1 τ c q p u ms t
+    → let a = c.args in Opened a.w.now a.b a.n a.e a.into a.bytes.now a.cursors.now a.s q p u ms t c.in-Halves.a c.in-Halves.m c.in-Halves.z
+inside-close-arg-1 τ c q p u ms t (g, f) = let h = some-close-arg-1 τ c in
+    opened g h (c.is_whole.ensures q p u ms g.under (at_some g h)) (rw c.in-Halves.is at (said-close-arg-1 τ c q p u ms t (g, f)))
+
+abbrev here-close-arg-1 : (τ : ℕ) → (c : goal.After-close-arg-1 τ) → let (q, p, u, ms, t, is, g, f) = c.requires in
+    let a = c.args in Opened a.w.now a.b a.n a.e a.into a.bytes.now a.cursors.now a.s q p u ms t c.in-Halves.a c.in-Halves.m c.in-Halves.z
+here-close-arg-1 τ c = let (q, p, u, ms, t, is, g, f) = c.requires in inside-close-arg-1 τ c q p u ms t (g, f)
+
+abbrev some-behind-1 : (τ : ℕ) → (c : goal.After-behind-1 τ) → c.args.s.some ≡ true
+some-behind-1 τ c = not-false _ c.if-not-s.false
+
+abbrev Given-behind-1 : (τ : ℕ) → goal.After-behind-1 τ → Bits → Bits → Trie → List Bits → Trie → Type 0
+Given-behind-1 τ c q p u ms t = let a = c.args in
+    At a.bytes.now a.cursors.now a.s q p u ms × Fills a.s.family a.w.now a.b a.n a.i a.e a.g a.into p u t
+
+said-behind-1 : (τ : ℕ) → (c : goal.After-behind-1 τ) (q p : Bits) (u : Trie) (ms : List Bits) (t : Trie) → Given-behind-1 τ c q p u ms t
+    → let a = c.args in Says a.s.family a.w.now a.b a.n p a.e a.into c.is_whole.result t c.step-x.result
+said-behind-1 τ c q p u ms t (g, f) = c.step-x.ensures p t f.part (sym g.under.depth)
+
+abbrev Given-slice_known-in-fresh-1 : (τ : ℕ) → goal.After-slice_known-in-Fresh-1 τ → Bits → Bits → Trie → List Bits → Trie → Type 0
+Given-slice_known-in-fresh-1 τ c q p u ms t = let a = c.args in
+    At a.bytes.now a.cursors.now a.s q p u ms × Fills a.s.family a.w.now a.b a.n a.i a.e a.g a.into p u t
+
+said-slice_known-in-fresh-1 : (τ : ℕ) → (c : goal.After-slice_known-in-Fresh-1 τ) (q p : Bits) (u : Trie) (ms : List Bits) (t : Trie) → Given-slice_known-in-fresh-1 τ c q p u ms t
+    → let a = c.args in Says a.s.family a.w.now a.b a.n p a.e a.into c.is_whole.result t c.step-x.result
+said-slice_known-in-fresh-1 τ c q p u ms t (g, f) = c.step-x.ensures p t f.part (sym g.under.depth)
+
+abbrev some-slice_known-in-fresh-1 : (τ : ℕ) → (c : goal.After-slice_known-in-Fresh-1 τ) → c.args.s.some ≡ true
+some-slice_known-in-fresh-1 τ c = not-false _ c.if-not-s.false
+
+abbrev Given-slice_known-in-halves-3-1 : (τ : ℕ) → goal.After-slice_known-in-Halves-3-1 τ → Bits → Bits → Trie → List Bits → Trie → Type 0
+Given-slice_known-in-halves-3-1 τ c q p u ms t = let a = c.args in
+    At a.bytes.now a.cursors.now a.s q p u ms × Fills a.s.family a.w.now a.b a.n a.i a.e a.g a.into p u t
+
+abbrev some-slice_known-in-halves-3-1 : (τ : ℕ) → (c : goal.After-slice_known-in-Halves-3-1 τ) → c.args.s.some ≡ true
+some-slice_known-in-halves-3-1 τ c = not-false _ c.if-not-s.false
+
+said-slice_known-in-halves-3-1 : (τ : ℕ) → (c : goal.After-slice_known-in-Halves-3-1 τ) (q p : Bits) (u : Trie) (ms : List Bits) (t : Trie) → Given-slice_known-in-halves-3-1 τ c q p u ms t
+    → let a = c.args in Says a.s.family a.w.now a.b a.n p a.e a.into c.is_whole.result t c.step-x.result
+said-slice_known-in-halves-3-1 τ c q p u ms t (g, f) = c.step-x.ensures p t f.part (sym g.under.depth)
+
+inside-slice_known-in-halves-3-1 : (τ : ℕ) → (c : goal.After-slice_known-in-Halves-3-1 τ) (q p : Bits) (u : Trie) (ms : List Bits) (t : Trie) → Given-slice_known-in-halves-3-1 τ c q p u ms t
+    → let a = c.args in Opened a.w.now a.b a.n a.e a.into a.bytes.now a.cursors.now a.s q p u ms t c.in-Halves.a c.in-Halves.m c.in-Halves.z
+inside-slice_known-in-halves-3-1 τ c q p u ms t (g, f) = let h = some-slice_known-in-halves-3-1 τ c in
+    opened g h (c.is_whole.ensures q p u ms g.under (at_some g h)) (rw c.in-Halves.is at (said-slice_known-in-halves-3-1 τ c q p u ms t (g, f)))
 
 pub keep-start-requires : goal.keep-start-requires
 keep-start-requires τ c = let (q, p, u, ms, t, is, g, f) = c.requires in
@@ -80,43 +239,43 @@ step-x-requires τ c = let (q, p, u, ms, t, is, g, f) = (start n c).requires.1 i
 
 pub flat-start-requires : goal.flat-start-requires
 flat-start-requires τ c = let (q, p, u, ms, t, is, g, f) = (start n c).requires.1 in
-    let v = rw c.in-Settled.is at (said n c q p u ms t (g, f)) in
-    fill-room f (settled g (some n c) _ (c.is_whole.ensures q p u ms g.under (at_some g (some n c))) _ t v)
+    let v = rw c.in-Settled.is at (said τ c q p u ms t (g, f)) in
+    fill-room f (settled g (some τ c) _ (c.is_whole.ensures q p u ms g.under (at_some g (some τ c))) _ t v)
 
 pub tally-r-requires : goal.tally-r-requires
 tally-r-requires τ c = let (q, p, u, ms, t, is, g, f) = (start n c).requires.1 in
-    (q, p, u, ms, at-runs g (some n c), f.file)
+    (q, p, u, ms, at-runs g (some-tally-arg-1 τ c), f.file)
 
 pub grow-requires : goal.grow-requires
 grow-requires τ c = let (q, p, u, ms, t, is, g, f) = (start n c).pre.1 in
-    let v = rw c.in-Fresh.is at (said n c q p u ms t (g, f)) in
-    (q, p, u, ms, fill-grows f (fresh u (v.1, v.2)) g (some n c))
+    let v = rw c.in-Fresh.is at (said-grow-arg-in-fresh-1 τ c q p u ms t (g, f)) in
+    (q, p, u, ms, fill-grows f (fresh u (v.1, v.2)) g (some-grow-arg-in-fresh-1 τ c))
 
 pub first-s0-requires : goal.first-s0-requires
-first-s0-requires τ c = part-under (here n c).part
+first-s0-requires τ c = part-under (here τ c).part
 
 pub child-p0-requires : goal.child-p0-requires
 child-p0-requires τ c = let (q, p, u, ms, t, is, g, f) = (start n c).pre.1 in
-    (_, p, is, opened-short (here n c))
+    (_, p, is, opened-short (here-first-s0 τ c))
 
 pub fill-l-requires : goal.fill-l-requires
 fill-l-requires τ c = let (q, p, u, ms, t, is, g, v) = (start n c).pre.1 in
-    let o = here n c in
+    let o = here-fill-arg-in-halves-1 τ c in
     let f = c.first-s0.ensures in (
       omega (arith, first-falls o.part _ f, (start n c).pre.0),
       (_, _, _, _, _, path-of (snoc p false) f.0 (c.child-p0.ensures _ p is), at_first o.part _ f, fill-first v o _ f.0),
     )
 
 pub second-s1-requires : goal.second-s1-requires
-second-s1-requires τ c = part-under (here n c).part
+second-s1-requires τ c = part-under (here-second-arg-1 τ c).part
 
 pub child-p1-requires : goal.child-p1-requires
 child-p1-requires τ c = let (q, p, u, ms, t, is, g, f) = (start n c).pre.1 in
-    (_, p, is, opened-short (here n c))
+    (_, p, is, opened-short (here-second-s1 τ c))
 
 pub fill-r-requires : goal.fill-r-requires
 fill-r-requires τ c = let (q, p, u, ms, t, is, g, v) = (start n c).pre.1 in
-    let o = here n c in
+    let o = here-fill-arg-in-halves-3-1 τ c in
     let f = c.first-s0.ensures in
     let p0 = path-of (snoc p false) f.0 (c.child-p0.ensures _ p is) in
     let l = c.fill-l.ensures _ _ _ _ _ p0 (at_first o.part _ f) (fill-first v o _ f.0) in
@@ -129,7 +288,7 @@ fill-r-requires τ c = let (q, p, u, ms, t, is, g, v) = (start n c).pre.1 in
 
 pub close-start-requires : goal.close-start-requires
 close-start-requires τ c = let (q, p, u, ms, t, is, g, v) = (start n c).pre.1 in
-    let o = here n c in
+    let o = here-close-arg-1 τ c in
     let f = c.first-s0.ensures in
     let p0 = path-of (snoc p false) f.0 (c.child-p0.ensures _ p is) in
     let l = c.fill-l.ensures _ _ _ _ _ p0 (at_first o.part _ f) (fill-first v o _ f.0) in
@@ -140,21 +299,21 @@ close-start-requires τ c = let (q, p, u, ms, t, is, g, v) = (start n c).pre.1 i
     (_, p, _, _, fill-closing v o k (of-family s.0 r.0))
 
 pub returns-in-Settled : goal.returns-in-Settled
-returns-in-Settled τ c q p u ms t is g f = let h = some n c in
-    let v = rw c.in-Settled.is at (said n c q p u ms t (g, f)) in (
+returns-in-Settled τ c q p u ms t is g f = let h = some-behind-1 τ c in
+    let v = rw c.in-Settled.is at (said-behind-1 τ c q p u ms t (g, f)) in (
       fill-as (settled g h _ (c.is_whole.ensures q p u ms g.under (at_some g h)) _ t v)
           (c.flat-start.ensures p is f.short),
       (c.tally-r.ensures q p u ms (at-runs g h) f.file).1,
     )
 
 pub returns-in-Fresh : goal.returns-in-Fresh
-returns-in-Fresh τ c q p u ms t is g f = let v = rw c.in-Fresh.is at (said n c q p u ms t (g, f)) in
+returns-in-Fresh τ c q p u ms t is g f = let v = rw c.in-Fresh.is at (said-slice_known-in-fresh-1 τ c q p u ms t (g, f)) in
     let e = fresh u (v.1, v.2) in
-    let r = c.grow.ensures q p u ms (fill-grows f e g (some n c)) in
+    let r = c.grow.ensures q p u ms (fill-grows f e g (some-slice_known-in-fresh-1 τ c)) in
     (fill-as e r.0, r.1)
 
 pub returns-in-Halves : goal.returns-in-Halves
-returns-in-Halves τ c q p u ms t is g v = let o = inside n c q p u ms t (g, v) in
+returns-in-Halves τ c q p u ms t is g v = let o = inside-slice_known-in-halves-3-1 τ c q p u ms t (g, v) in
     let f = c.first-s0.ensures in
     let p0 = path-of (snoc p false) f.0 (c.child-p0.ensures _ p is) in
     let l = c.fill-l.ensures _ _ _ _ _ p0 (at_first o.part _ f) (fill-first v o _ f.0) in

@@ -21,20 +21,16 @@ pub overflow_sub-tag : goal.overflow_sub-tag
 overflow_sub-tag c = let p = c.requires in omega (arith, is_header-header _ p.0, p)
 
 pub overflow_add-at : goal.overflow_add-at
-overflow_add-at c = let g = grounded c in
-    omega (arith, is_header-header _ c.requires.0, c.requires, c.least_words.ensures, g.grounds.ensures.1, c.head-h.ensures.1)
+overflow_add-at c = omega (arith, is_header-header _ c.requires.0, c.requires, c.least_words.ensures, c.grounds-g.ensures.1, c.head-h.ensures.1)
 
 pub offset_bounds-w-at : goal.offset_bounds-w-at
-offset_bounds-w-at c = let g = grounded c in
-    omega (arith, is_header-header _ c.requires.0, c.requires, c.least_words.ensures, g.grounds.ensures.1, c.head-h.ensures.1)
+offset_bounds-w-at c = omega (arith, is_header-header _ c.requires.0, c.requires, c.least_words.ensures, c.grounds-g.ensures.1, c.head-h.ensures.1)
 
 pub bounds-w-at : goal.bounds-w-at
-bounds-w-at c = let g = grounded c in
-    omega (arith, is_header-header _ c.requires.0, c.requires, c.least_words.ensures, g.grounds.ensures.1, c.head-h.ensures.1)
+bounds-w-at c = omega (arith, is_header-header _ c.requires.0, c.requires, c.least_words.ensures, c.grounds-g.ensures.1, c.head-h.ensures.1)
 
 pub stand_on-requires : goal.stand_on-requires
-stand_on-requires c = let g = grounded c in
-    (ground-room _ _ g.grounds.ensures c.requires.0, c.head-h.ensures.2, c.requires.3)
+stand_on-requires c = (ground-room _ _ c.grounds-g.ensures c.requires.0, c.head-h.ensures.2, c.requires.3)
 
 pub returns : goal.returns
 returns c = let a = c.args in

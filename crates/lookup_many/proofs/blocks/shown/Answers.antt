@@ -46,12 +46,11 @@ overflow_add-p-in-Bit c = let r = seat-room c.requires.0 in
     omega (arith, r.low, r.few, c.requires.1.on.within, c.type_inv.w c.args.l.p)
 
 pub overflow_add-result-then-turn-eq0 : goal.overflow_add-result-then-turn-eq0
-overflow_add-result-then-turn-eq0 c = let x = told c in omega (arith, first-few c.args.bits.len _ x.before.before.before.before.first.ensures)
+overflow_add-result-then-turn-eq0 c = omega (arith, first-few c.args.bits.len _ c.first-f.ensures)
 
 pub returns-then-turn-eq0 : goal.returns-then-turn-eq0
-returns-then-turn-eq0 c = let x = told c in
-    rw x.before.before.before.before.first.ensures
-    (shown-none c.requires.1 _ _ _ (bits-next x ∙ ap next_as c.in-Bit.is) x.before.before.if1.left c.if-b-n.false c.turn.ensures c.if-turn-eq0.true)
+returns-then-turn-eq0 c = rw c.first-f.ensures
+    (shown-none c.requires.1 _ _ _ (bits-next c ∙ ap next_as c.in-Bit.is) c.if-x-eq0.false c.if-b-n.false c.turn.ensures c.if-turn-eq0.true)
 
 pub returns-in-End : goal.returns-in-End
 returns-in-End c = shown-second c.requires.1 _ (bits-next-walk_down c ∙ ap next_as c.in-End.is)

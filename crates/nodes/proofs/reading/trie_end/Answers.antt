@@ -51,12 +51,10 @@ pub overflow_sub-sp : goal.overflow_sub-sp
 overflow_sub-sp c = omega (arith, flags-small (flags c))
 
 pub returns-then-sp-eq0 : goal.returns-then-sp-eq0
-returns-then-sp-eq0 c = done c.loop-at.inv (known c) (flags-then-sp-eq0 c) c.if-sp-eq0.true
+returns-then-sp-eq0 c = done c.loop-at.invariant (known c) (flags-then-sp-eq0 c) c.if-sp-eq0.true
 
 pub returns-then-at-down : goal.returns-then-at-down
-returns-then-at-down c = let u = turn c in
-    refused u.before.before.before.loop.inv (known-then-at-down u) (flags-then-at-down c) (search rules) u.before.before.if1.left c.if-sp-eq0.false c.either-at.ensures c.if-at-down.true
+returns-then-at-down c = refused c.loop-at.invariant (known-then-at-down c) (flags-then-at-down c) (search rules) c.if-limit-at.false c.if-sp-eq0.false c.either-at.ensures c.if-at-down.true
 
 pub loop-at-preserved : goal.loop-at-preserved
-loop-at-preserved c = let u = turn c in
-    onward u.before.before.before.loop.inv (known-else-at-down u) (flags-else-at-down c) (search rules) u.before.before.if1.left c.if-sp-eq0.false c.either-at.ensures c.if-at-down.false
+loop-at-preserved c = onward c.loop-at.invariant (known-else-at-down c) (flags-else-at-down c) (search rules) c.if-limit-at.false c.if-sp-eq0.false c.either-at.ensures c.if-at-down.false

@@ -14,7 +14,7 @@ behind c f p e h = ap (λ k. k - c.args.n.len) c.width.ensures ∙ net-behind c.
 low : (c : goal.After-struct_known-then-k-lt64-1) (f : ℕ) (p : Bits) → c.args.n ≡ net_from f p → length p ≤ width f
     → (width f - length p ≤ 64) × (c.ones.result ≡ 2 ^ (width f - length p) - 1)
 low c f p e h = let q = behind c f p e h in
-    (omega (arith, c.if-k-lt64.taken), c.ones.ensures ∙ ap (λ k. 2 ^ k - 1) q)
+    (omega (arith, c.if-k-lt64.true), c.ones.ensures ∙ ap (λ k. 2 ^ k - 1) q)
 
 behind-struct_known-2-1 : (c : goal.After-struct_known-2-1) (f : ℕ) (p : Bits) → c.args.n ≡ net_from f p → length p ≤ width f
     → c.width.result - c.args.n.len ≡ width f - length p
@@ -23,7 +23,7 @@ behind-struct_known-2-1 c f p e h = ap (λ k. k - c.args.n.len) c.width.ensures 
 high : (c : goal.After-struct_known-2-1) (f : ℕ) (p : Bits) → c.args.n ≡ net_from f p → length p ≤ width f
     → (j : ℕ) × (width f - length p ≡ j + 64) × (c.ones-2.result ≡ 2 ^ j - 1)
 high c f p e h = let q = behind-struct_known-2-1 c f p e h in
-    let l = c.if-k-lt64.left in
+    let l = c.if-k-lt64.false in
     (c.width.result - c.args.n.len - 64, omega arith, c.ones-2.ensures)
 
 pub overflow_sub-k : goal.overflow_sub-k

@@ -4,20 +4,20 @@ use Rattle.pool_state.proofs.Seats.{Seats, seated-refused, seated-at}
 use Rattle.setfile.proofs.Loads.{ask-refused, ask-broken, ask-family, ask-occupied, ask-reads, ask-file}
 use Rattle.setfile.proofs.loading.ask.Goals as goal
 
-seats : (c : goal.Then-family-seat) → let d = seated c in let a = d.before.before.before.before.before.args in Seats a.pool.now a.set d.seated2.given.0.0 d.seated2.given.0.1.0
-seats c = let d = seated c in seated-at _ _ d.before.before.seat-of.ensures _ _ d.seated2.given.1
+seats : (c : goal.Then-family-seat) → let a = c.args in Seats a.pool.now a.set c.in-At.found c.in-At.seat
+seats c = seated-at _ _ c.seat_of-seated.ensures _ _ c.in-At.is
 
-seats-then-found-ne0 : (c : goal.Then-found-ne0) → let d = seated c in let a = d.before.before.before.before.before.args in Seats a.pool.now a.set d.seated2.given.0.0 d.seated2.given.0.1.0
-seats-then-found-ne0 c = let d = seated c in seated-at _ _ d.before.before.seat-of.ensures _ _ d.seated2.given.1
+seats-then-found-ne0 : (c : goal.Then-found-ne0) → let a = c.args in Seats a.pool.now a.set c.in-At.found c.in-At.seat
+seats-then-found-ne0 c = seated-at _ _ c.seat_of-seated.ensures _ _ c.in-At.is
 
-seats-else-found-ne0 : (c : goal.Else-found-ne0) → let d = seated c in let a = d.before.before.before.before.before.args in Seats a.pool.now a.set d.seated2.given.0.0 d.seated2.given.0.1.0
-seats-else-found-ne0 c = let d = seated c in seated-at _ _ d.before.before.seat-of.ensures _ _ d.seated2.given.1
+seats-else-found-ne0 : (c : goal.Else-found-ne0) → let a = c.args in Seats a.pool.now a.set c.in-At.found c.in-At.seat
+seats-else-found-ne0 c = seated-at _ _ c.seat_of-seated.ensures _ _ c.in-At.is
 
-seats-in-broken : (c : goal.In-Broken) → let d = seated c in let a = d.before.before.before.before.before.args in Seats a.pool.now a.set d.seated2.given.0.0 d.seated2.given.0.1.0
-seats-in-broken c = let d = seated c in seated-at _ _ d.before.before.seat-of.ensures _ _ d.seated2.given.1
+seats-in-broken : (c : goal.In-Broken) → let a = c.args in Seats a.pool.now a.set c.in-At.found c.in-At.seat
+seats-in-broken c = seated-at _ _ c.seat_of-seated.ensures _ _ c.in-At.is
 
-seats-nodes_in-n : (c : goal.After-nodes_in-n) → let d = seated c in let a = d.before.before.before.before.before.args in Seats a.pool.now a.set d.seated2.given.0.0 d.seated2.given.0.1.0
-seats-nodes_in-n c = let d = seated c in seated-at _ _ d.before.before.seat-of.ensures _ _ d.seated2.given.1
+seats-nodes_in-n : (c : goal.After-nodes_in-n) → let a = c.args in Seats a.pool.now a.set c.in-At.found c.in-At.seat
+seats-nodes_in-n c = seated-at _ _ c.seat_of-seated.ensures _ _ c.in-At.is
 
 pub returns-then-family-seat : goal.returns-then-family-seat
 returns-then-family-seat c = ask-family _ (seats c) c.check-checked.ensures c.in-File.is c.if-family-seat.true

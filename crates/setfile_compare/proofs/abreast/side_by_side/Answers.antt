@@ -77,7 +77,7 @@ width-requires c = search rules
 pub returns-in-Differ : goal.returns-in-Differ
 returns-in-Differ c l m i j = let g = c.loop-holder.invariant l m i j in
     going-differs g _ c.in-Differ.holder c.in-Differ.x _ (c.meeting-m.ensures _ _ _ _ _ g.one.stands g.two.stands) c.in-Differ.is c.width.ensures
-    (omega (arith, c.known_told-1.given))
+    (omega (arith, c.in-Differ.known_told-1-own.given))
 
 pub enum_known-m-in-Alike-1 : goal.enum_known-m-in-Alike-1
 enum_known-m-in-Alike-1 c = search rules

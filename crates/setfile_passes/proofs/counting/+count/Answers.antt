@@ -12,34 +12,73 @@ use Rattle.setfile_passes.specs.Passing.{Counts}
 use Rattle.setfile_passes.proofs.Passes.{Opened, opened, settled, one, two, opened-pour, count-sum, count_left, count-right, kept}
 use Rattle.setfile_passes.proofs.counting.+count.Goals as goal
 
-abbrev at : ℕ → In 3 count-kinds.ps
-at t = and 3 count-kinds.ps (is 3 count-kinds.ps μ-count t) count.Pre
+abbrev Given : (τ : ℕ) → goal.In-Halves τ → Bits → Bits → Trie → List Bits → Trie → Type 0
+Given τ c q p u ms t = let a = c.args in Counts a.w.now a.b a.i a.e a.bytes.now a.cursors.now a.s q p u ms t
 
-abbrev Start : Type 0
-Start = count-lts.Start (calls n) (at n) count.Post
+inside : (τ : ℕ) → (c : goal.In-Halves τ) (q p : Bits) (u : Trie) (ms : List Bits) (t : Trie) → Given τ c q p u ms t
+    → let a = c.args in Opened a.w.now a.b a.i a.e a.into a.bytes.now a.cursors.now a.s q p u ms t c.in-Halves.a c.in-Halves.m c.in-Halves.z
+inside τ c q p u ms t g = let h = not-false _ c.if-not-s.false in
+    opened g.at h _ (c.is_whole.ensures q p u ms g.at.under (at_some g.at h)) _ t _ _ _ (rw c.in-Halves.is at (c.step-x.ensures t g.part))
 
-abbrev Going : Type 0
-Going = count-lts.After-is-whole (calls n) (at n) count.Post
+abbrev here : (τ : ℕ) → (c : goal.In-Halves τ) → let (q, p, u, ms, t, g) = c.requires in
+    let a = c.args in Opened a.w.now a.b a.i a.e a.into a.bytes.now a.cursors.now a.s q p u ms t c.in-Halves.a c.in-Halves.m c.in-Halves.z
+here τ c = let (q, p, u, ms, t, g) = c.requires in inside τ c q p u ms t g
 
-abbrev Inside : Type 0
-Inside = count-lts.After-known-told (calls n) (at n) count.Post
+abbrev Given-count-arg-1 : (τ : ℕ) → goal.After-count-arg-1 τ → Bits → Bits → Trie → List Bits → Trie → Type 0
+Given-count-arg-1 τ c q p u ms t = let a = c.args in Counts a.w.now a.b a.i a.e a.bytes.now a.cursors.now a.s q p u ms t
 
-abbrev start : Going → Start
-start c = c.before.before.before.before.before.before
+inside-count-arg-1 : (τ : ℕ) → (c : goal.After-count-arg-1 τ) (q p : Bits) (u : Trie) (ms : List Bits) (t : Trie) → Given-count-arg-1 τ c q p u ms t
+    → let a = c.args in Opened a.w.now a.b a.i a.e a.into a.bytes.now a.cursors.now a.s q p u ms t c.in-Halves.a c.in-Halves.m c.in-Halves.z
+inside-count-arg-1 τ c q p u ms t g = let h = not-false _ c.if-not-s.false in
+    opened g.at h _ (c.is_whole.ensures q p u ms g.at.under (at_some g.at h)) _ t _ _ _ (rw c.in-Halves.is at (c.step-x.ensures t g.part))
 
-abbrev Given : Start → Bits → Bits → Trie → List Bits → Trie → Type 0
-Given s q p u ms t = let a = s.args in Counts a.w.now a.b a.i a.e a.bytes.now a.cursors.now a.s q p u ms t
+abbrev here-count-arg-1 : (τ : ℕ) → (c : goal.After-count-arg-1 τ) → let (q, p, u, ms, t, g) = c.requires in
+    let a = c.args in Opened a.w.now a.b a.i a.e a.into a.bytes.now a.cursors.now a.s q p u ms t c.in-Halves.a c.in-Halves.m c.in-Halves.z
+here-count-arg-1 τ c = let (q, p, u, ms, t, g) = c.requires in inside-count-arg-1 τ c q p u ms t g
 
-inside : (c : Inside) (q p : Bits) (u : Trie) (ms : List Bits) (t : Trie) → let k = c.before.before.before.before in Given (start k) q p u ms t
-    → let a = (start k).args in let v = c.before.x.given.0 in Opened a.w.now a.b a.i a.e a.into a.bytes.now a.cursors.now a.s q p u ms t v.0 v.1.0 v.1.1.0
-inside c q p u ms t g =
-    let k = c.before.before.before.before in
-    let h = not-false _ k.before.if1.false in
-    opened g.at h _ (k.is_whole.ensures q p u ms g.at.under (at_some g.at h)) _ t _ _ _ (rw c.before.x.given.1 at (c.before.before.before.step.ensures t g.part))
+abbrev Given-h-1 : (τ : ℕ) → goal.After-h-1 τ → Bits → Bits → Trie → List Bits → Trie → Type 0
+Given-h-1 τ c q p u ms t = let a = c.args in Counts a.w.now a.b a.i a.e a.bytes.now a.cursors.now a.s q p u ms t
 
-abbrev here : (c : Inside) → let k = c.before.before.before.before in let (q, p, u, ms, t, g) = (start k).requires.1 in
-    let a = (start k).args in let v = c.before.x.given.0 in Opened a.w.now a.b a.i a.e a.into a.bytes.now a.cursors.now a.s q p u ms t v.0 v.1.0 v.1.1.0
-here c = let (q, p, u, ms, t, g) = (start c.before.before.before.before).pre.1 in inside c q p u ms t g
+inside-h-1 : (τ : ℕ) → (c : goal.After-h-1 τ) (q p : Bits) (u : Trie) (ms : List Bits) (t : Trie) → Given-h-1 τ c q p u ms t
+    → let a = c.args in Opened a.w.now a.b a.i a.e a.into a.bytes.now a.cursors.now a.s q p u ms t c.in-Halves.a c.in-Halves.m c.in-Halves.z
+inside-h-1 τ c q p u ms t g = let h = not-false _ c.if-not-s.false in
+    opened g.at h _ (c.is_whole.ensures q p u ms g.at.under (at_some g.at h)) _ t _ _ _ (rw c.in-Halves.is at (c.step-x.ensures t g.part))
+
+abbrev here-h-1 : (τ : ℕ) → (c : goal.After-h-1 τ) → let (q, p, u, ms, t, g) = c.requires in
+    let a = c.args in Opened a.w.now a.b a.i a.e a.into a.bytes.now a.cursors.now a.s q p u ms t c.in-Halves.a c.in-Halves.m c.in-Halves.z
+here-h-1 τ c = let (q, p, u, ms, t, g) = c.requires in inside-h-1 τ c q p u ms t g
+
+abbrev Given-count-arg-in-halves-1 : (τ : ℕ) → goal.After-count-arg-in-Halves-1 τ → Bits → Bits → Trie → List Bits → Trie → Type 0
+Given-count-arg-in-halves-1 τ c q p u ms t = let a = c.args in Counts a.w.now a.b a.i a.e a.bytes.now a.cursors.now a.s q p u ms t
+
+inside-count-arg-in-halves-1 : (τ : ℕ) → (c : goal.After-count-arg-in-Halves-1 τ) (q p : Bits) (u : Trie) (ms : List Bits) (t : Trie) → Given-count-arg-in-halves-1 τ c q p u ms t
+    → let a = c.args in Opened a.w.now a.b a.i a.e a.into a.bytes.now a.cursors.now a.s q p u ms t c.in-Halves.a c.in-Halves.m c.in-Halves.z
+inside-count-arg-in-halves-1 τ c q p u ms t g = let h = not-false _ c.if-not-s.false in
+    opened g.at h _ (c.is_whole.ensures q p u ms g.at.under (at_some g.at h)) _ t _ _ _ (rw c.in-Halves.is at (c.step-x.ensures t g.part))
+
+abbrev here-count-arg-in-halves-1 : (τ : ℕ) → (c : goal.After-count-arg-in-Halves-1 τ) → let (q, p, u, ms, t, g) = c.requires in
+    let a = c.args in Opened a.w.now a.b a.i a.e a.into a.bytes.now a.cursors.now a.s q p u ms t c.in-Halves.a c.in-Halves.m c.in-Halves.z
+here-count-arg-in-halves-1 τ c = let (q, p, u, ms, t, g) = c.requires in inside-count-arg-in-halves-1 τ c q p u ms t g
+
+abbrev Given-struct_known-in-halves-2-1 : (τ : ℕ) → goal.After-struct_known-in-Halves-2-1 τ → Bits → Bits → Trie → List Bits → Trie → Type 0
+Given-struct_known-in-halves-2-1 τ c q p u ms t = let a = c.args in Counts a.w.now a.b a.i a.e a.bytes.now a.cursors.now a.s q p u ms t
+
+inside-struct_known-in-halves-2-1 : (τ : ℕ) → (c : goal.After-struct_known-in-Halves-2-1 τ) (q p : Bits) (u : Trie) (ms : List Bits) (t : Trie) → Given-struct_known-in-halves-2-1 τ c q p u ms t
+    → let a = c.args in Opened a.w.now a.b a.i a.e a.into a.bytes.now a.cursors.now a.s q p u ms t c.in-Halves.a c.in-Halves.m c.in-Halves.z
+inside-struct_known-in-halves-2-1 τ c q p u ms t g = let h = not-false _ c.if-not-s.false in
+    opened g.at h _ (c.is_whole.ensures q p u ms g.at.under (at_some g.at h)) _ t _ _ _ (rw c.in-Halves.is at (c.step-x.ensures t g.part))
+
+abbrev here-struct_known-in-halves-2-1 : (τ : ℕ) → (c : goal.After-struct_known-in-Halves-2-1 τ) → let (q, p, u, ms, t, g) = c.requires in
+    let a = c.args in Opened a.w.now a.b a.i a.e a.into a.bytes.now a.cursors.now a.s q p u ms t c.in-Halves.a c.in-Halves.m c.in-Halves.z
+here-struct_known-in-halves-2-1 τ c = let (q, p, u, ms, t, g) = c.requires in inside-struct_known-in-halves-2-1 τ c q p u ms t g
+
+abbrev Given-glued_size-nodes : (τ : ℕ) → goal.After-glued_size-nodes τ → Bits → Bits → Trie → List Bits → Trie → Type 0
+Given-glued_size-nodes τ c q p u ms t = let a = c.args in Counts a.w.now a.b a.i a.e a.bytes.now a.cursors.now a.s q p u ms t
+
+inside-glued_size-nodes : (τ : ℕ) → (c : goal.After-glued_size-nodes τ) (q p : Bits) (u : Trie) (ms : List Bits) (t : Trie) → Given-glued_size-nodes τ c q p u ms t
+    → let a = c.args in Opened a.w.now a.b a.i a.e a.into a.bytes.now a.cursors.now a.s q p u ms t c.in-Halves.a c.in-Halves.m c.in-Halves.z
+inside-glued_size-nodes τ c q p u ms t g = let h = not-false _ c.if-not-s.false in
+    opened g.at h _ (c.is_whole.ensures q p u ms g.at.under (at_some g.at h)) _ t _ _ _ (rw c.in-Halves.is at (c.step-x.ensures t g.part))
 
 pub nodes_of-nodes-requires : goal.nodes_of-nodes-requires
 nodes_of-nodes-requires τ c = let (q, p, u, ms, t, g) = c.requires in (_, _, t, g.part)
@@ -61,20 +100,20 @@ pub pass-behind-requires : goal.pass-behind-requires
 pass-behind-requires τ c = let (q, p, u, ms, t, g) = (start n c).pre.1 in (q, p, u, ms, g.at)
 
 pub first-f-requires : goal.first-f-requires
-first-f-requires τ c = part-under (here n c).part
+first-f-requires τ c = part-under (here τ c).part
 
 pub count-l-requires : goal.count-l-requires
 count-l-requires τ c = let k = start n c in
-    let o = here n c in
+    let o = here-count-arg-1 τ c in
     let f = c.first-f.ensures in
     (omega (arith, first-falls o.part _ f, k.pre.0), (_, _, _, _, _, count_left o k.pre.1.5.few _ f))
 
 pub second-g-requires : goal.second-g-requires
-second-g-requires τ c = part-under (here n c).part
+second-g-requires τ c = part-under (here-h-1 τ c).part
 
 pub count-r-requires : goal.count-r-requires
 count-r-requires τ c = let k = start n c in
-    let o = here n c in
+    let o = here-count-arg-in-halves-1 τ c in
     let f = c.first-f.ensures in
     let few = k.pre.1.5.few in
     let l = (c.count-l.ensures _ _ _ _ _ (count_left o few _ f)).1 in
@@ -83,7 +122,7 @@ count-r-requires τ c = let k = start n c in
 
 pub overflow_add-l : goal.overflow_add-l
 overflow_add-l τ c = let k = start n c in
-    let o = here n c in
+    let o = here-struct_known-in-halves-2-1 τ c in
     let few = k.pre.1.5.few in
     let f = c.first-f.ensures in
     let x = c.count-l.ensures _ _ _ _ _ (count_left o few _ f) in
@@ -92,7 +131,7 @@ overflow_add-l τ c = let k = start n c in
 
 pub glued_size-nodes-requires : goal.glued_size-nodes-requires
 glued_size-nodes-requires τ c = let k = start n c in
-    let o = here n c in
+    let o = here-struct_known-in-halves-2-1 τ c in
     let few = k.pre.1.5.few in
     let f = c.first-f.ensures in
     let x = c.count-l.ensures _ _ _ _ _ (count_left o few _ f) in
@@ -105,7 +144,7 @@ returns-in-Settled τ c q p u ms t g = let h = not-false _ c.if-not-s.false in
     (c.flat_size-nodes.ensures ∙ rw (settled g.at h _ (c.is_whole.ensures q p u ms g.at.under (at_some g.at h)) _ t v), c.pass-behind.ensures q p u ms g.at)
 
 pub returns-in-Halves : goal.returns-in-Halves
-returns-in-Halves τ c q p u ms t g = let o = inside n c q p u ms t g in
+returns-in-Halves τ c q p u ms t g = let o = inside-glued_size-nodes τ c q p u ms t g in
     let f = c.first-f.ensures in
     let x = c.count-l.ensures _ _ _ _ _ (count_left o g.few _ f) in
     let e = c.second-g.ensures in

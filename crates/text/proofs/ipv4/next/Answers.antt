@@ -35,19 +35,19 @@ ended c = sym c.byte_at.ensures ∙ not-false c.byte_at.result c.if-not-byte_at.
 
 pub returns-in_default : goal.returns-in_default
 unfolding read_next starts_byte
-returns-in_default c = let whole = rw c.in_default.is (refl, omega arith) in record { result_value = whole.0; result_bound = whole.1 }
+returns-in_default c = rw c.in_default.is (record { result_value = refl; result_bound = omega arith })
 
 pub returns-in_default-r : goal.returns-in_default-r
 unfolding read_next starts_byte
 returns-in_default-r c = let a = c.args in
     let h = read_as-is a.s.now c.in_default-r.is c.number-r.ensures in
-    let whole = rw c.in-Number.is (read_next-nothing a.end c.in-Number.high (drop c.in-Number.c.at a.s.now) h, omega arith) in record { result_value = whole.0; result_bound = whole.1 }
+    rw c.in-Number.is (record { result_value = read_next-nothing a.end c.in-Number.high (drop c.in-Number.c.at a.s.now) h; result_bound = omega arith })
 
 pub returns-then-not-byte_at : goal.returns-then-not-byte_at
 unfolding read_next starts_byte
 returns-then-not-byte_at c = let a = c.args in
     let h = sym c.byte_at.ensures ∙ not-true c.byte_at.result c.if-not-byte_at.true-raw in
-    let whole = rw c.in-Number.is (read_next-other a.end c.in-Number.high c.in-Number-r.low a.s.now c.in-Number-r.behind.at (drop c.in-Number.c.at a.s.now) (found c) h, omega arith) in record { result_value = whole.0; result_bound = whole.1 }
+    rw c.in-Number.is (record { result_value = read_next-other a.end c.in-Number.high c.in-Number-r.low a.s.now c.in-Number-r.behind.at (drop c.in-Number.c.at a.s.now) (found c) h; result_bound = omega arith })
 
 pub overflow_mul-result : goal.overflow_mul-result
 unfolding read_next starts_byte
@@ -65,5 +65,4 @@ overflow_add-result-2 c = let a = c.args in
 pub returns : goal.returns
 unfolding read_next starts_byte
 returns c = let a = c.args in
-    let whole = rw c.in-Number.is
-    (read_next-ended a.end c.in-Number.high c.in-Number-r.low a.s.now c.in-Number-r.behind.at (drop c.in-Number.c.at a.s.now) (found-else-not-byte_at c) (ended c), omega (arith, (small c).1)) in record { result_value = whole.0; result_bound = whole.1 }
+    rw c.in-Number.is (record { result_value = read_next-ended a.end c.in-Number.high c.in-Number-r.low a.s.now c.in-Number-r.behind.at (drop c.in-Number.c.at a.s.now) (found-else-not-byte_at c) (ended c); result_bound = omega (arith, (small c).1) })

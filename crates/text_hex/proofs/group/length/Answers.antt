@@ -5,13 +5,13 @@ use Rattle.text_hex.proofs.Written.{hex_digits_of-one, hex_digits_of-two, hex_di
 use Rattle.text_hex.proofs.group.length.Goals as goal
 
 pub returns-then-x-lt16 : goal.returns-then-x-lt16
-returns-then-x-lt16 c = let whole = rw (hex_digits_of-one c.args.x c.if-x-lt16.true) (refl, omega arith) in record { value = whole.0; upper_bound = whole.1 }
+returns-then-x-lt16 c = rw (hex_digits_of-one c.args.x c.if-x-lt16.true) (record { value = refl; upper_bound = omega arith })
 
 pub returns-then-x-lt256 : goal.returns-then-x-lt256
-returns-then-x-lt256 c = let whole = rw (hex_digits_of-two c.args.x c.if-x-lt16.false c.if-x-lt256.true) (refl, omega arith) in record { value = whole.0; upper_bound = whole.1 }
+returns-then-x-lt256 c = rw (hex_digits_of-two c.args.x c.if-x-lt16.false c.if-x-lt256.true) (record { value = refl; upper_bound = omega arith })
 
 pub returns-then-x-lt4096 : goal.returns-then-x-lt4096
-returns-then-x-lt4096 c = let whole = rw (hex_digits_of-three c.args.x c.if-x-lt256.false c.if-x-lt4096.true) (refl, omega arith) in record { value = whole.0; upper_bound = whole.1 }
+returns-then-x-lt4096 c = rw (hex_digits_of-three c.args.x c.if-x-lt256.false c.if-x-lt4096.true) (record { value = refl; upper_bound = omega arith })
 
 pub returns : goal.returns
-returns c = let whole = rw (hex_digits_of-four c.args.x c.if-x-lt4096.false) (refl, omega arith) in record { value = whole.0; upper_bound = whole.1 }
+returns c = rw (hex_digits_of-four c.args.x c.if-x-lt4096.false) (record { value = refl; upper_bound = omega arith })

@@ -36,10 +36,10 @@ pub shift-requires : goal.shift-requires
 shift-requires c = let p = c.requires in let f = moved-fits p.0.2 p.1 c.if-i-e.false c.if-i-e-2.false in (f.3, f.4)
 
 pub overflow_sub-result : goal.overflow_sub-result
-overflow_sub-result c = let e = first c in let p = c.requires in omega (arith, moved-fits p.0.2 p.1 e.before.before.if1.left e.before.if2.left)
+overflow_sub-result c = let p = c.requires in omega (arith, moved-fits p.0.2 p.1 c.if-i-e.false c.if-i-e-2.false)
 
 pub overflow_add-result : goal.overflow_add-result
-overflow_add-result c = let e = first c in let p = c.requires in omega (arith, moved-fits p.0.2 p.1 e.before.before.if1.left e.before.if2.left)
+overflow_add-result c = let p = c.requires in omega (arith, moved-fits p.0.2 p.1 c.if-i-e.false c.if-i-e-2.false)
 
 pub returns : goal.returns
-returns c t fuel s = let e = first c in let p = c.requires in moved-put s p.1 e.before.before.if1.left e.before.if2.left c.shift.ensures
+returns c t fuel s = let p = c.requires in moved-put s p.1 c.if-i-e.false c.if-i-e-2.false c.shift.ensures

@@ -7,25 +7,52 @@ use Rattle.trie_emit.specs.Combine.{Inputs}
 use Rattle.trie_emit.proofs.Combine.{op-none, op-full, op-mixed, Split, left-inputs, left-gap, rest-inputs, rest-gap, pending, emitted}
 use Rattle.trie_emit.proofs.combining.+emit.Goals as goal
 
-abbrev Start : Type 0
-Start = emit-lts.Start (calls n) (at n) emit.Post
+abbrev Given : (τ : ℕ) → goal.After-emit-arg-1 τ → ℕ → Trie → Trie → Type 0
+Given τ c g t u = let a = c.args in Inputs a.w.now a.b a.a a.c a.o g a.fuel t u
 
-abbrev Inside : Type 0
-Inside = emit-lts.After-halves2 (calls n) (at n) emit.Post
-
-abbrev start : Inside → Start
-start c = c.before.before.before.before.before.before.before.before.before
-
-abbrev Given : Start → ℕ → Trie → Trie → Type 0
-Given s g t u = let a = s.args in Inputs a.w.now a.b a.a a.c a.o g a.fuel t u
-
-split : (c : Inside) (g : ℕ) (t u : Trie) → Given (start c) g t u → let a = (start c).args in
-    Split a.w.now a.b a.op a.a a.c a.o g a.fuel t u c.before.before.halves.result.a c.before.before.halves.result.c c.halves2.result.a c.halves2.result.c
-split c g t u s = record {
+split : (τ : ℕ) → (c : goal.After-emit-arg-1 τ) (g : ℕ) (t u : Trie) → Given τ c g t u → let a = c.args in
+    Split a.w.now a.b a.op a.a a.c a.o g a.fuel t u c.halves-p.result.a c.halves-p.result.c c.halves-q.result.a c.halves-q.result.c
+split τ c g t u s = record {
   src = s;
-  mixes = op-mixed s _ _ (c.before.before.before.before.before.before.outcome.ensures _ g t u s.first s.second) c.before.before.before.before.before.if1.false c.before.before.before.before.if2.false;
-  left = c.before.before.halves.ensures _ g t u s.first s.second;
-  right = c.halves2.ensures _ g t u s.first s.second;
+  mixes = op-mixed s _ _ (c.outcome-v.ensures _ g t u s.first s.second) c.if-v-eq-EMPTY.false c.if-v-eq-FULL.false;
+  left = c.halves-p.ensures _ g t u s.first s.second;
+  right = c.halves-q.ensures _ g t u s.first s.second;
+}
+
+abbrev Given-emit-arg-2-1 : (τ : ℕ) → goal.After-emit-arg-2-1 τ → ℕ → Trie → Trie → Type 0
+Given-emit-arg-2-1 τ c g t u = let a = c.args in Inputs a.w.now a.b a.a a.c a.o g a.fuel t u
+
+split-emit-arg-2-1 : (τ : ℕ) → (c : goal.After-emit-arg-2-1 τ) (g : ℕ) (t u : Trie) → Given-emit-arg-2-1 τ c g t u → let a = c.args in
+    Split a.w.now a.b a.op a.a a.c a.o g a.fuel t u c.halves-p.result.a c.halves-p.result.c c.halves-q.result.a c.halves-q.result.c
+split-emit-arg-2-1 τ c g t u s = record {
+  src = s;
+  mixes = op-mixed s _ _ (c.outcome-v.ensures _ g t u s.first s.second) c.if-v-eq-EMPTY.false c.if-v-eq-FULL.false;
+  left = c.halves-p.ensures _ g t u s.first s.second;
+  right = c.halves-q.ensures _ g t u s.first s.second;
+}
+
+abbrev Given-finish-arg-1 : (τ : ℕ) → goal.After-finish-arg-1 τ → ℕ → Trie → Trie → Type 0
+Given-finish-arg-1 τ c g t u = let a = c.args in Inputs a.w.now a.b a.a a.c a.o g a.fuel t u
+
+split-finish-arg-1 : (τ : ℕ) → (c : goal.After-finish-arg-1 τ) (g : ℕ) (t u : Trie) → Given-finish-arg-1 τ c g t u → let a = c.args in
+    Split a.w.now a.b a.op a.a a.c a.o g a.fuel t u c.halves-p.result.a c.halves-p.result.c c.halves-q.result.a c.halves-q.result.c
+split-finish-arg-1 τ c g t u s = record {
+  src = s;
+  mixes = op-mixed s _ _ (c.outcome-v.ensures _ g t u s.first s.second) c.if-v-eq-EMPTY.false c.if-v-eq-FULL.false;
+  left = c.halves-p.ensures _ g t u s.first s.second;
+  right = c.halves-q.ensures _ g t u s.first s.second;
+}
+
+abbrev Given-slice_known-4-1 : (τ : ℕ) → goal.After-slice_known-4-1 τ → ℕ → Trie → Trie → Type 0
+Given-slice_known-4-1 τ c g t u = let a = c.args in Inputs a.w.now a.b a.a a.c a.o g a.fuel t u
+
+split-slice_known-4-1 : (τ : ℕ) → (c : goal.After-slice_known-4-1 τ) (g : ℕ) (t u : Trie) → Given-slice_known-4-1 τ c g t u → let a = c.args in
+    Split a.w.now a.b a.op a.a a.c a.o g a.fuel t u c.halves-p.result.a c.halves-p.result.c c.halves-q.result.a c.halves-q.result.c
+split-slice_known-4-1 τ c g t u s = record {
+  src = s;
+  mixes = op-mixed s _ _ (c.outcome-v.ensures _ g t u s.first s.second) c.if-v-eq-EMPTY.false c.if-v-eq-FULL.false;
+  left = c.halves-p.ensures _ g t u s.first s.second;
+  right = c.halves-q.ensures _ g t u s.first s.second;
 }
 
 pub outcome-v-requires : goal.outcome-v-requires
@@ -51,7 +78,7 @@ overflow_sub-fuel τ c = let s = (start n c).pre.1.3 in omega arith
 
 pub emit-l-requires : goal.emit-l-requires
 emit-l-requires τ c = let (g, t, u, s, p) = (start n c).pre.1 in
-    let d = split n c g t u s in
+    let d = split τ c g t u s in
     (omega (arith, (start n c).pre.0, s.turn), (g, _, _, left-inputs d, left-gap d p))
 
 pub overflow_add-o-2 : goal.overflow_add-o-2
@@ -65,20 +92,20 @@ overflow_sub-fuel-2 τ c = let s = (start n c).pre.1.3 in omega arith
 
 pub emit-r-requires : goal.emit-r-requires
 emit-r-requires τ c = let (g, t, u, s, p) = (start n c).pre.1 in
-    let d = split n c g t u s in
+    let d = split-emit-arg-2-1 τ c g t u s in
     let l = c.emit-l.ensures g _ _ (left-inputs d) (left-gap d p) in
     let e = c.end_of-m.ensures in
     (omega (arith, (start n c).pre.0, s.turn), (g, _, _, rest-inputs d p _ _ _ l e, rest-gap d p _ _ _ l e))
 
 pub finish-requires : goal.finish-requires
 finish-requires τ c = let (g, t, u, s, p) = (start n c).pre.1 in
-    let d = split n c g t u s in
+    let d = split-finish-arg-1 τ c g t u s in
     let l = c.emit-l.ensures g _ _ (left-inputs d) (left-gap d p) in
     let e = c.end_of-m.ensures in
     (_, _, _, pending d p _ _ _ l e _ _ (c.emit-r.ensures g _ _ (rest-inputs d p _ _ _ l e) (rest-gap d p _ _ _ l e)))
 
 pub returns : goal.returns
-returns τ c g t u s p = let d = split n c g t u s in
+returns τ c g t u s p = let d = split-slice_known-4-1 τ c g t u s in
     let l = c.emit-l.ensures g _ _ (left-inputs d) (left-gap d p) in
     let e = c.end_of-m.ensures in
     emitted d p _ _ _ l e _ _ (c.emit-r.ensures g _ _ (rest-inputs d p _ _ _ l e) (rest-gap d p _ _ _ l e)) _ _ c.finish.ensures

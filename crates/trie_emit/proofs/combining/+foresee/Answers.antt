@@ -6,25 +6,52 @@ use Rattle.trie_emit.specs.Combine.{Inputs}
 use Rattle.trie_emit.proofs.Combine.{op-none, op-full, op-mixed, Split, left-inputs, right-inputs, foreseen-both, foreseen}
 use Rattle.trie_emit.proofs.combining.+foresee.Goals as goal
 
-abbrev Start : Type 0
-Start = foresee-lts.Start (calls n) (at n) foresee.Post
+abbrev Given : (τ : ℕ) → goal.After-halves-q τ → ℕ → Trie → Trie → Type 0
+Given τ c g t u = let a = c.args in Inputs a.w.now a.b a.a a.c a.o g a.fuel t u
 
-abbrev Inside : Type 0
-Inside = foresee-lts.After-halves2 (calls n) (at n) foresee.Post
-
-abbrev start : Inside → Start
-start c = c.before.before.before.before.before.before
-
-abbrev Given : Start → ℕ → Trie → Trie → Type 0
-Given s g t u = let a = s.args in Inputs a.w.now a.b a.a a.c a.o g a.fuel t u
-
-split : (c : Inside) (g : ℕ) (t u : Trie) → Given (start c) g t u → let a = (start c).args in
-    Split a.w.now a.b a.op a.a a.c a.o g a.fuel t u c.before.halves.result.a c.before.halves.result.c c.halves2.result.a c.halves2.result.c
-split c g t u s = record {
+split : (τ : ℕ) → (c : goal.After-halves-q τ) (g : ℕ) (t u : Trie) → Given τ c g t u → let a = c.args in
+    Split a.w.now a.b a.op a.a a.c a.o g a.fuel t u c.halves-p.result.a c.halves-p.result.c c.halves-q.result.a c.halves-q.result.c
+split τ c g t u s = record {
   src = s;
-  mixes = op-mixed s _ _ (c.before.before.before.before.outcome.ensures _ g t u s.first s.second) c.before.before.before.if1.false c.before.before.if2.false;
-  left = c.before.halves.ensures _ g t u s.first s.second;
-  right = c.halves2.ensures _ g t u s.first s.second;
+  mixes = op-mixed s _ _ (c.outcome-v.ensures _ g t u s.first s.second) c.if-v-eq-EMPTY.false c.if-v-eq-FULL.false;
+  left = c.halves-p.ensures _ g t u s.first s.second;
+  right = c.halves-q.ensures _ g t u s.first s.second;
+}
+
+abbrev Given-end_of-m : (τ : ℕ) → goal.After-end_of-m τ → ℕ → Trie → Trie → Type 0
+Given-end_of-m τ c g t u = let a = c.args in Inputs a.w.now a.b a.a a.c a.o g a.fuel t u
+
+split-end_of-m : (τ : ℕ) → (c : goal.After-end_of-m τ) (g : ℕ) (t u : Trie) → Given-end_of-m τ c g t u → let a = c.args in
+    Split a.w.now a.b a.op a.a a.c a.o g a.fuel t u c.halves-p.result.a c.halves-p.result.c c.halves-q.result.a c.halves-q.result.c
+split-end_of-m τ c g t u s = record {
+  src = s;
+  mixes = op-mixed s _ _ (c.outcome-v.ensures _ g t u s.first s.second) c.if-v-eq-EMPTY.false c.if-v-eq-FULL.false;
+  left = c.halves-p.ensures _ g t u s.first s.second;
+  right = c.halves-q.ensures _ g t u s.first s.second;
+}
+
+abbrev Given-foresee-r : (τ : ℕ) → goal.After-foresee-r τ → ℕ → Trie → Trie → Type 0
+Given-foresee-r τ c g t u = let a = c.args in Inputs a.w.now a.b a.a a.c a.o g a.fuel t u
+
+split-foresee-r : (τ : ℕ) → (c : goal.After-foresee-r τ) (g : ℕ) (t u : Trie) → Given-foresee-r τ c g t u → let a = c.args in
+    Split a.w.now a.b a.op a.a a.c a.o g a.fuel t u c.halves-p.result.a c.halves-p.result.c c.halves-q.result.a c.halves-q.result.c
+split-foresee-r τ c g t u s = record {
+  src = s;
+  mixes = op-mixed s _ _ (c.outcome-v.ensures _ g t u s.first s.second) c.if-v-eq-EMPTY.false c.if-v-eq-FULL.false;
+  left = c.halves-p.ensures _ g t u s.first s.second;
+  right = c.halves-q.ensures _ g t u s.first s.second;
+}
+
+abbrev Given-parent : (τ : ℕ) → goal.After-parent τ → ℕ → Trie → Trie → Type 0
+Given-parent τ c g t u = let a = c.args in Inputs a.w.now a.b a.a a.c a.o g a.fuel t u
+
+split-parent : (τ : ℕ) → (c : goal.After-parent τ) (g : ℕ) (t u : Trie) → Given-parent τ c g t u → let a = c.args in
+    Split a.w.now a.b a.op a.a a.c a.o g a.fuel t u c.halves-p.result.a c.halves-p.result.c c.halves-q.result.a c.halves-q.result.c
+split-parent τ c g t u s = record {
+  src = s;
+  mixes = op-mixed s _ _ (c.outcome-v.ensures _ g t u s.first s.second) c.if-v-eq-EMPTY.false c.if-v-eq-FULL.false;
+  left = c.halves-p.ensures _ g t u s.first s.second;
+  right = c.halves-q.ensures _ g t u s.first s.second;
 }
 
 pub outcome-v-requires : goal.outcome-v-requires
@@ -49,7 +76,7 @@ pub overflow_sub-fuel : goal.overflow_sub-fuel
 overflow_sub-fuel τ c = let s = (start n c).requires.1.3 in omega arith
 
 pub foresee-l-requires : goal.foresee-l-requires
-foresee-l-requires τ c = let (g, t, u, s) = (start n c).requires.1 in (omega (arith, (start n c).requires.0, s.turn), (g, _, _, left-inputs (split n c g t u s)))
+foresee-l-requires τ c = let (g, t, u, s) = (start n c).requires.1 in (omega (arith, (start n c).requires.0, s.turn), (g, _, _, left-inputs (split τ c g t u s)))
 
 pub overflow_add-o-2 : goal.overflow_add-o-2
 overflow_add-o-2 τ c = let s = (start n c).pre.1.3 in omega arith
@@ -62,11 +89,11 @@ overflow_sub-fuel-2 τ c = let s = (start n c).pre.1.3 in omega arith
 
 pub foresee-r-requires : goal.foresee-r-requires
 foresee-r-requires τ c = let (g, t, u, s) = (start n c).pre.1 in
-    (omega (arith, (start n c).pre.0, s.turn), (g, _, _, right-inputs (split n c g t u s) _ _ c.foresee-l.ensures c.end_of-m.ensures))
+    (omega (arith, (start n c).pre.0, s.turn), (g, _, _, right-inputs (split-end_of-m τ c g t u s) _ _ c.foresee-l.ensures c.end_of-m.ensures))
 
 pub parent-requires : goal.parent-requires
 parent-requires τ c = let (g, t, u, s) = (start n c).pre.1 in
-    (_, _, foreseen-both (split n c g t u s) _ _ c.foresee-l.ensures c.end_of-m.ensures _ c.foresee-r.ensures)
+    (_, _, foreseen-both (split-foresee-r τ c g t u s) _ _ c.foresee-l.ensures c.end_of-m.ensures _ c.foresee-r.ensures)
 
 pub returns : goal.returns
-returns τ c g t u s = foreseen (split n c g t u s) _ _ c.foresee-l.ensures c.end_of-m.ensures _ c.foresee-r.ensures _ c.parent.ensures
+returns τ c g t u s = foreseen (split-parent τ c g t u s) _ _ c.foresee-l.ensures c.end_of-m.ensures _ c.foresee-r.ensures _ c.parent.ensures

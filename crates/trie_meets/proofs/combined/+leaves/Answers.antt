@@ -8,19 +8,37 @@ use Rattle.trie_emit.specs.Combine.{Means, Inputs}
 use Rattle.trie_meets.proofs.Operation.{leaves_none, leaves-full, half-inputs, leaves-first, leaves-second}
 use Rattle.trie_meets.proofs.combined.+leaves.Goals as goal
 
-abbrev Inner : Type 0
-Inner = leaves-lts.Else2 (calls n) (at n) leaves.Post
-
-abbrev start : Inner → leaves-lts.Start (calls n) (at n) leaves.Post
-start c = c.before.before.before.before
-
-abbrev Given : leaves-lts.Start (calls n) (at n) leaves.Post → Trie → Trie → Type 0
-Given s t u = let a = s.args in Inputs a.w.now a.b a.a a.c 0 0 a.fuel t u
+abbrev Given : (τ : ℕ) → goal.After-halves-p τ → Trie → Trie → Type 0
+Given τ c t u = let a = c.args in Inputs a.w.now a.b a.a a.c 0 0 a.fuel t u
 
 -- at an inner node, the halves of both sources
-halved : (c : Inner) (t u : Trie) → Given (start c) t u → (d : Bool) (i k : ℕ) → let a = (start c).args in Means a.w.now a.b 0 0 i (half d t) × Means a.w.now a.b 0 0 k (half d u)
+halved : (τ : ℕ) → (c : goal.After-halves-p τ) (t u : Trie) → Given τ c t u → (d : Bool) (i k : ℕ) → let a = c.args in Means a.w.now a.b 0 0 i (half d t) × Means a.w.now a.b 0 0 k (half d u)
     → Inputs a.w.now a.b i k 0 0 (a.fuel - 1) (half d t) (half d u)
-halved c t u s d i k m = half-inputs s (start c).args.op _ (c.before.before.outcome.ensures 0 0 t u s.first s.second) c.before.if1.false c.if2.false d i k m
+halved τ c t u s d i k m = half-inputs s c.args.op _ (c.outcome-v.ensures 0 0 t u s.first s.second) c.if-v-eq-EMPTY.false c.if-v-eq-FULL.false d i k m
+
+abbrev Given-then-leaves : (τ : ℕ) → goal.Then-leaves τ → Trie → Trie → Type 0
+Given-then-leaves τ c t u = let a = c.args in Inputs a.w.now a.b a.a a.c 0 0 a.fuel t u
+
+-- at an inner node, the halves of both sources
+halved-then-leaves : (τ : ℕ) → (c : goal.Then-leaves τ) (t u : Trie) → Given-then-leaves τ c t u → (d : Bool) (i k : ℕ) → let a = c.args in Means a.w.now a.b 0 0 i (half d t) × Means a.w.now a.b 0 0 k (half d u)
+    → Inputs a.w.now a.b i k 0 0 (a.fuel - 1) (half d t) (half d u)
+halved-then-leaves τ c t u s d i k m = half-inputs s c.args.op _ (c.outcome-v.ensures 0 0 t u s.first s.second) c.if-v-eq-EMPTY.false c.if-v-eq-FULL.false d i k m
+
+abbrev Given-halves-q : (τ : ℕ) → goal.After-halves-q τ → Trie → Trie → Type 0
+Given-halves-q τ c t u = let a = c.args in Inputs a.w.now a.b a.a a.c 0 0 a.fuel t u
+
+-- at an inner node, the halves of both sources
+halved-halves-q : (τ : ℕ) → (c : goal.After-halves-q τ) (t u : Trie) → Given-halves-q τ c t u → (d : Bool) (i k : ℕ) → let a = c.args in Means a.w.now a.b 0 0 i (half d t) × Means a.w.now a.b 0 0 k (half d u)
+    → Inputs a.w.now a.b i k 0 0 (a.fuel - 1) (half d t) (half d u)
+halved-halves-q τ c t u s d i k m = half-inputs s c.args.op _ (c.outcome-v.ensures 0 0 t u s.first s.second) c.if-v-eq-EMPTY.false c.if-v-eq-FULL.false d i k m
+
+abbrev Given-leaves-2 : (τ : ℕ) → goal.After-leaves-2 τ → Trie → Trie → Type 0
+Given-leaves-2 τ c t u = let a = c.args in Inputs a.w.now a.b a.a a.c 0 0 a.fuel t u
+
+-- at an inner node, the halves of both sources
+halved-leaves-2 : (τ : ℕ) → (c : goal.After-leaves-2 τ) (t u : Trie) → Given-leaves-2 τ c t u → (d : Bool) (i k : ℕ) → let a = c.args in Means a.w.now a.b 0 0 i (half d t) × Means a.w.now a.b 0 0 k (half d u)
+    → Inputs a.w.now a.b i k 0 0 (a.fuel - 1) (half d t) (half d u)
+halved-leaves-2 τ c t u s d i k m = half-inputs s c.args.op _ (c.outcome-v.ensures 0 0 t u s.first s.second) c.if-v-eq-EMPTY.false c.if-v-eq-FULL.false d i k m
 
 pub outcome-v-requires : goal.outcome-v-requires
 outcome-v-requires τ c = let (t, u, s) = c.requires in (0, 0, t, u, s.first, s.second)
@@ -39,11 +57,11 @@ overflow_sub-fuel τ c = let s = (start n c).pre.1.2 in omega arith
 
 pub leaves-requires : goal.leaves-requires
 leaves-requires τ c = let (t, u, s) = (start n c).requires.1 in
-    (omega (arith, (start n c).requires.0, s.turn), (_, _, halved n c t u s false _ _ (c.halves-p.ensures 0 0 t u s.first s.second)))
+    (omega (arith, (start n c).requires.0, s.turn), (_, _, halved τ c t u s false _ _ (c.halves-p.ensures 0 0 t u s.first s.second)))
 
 pub returns-then-leaves : goal.returns-then-leaves
 returns-then-leaves τ c t u s = leaves-first s _ _ (c.outcome-v.ensures 0 0 t u s.first s.second) c.if-v-eq-EMPTY.false c.if-v-eq-FULL.false _
-    (c.leaves.ensures _ _ (halved n c t u s false _ _ (c.halves-p.ensures 0 0 t u s.first s.second))) c.if-leaves.true
+    (c.leaves.ensures _ _ (halved-then-leaves τ c t u s false _ _ (c.halves-p.ensures 0 0 t u s.first s.second))) c.if-leaves.true
 
 pub halves-q-requires : goal.halves-q-requires
 halves-q-requires τ c = let (t, u, s) = (start n c).pre.1 in (0, 0, t, u, s.first, s.second)
@@ -53,9 +71,9 @@ overflow_sub-fuel-2 τ c = let s = (start n c).pre.1.2 in omega arith
 
 pub leaves-requires-2 : goal.leaves-requires-2
 leaves-requires-2 τ c = let (t, u, s) = (start n c).requires.1 in
-    (omega (arith, (start n c).requires.0, s.turn), (_, _, halved n c t u s true _ _ (c.halves-q.ensures 0 0 t u s.first s.second)))
+    (omega (arith, (start n c).requires.0, s.turn), (_, _, halved-halves-q τ c t u s true _ _ (c.halves-q.ensures 0 0 t u s.first s.second)))
 
 pub returns : goal.returns
 returns τ c t u s = leaves-second s _ _ (c.outcome-v.ensures 0 0 t u s.first s.second) c.if-v-eq-EMPTY.false c.if-v-eq-FULL.false _ _
-    (c.leaves.ensures _ _ (halved n c t u s false _ _ (c.halves-p.ensures 0 0 t u s.first s.second))) c.if-leaves.false
-    (c.leaves-2.ensures _ _ (halved n c t u s true _ _ (c.halves-q.ensures 0 0 t u s.first s.second)))
+    (c.leaves.ensures _ _ (halved-leaves-2 τ c t u s false _ _ (c.halves-p.ensures 0 0 t u s.first s.second))) c.if-leaves.false
+    (c.leaves-2.ensures _ _ (halved-leaves-2 τ c t u s true _ _ (c.halves-q.ensures 0 0 t u s.first s.second)))
