@@ -1,8 +1,12 @@
 // Runs a list of calls from standard input and writes their answers to standard output: docs/CALLS.md, so that any language can drive the library through a pipe.
+#![tactic(auto)]
+
 ghost use Rattle.std.specs.Prelude.{◌≡◌, ◌≤◌, length};
 
 use calls::running::run;
 use calls_bytes::bytes::{put_u64, u32_at};
+use std::io;
+use tool_files::read_full;
 
 // The most words of a pool. As many bytes are kept of the input, and as many lent for answers.
 const WORDS: usize = 65536;
@@ -23,33 +27,33 @@ fn rows_of() -> [u64; ROWS]
 }
 
 // Runs the calls on a pool of so many words.
-fn answer(calls: &[u8], words: usize)
+fn answer(rt: &impl Print, calls: &[u8], words: usize) -> io::Result<()>
     requires { words ≤ 65536 }
 {
     let mut pool = words_of();
     let mut rows = rows_of();
-    let mut out = io::large_buffer();
+    let mut out = [0u8; WORDS];
     let ended = run(&mut pool[..words], &mut rows, calls, &mut out);
     let mut head = [0u8; 8];
     put_u64(&mut head, 0, 8 * ended.done + ended.why as u64);
-    io::write_all(1, &head);
+    rt.write_all(&head)?;
     let to = ended.to;
-    io::write_all(1, &out[..to]);
+    rt.write_all(&out[..to])
 }
 
 // An input that fills the buffer may be longer than it.
-fn main() {
-    let mut input = io::large_buffer();
-    let n = io::read_full(0, &mut input);
+fn main(rt: HostRuntime) -> io::Result<()> {
+    let mut input = [0u8; WORDS];
+    let n = read_full(&mut rt.stdin(), &mut input)?;
     if n < 4 {
-        return;
+        return Ok(());
     }
     if n == input.len() {
-        return;
+        return Ok(());
     }
     let words = u32_at(&input, 0) as usize;
     if words > WORDS {
-        return;
+        return Ok(());
     }
-    answer(&input[4..n], words);
+    answer(&rt, &input[4..n], words)
 }

@@ -2,89 +2,91 @@
 //
 // The list is the one that add gives, line after line: a network inside another goes, and two halves of a block are not joined. Where a line is refused,
 // standard error says which and why, and no file is written. The set has at most 100,000 nodes: a line that needs more is refused, OverLimit.
-use libc::STDERR_FILENO;
+#![tactic(auto)]
+
 use pool_state::Answer;
-use tool_files::{BYTES, NODES, WORDS};
+use tool_files::{BYTES, NODES, Opened, PATH, WORDS};
 use tool_io::Input;
 
 // Lays the pool out, and adds the networks of the lines to its set. Whether none is refused.
-fn take(fd: i32, path: &[u8], pool: &mut [u32]) -> bool {
-    let lines = tool_io::read_lines(fd, pool, NODES);
+fn take(rt: &HostRuntime, from: &mut Opened, path: &[u8], pool: &mut [u32]) -> bool {
+    let lines = tool_io::read_lines(from, pool, NODES);
     let input = lines.input;
     match input {
         Input::Added(_) => true,
         Input::Refused(number, no) => {
-            tool_files::say_refused_line(b"lines-to-set", number, no);
+            tool_files::say_refused_line(rt, b"lines-to-set", number, no);
             false
         }
-        Input::Unreadable => {
-            tool_files::say_failed(b"lines-to-set", path);
+        Input::Unreadable(e) => {
+            tool_files::say_failed(rt, b"lines-to-set", path, &e);
             false
         }
     }
 }
 
 // The same from the file that the first argument names.
-fn take_file(pool: &mut [u32]) -> bool {
-    let mut path = io::buffer();
-    let n = os::arg(1, &mut path);
-    if os::errno() != 0 {
-        tool_files::say_failed(b"lines-to-set", b"LINES");
-        return false;
+fn take_file(rt: &HostRuntime, pool: &mut [u32]) -> bool {
+    let mut path = [0u8; PATH];
+    let n = match tool_files::argument(rt, 1, &mut path) {
+        Ok(n) => n,
+        Err(e) => {
+            tool_files::say_failed(rt, b"lines-to-set", b"LINES", &e);
+            return false;
+        }
+    };
+    match tool_files::open_source(rt, &path[..n]) {
+        Ok(mut from) => take(rt, &mut from, &path[..n], pool),
+        Err(e) => {
+            tool_files::say_failed(rt, b"lines-to-set", &path[..n], &e);
+            false
+        }
     }
-    let fd = tool_files::open_source(&path[..n]);
-    if fd < 0 {
-        tool_files::say_failed(b"lines-to-set", &path[..n]);
-        return false;
-    }
-    take(fd, &path[..n], pool)
 }
 
 // Writes a file, and says so where that failed.
-fn write(path: &[u8], bytes: &[u8]) {
-    if !tool_files::write_file(path, bytes) {
-        tool_files::say_failed(b"lines-to-set", path);
+fn write(rt: &HostRuntime, path: &[u8], bytes: &[u8]) {
+    if let Err(e) = tool_files::write_file(rt, path, bytes) {
+        tool_files::say_failed(rt, b"lines-to-set", path, &e);
     }
 }
 
 // Writes the file of the set, by way of lent bytes.
-fn save(pool: &[u32], path: &[u8], bytes: &mut [u8]) {
+fn save(rt: &HostRuntime, pool: &[u32], path: &[u8], bytes: &mut [u8]) {
     let saved = setfile::save(pool, 0, bytes);
     match saved {
         Answer::Refused(no) => {
-            tool_files::say_refused(b"lines-to-set", no.number());
+            tool_files::say_refused(rt, b"lines-to-set", no.number());
         }
         Answer::Granted(k) => {
             let n = k as usize;
-            write(path, &bytes[..n]);
+            write(rt, path, &bytes[..n]);
         }
     }
 }
 
 // The same to the file that the second argument names.
-fn save_file(pool: &[u32], bytes: &mut [u8]) {
-    let mut path = io::buffer();
-    let n = os::arg(2, &mut path);
-    if os::errno() != 0 {
-        tool_files::say_failed(b"lines-to-set", b"SETFILE");
-        return;
+fn save_file(rt: &HostRuntime, pool: &[u32], bytes: &mut [u8]) {
+    let mut path = [0u8; PATH];
+    match tool_files::argument(rt, 2, &mut path) {
+        Ok(n) => save(rt, pool, &path[..n], bytes),
+        Err(e) => tool_files::say_failed(rt, b"lines-to-set", b"SETFILE", &e),
     }
-    save(pool, &path[..n], bytes);
 }
 
 // The whole work, in the words of a pool and the bytes of a file.
-fn run(pool: &mut [u32], bytes: &mut [u8]) {
-    if take_file(pool) {
-        save_file(pool, bytes);
+fn run(rt: &HostRuntime, pool: &mut [u32], bytes: &mut [u8]) {
+    if take_file(rt, pool) {
+        save_file(rt, pool, bytes);
     }
 }
 
-fn main() {
-    if os::arg_count() != 3 {
-        io::write_all(STDERR_FILENO, b"usage: lines-to-set LINES SETFILE\n");
+fn main(rt: HostRuntime) {
+    if !tool_files::has_two(&rt) {
+        tool_files::say(&rt, b"usage: lines-to-set LINES SETFILE\n");
         return;
     }
     let mut pool = [0u32; WORDS];
     let mut bytes = [0u8; BYTES];
-    run(&mut pool, &mut bytes);
+    run(&rt, &mut pool, &mut bytes);
 }

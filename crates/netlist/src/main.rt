@@ -1,6 +1,9 @@
 // Reads lines of networks into a set, all of the family of the first, simplifies it once and prints it: the shortest list of the same addresses, by the theorem simplify-fewest of nets.
 //
 // Where a line is refused, standard output has the scope document's one line, and standard error says it too, with the refusal's name.
+#![tactic(auto)]
+
+use std::io;
 use tool_io::Input;
 
 mod report;
@@ -11,27 +14,27 @@ const NODES: u32 = 1000;
 const WORDS: usize = 8072;
 
 // Says so where standard output was not written.
-fn tell(is_written: bool) {
-    if !is_written {
-        tool_files::say_failed(b"netlist", b"standard output");
+fn tell(rt: &HostRuntime, written: io::Result<()>) {
+    if let Err(e) = written {
+        tool_files::say_failed(rt, b"netlist", b"standard output", &e);
     }
 }
 
-fn main() {
+fn main(rt: HostRuntime) {
     let mut pool = [0u32; WORDS];
-    let lines = tool_io::read_lines(0, &mut pool, NODES);
+    let lines = tool_io::read_lines(&mut rt.stdin(), &mut pool, NODES);
     let input = lines.input;
     match input {
-        Input::Unreadable => {
-            tool_files::say_failed(b"netlist", b"standard input");
+        Input::Unreadable(e) => {
+            tool_files::say_failed(&rt, b"netlist", b"standard input", &e);
         }
         Input::Refused(number, no) => {
-            tell(report::refused(number, no));
-            tool_files::say_refused_line(b"netlist", number, no);
+            tell(&rt, report::refused(&rt, number, no));
+            tool_files::say_refused_line(&rt, b"netlist", number, no);
         }
         Input::Added(trimmed) => {
             change::simplify(&mut pool, 0);
-            tell(report::set(&pool, lines.family, trimmed));
+            tell(&rt, report::set(&rt, &pool, lines.family, trimmed));
         }
     }
 }

@@ -1,39 +1,28 @@
-// What is written to standard output. Each function answers whether all of it was written.
+// What is written to standard output. Each function fails where not all of it was written.
 use pool_state::Report;
+use std::io;
+use std::io::ErrorKind;
 
 // A pool of 1,000 nodes has no more networks than nodes; three numbers each.
 const ROWS: usize = 3000;
 
-const OUT: i32 = 1;
-
 // The one line of an input with a refused line.
-pub fn refused(number: u64, no: u8) -> bool {
-    io::write_all(OUT, b"line ")
-        && io::print_decimal(OUT, number)
-        && io::write_all(OUT, b" refused ")
-        && io::print_decimal(OUT, no as u64)
-        && io::write_all(OUT, b"\n")
+pub fn refused(out: &impl Print, number: u64, no: u8) -> io::Result<()> {
+    println!(out; "line {number} refused {no}")
 }
 
 // How many networks and nodes set 0 has, and how many lines were trimmed.
-fn counts(pool: &[u32], trimmed: u64) -> bool {
+fn counts(out: &impl Print, pool: &[u32], trimmed: u64) -> io::Result<()> {
     let held = pool::held(pool, 0);
     let Report::Numbers(nodes, networks) = held else {
-        return false;
+        return Err(io::Error::new(ErrorKind::InvalidData, "a pool without set 0"));
     };
-    io::print_decimal(OUT, networks as u64)
-        && io::write_all(OUT, b" networks, ")
-        && io::print_decimal(OUT, nodes as u64)
-        && io::write_all(OUT, b" nodes, ")
-        && io::print_decimal(OUT, trimmed)
-        && io::write_all(OUT, b" trimmed\n")
+    println!(out; "{networks} networks, {nodes} nodes, {trimmed} trimmed")
 }
 
 // Set 0: its counts, and its networks, which are of the family.
-pub fn set(pool: &[u32], family: u8, trimmed: u64) -> bool {
-    if !counts(pool, trimmed) {
-        return false;
-    }
+pub fn set(out: &impl Print, pool: &[u32], family: u8, trimmed: u64) -> io::Result<()> {
+    counts(out, pool, trimmed)?;
     let mut rows = [0u64; ROWS];
-    tool_print::print_set(pool, family, 0, &mut rows)
+    tool_print::print_set(out, pool, family, 0, &mut rows)
 }

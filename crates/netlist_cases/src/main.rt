@@ -1,6 +1,8 @@
 // Reads inputs by the calls that netlist makes, cut into pieces of many sizes, and counts those that come to something else than they must. What they must come to was
 // made by hand from the scope document, or for the filled inputs with Python's ipaddress: a list is collapse_addresses of the networks, its nodes are the
 // different leading bit strings of its members.
+#![tactic(auto)]
+
 mod damaged;
 mod expect;
 mod filled;
@@ -9,7 +11,9 @@ mod reading;
 mod small;
 mod trimmed;
 
-fn main() {
+use std::io;
+
+fn main(rt: HostRuntime) -> io::Result<()> {
     let mut t = small::accepted(test_counts::none());
     t = small::joined(t);
     t = small::refused(t);
@@ -23,5 +27,5 @@ fn main() {
     t = damaged::between(t);
     t = trimmed::few(t);
     t = trimmed::refused(t);
-    test_counts::say(t);
+    test_counts::say(&rt, t)
 }

@@ -1,9 +1,14 @@
 // Replays calls whose answers the Rust crate iprange and the harness's model made: `harness/run sample` writes them. Standard input is frames of 65,536 bytes: 128 that say in words how
 // they were made, how many bytes of calls and of answers there are, the calls and the answers as docs/CALLS.md has them, and zeros. Each frame has a pool of its own.
+#![tactic(auto)]
+
 ghost use Rattle.std.specs.Prelude.{◌≡◌, length};
 
 use calls::running::run;
 use calls_bytes::bytes::u32_at;
+use std::io;
+use std::io::Read;
+use tool_files::read_full;
 
 // The words of the pool, and the rows, that the calls run on.
 const WORDS: usize = 8192;
@@ -40,10 +45,10 @@ fn rows_of() -> [u64; ROWS]
 fn replay(calls: &[u8], answers: &[u8]) -> Replayed {
     let mut pool = words_of();
     let mut rows = rows_of();
-    let mut out = io::large_buffer();
+    let mut out = [0u8; FRAME];
     let ended = run(&mut pool, &mut rows, calls, &mut out);
     let to = ended.to;
-    let same = check::same(&out[..to], answers);
+    let same = &out[..to] == answers;
     Replayed {
         more: true,
         calls: ended.done,
@@ -74,34 +79,32 @@ fn frame(input: &[u8]) -> Replayed {
 }
 
 // The next frame of the input.
-fn next_frame() -> Replayed {
-    let mut input = io::large_buffer();
-    let n = io::read_full(0, &mut input);
+fn next_frame<R: Read>(from: &mut R) -> io::Result<Replayed> {
+    let mut input = [0u8; FRAME];
+    let n = read_full(from, &mut input)?;
     if n < FRAME {
-        return nothing(false);
+        return Ok(nothing(false));
     }
-    frame(&input)
+    Ok(frame(&input))
 }
 
 // Writes how many calls were done, and how many frames came out otherwise.
-fn say(calls: u64, wrong: u64) {
-    io::print_decimal(1, calls);
-    io::write_all(1, b" calls, ");
-    io::print_decimal(1, wrong);
-    io::write_all(1, b" frames wrong\n");
+fn say(rt: &impl Print, calls: u64, wrong: u64) -> io::Result<()> {
+    println!(rt; "{calls} calls, {wrong} frames wrong")
 }
 
 // Reads frames to the end of the input. A proved loop has to end, and nothing says that the input does: the loop counts its turns down, from a number that no run uses up.
-fn main() {
+fn main(rt: HostRuntime) -> io::Result<()> {
     let mut calls: u64 = 0;
     let mut wrong: u64 = 0;
     let mut turns = u32::MAX;
-    let mut r = next_frame();
+    let mut input = rt.stdin();
+    let mut r = next_frame(&mut input)?;
     while turns > 0 && r.more {
         calls = std::num::wrapping_add_u64(calls, r.calls);
         wrong = std::num::wrapping_add_u64(wrong, !r.right as u64);
-        r = next_frame();
+        r = next_frame(&mut input)?;
         turns -= 1;
     }
-    say(calls, wrong);
+    say(&rt, calls, wrong)
 }

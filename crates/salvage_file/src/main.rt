@@ -3,8 +3,10 @@
 // Standard output then says how many entries were read, trimmed, dropped for their length and dropped as covered, and how many bytes the file has. Where the wreck is
 // refused, or something cannot be read or written, standard error says why, and SETFILE stays as it was. So it is with a wreck of more than 2,000,016 bytes, which is 400,000
 // IPv4 entries.
-use libc::STDERR_FILENO;
+#![tactic(auto)]
+
 use salvage::{Counts, Salvaged, salvage};
+use tool_files::PATH;
 
 mod telling;
 
@@ -12,53 +14,50 @@ mod telling;
 const ROOM: usize = 2000016;
 
 // Writes what is left to the file of that name, and tells the counts.
-fn write(path: &[u8], file: &[u8], c: Counts) {
-    if !tool_files::write_file(path, file) {
-        tool_files::say_failed(b"salvage", path);
-        return;
+fn write(rt: &HostRuntime, path: &[u8], file: &[u8], c: Counts) {
+    match tool_files::write_file(rt, path, file) {
+        Ok(()) => telling::tell(rt, c),
+        Err(e) => tool_files::say_failed(rt, b"salvage", path, &e),
     }
-    telling::tell(c);
 }
 
 // Salvages the bytes of a wreck, by way of lent bytes, to the file of that name.
-fn save(wreck: &[u8], out: &mut [u8], path: &[u8]) {
+fn save(rt: &HostRuntime, wreck: &[u8], out: &mut [u8], path: &[u8]) {
     let a = salvage(wreck, out);
     match a {
         Salvaged::Refused(no) => {
-            tool_files::say_refused(b"salvage", no.number());
+            tool_files::say_refused(rt, b"salvage", no.number());
         }
         Salvaged::File(c) => {
             let n = c.bytes as usize;
-            write(path, &out[..n], c);
+            write(rt, path, &out[..n], c);
         }
     }
 }
 
 // The same to the file that the second argument names.
-fn save_file(wreck: &[u8], out: &mut [u8]) {
-    let mut path = io::buffer();
-    let n = os::arg(2, &mut path);
-    if os::errno() != 0 {
-        tool_files::say_failed(b"salvage", b"SETFILE");
-        return;
+fn save_file(rt: &HostRuntime, wreck: &[u8], out: &mut [u8]) {
+    let mut path = [0u8; PATH];
+    match tool_files::argument(rt, 2, &mut path) {
+        Ok(n) => save(rt, wreck, out, &path[..n]),
+        Err(e) => tool_files::say_failed(rt, b"salvage", b"SETFILE", &e),
     }
-    save(wreck, out, &path[..n]);
 }
 
 // The whole work, in the bytes of two files.
-fn run(wreck: &mut [u8], out: &mut [u8]) {
-    let a = tool_files::read_source(b"salvage", 1, b"WRECK", wreck);
+fn run(rt: &HostRuntime, wreck: &mut [u8], out: &mut [u8]) {
+    let a = tool_files::read_source(rt, b"salvage", 1, b"WRECK", wreck);
     if a.whole {
-        save_file(&wreck[..a.bytes], out);
+        save_file(rt, &wreck[..a.bytes], out);
     }
 }
 
-fn main() {
-    if os::arg_count() != 3 {
-        io::write_all(STDERR_FILENO, b"usage: salvage WRECK SETFILE\n");
+fn main(rt: HostRuntime) {
+    if !tool_files::has_two(&rt) {
+        tool_files::say(&rt, b"usage: salvage WRECK SETFILE\n");
         return;
     }
     let mut wreck = [0u8; ROOM];
     let mut out = [0u8; ROOM];
-    run(&mut wreck, &mut out);
+    run(&rt, &mut wreck, &mut out);
 }

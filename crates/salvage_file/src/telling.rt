@@ -1,26 +1,20 @@
 // The counts in words.
-use libc::STDOUT_FILENO;
 use salvage::Counts;
+use std::io;
 
-fn says(n: u32, what: &[u8]) -> bool {
-    io::print_decimal(STDOUT_FILENO, n as u64) && io::write_all(STDOUT_FILENO, what)
+// Fails where they were not written.
+fn says_counts(out: &impl Print, c: Counts) -> io::Result<()> {
+    let read = c.read;
+    let trimmed = c.trimmed;
+    let long = c.long;
+    let covered = c.covered;
+    let bytes = c.bytes;
+    print!(out; "{read} entries read, {trimmed} trimmed, {long} dropped for their length, ")?;
+    println!(out; "{covered} dropped as covered, {bytes} bytes written")
 }
 
-// Whether it was written.
-fn says_counts(c: Counts) -> bool {
-    if !(says(c.read, b" entries read, ") && says(c.trimmed, b" trimmed, ")) {
-        return false;
-    }
-    if !(says(c.long, b" dropped for their length, ")
-        && says(c.covered, b" dropped as covered, "))
-    {
-        return false;
-    }
-    says(c.bytes, b" bytes written\n")
-}
-
-pub fn tell(c: Counts) {
-    if !says_counts(c) {
-        tool_files::say_failed(b"salvage", b"standard output");
+pub fn tell(rt: &HostRuntime, c: Counts) {
+    if let Err(e) = says_counts(rt, c) {
+        tool_files::say_failed(rt, b"salvage", b"standard output", &e);
     }
 }

@@ -1,6 +1,7 @@
 // An address on standard output, in the text of its family: the line of the network of that address alone, up to its slash.
-use libc::STDOUT_FILENO;
 use nets::{IPV4, Net};
+use std::io;
+use std::io::ErrorKind;
 use text::Written;
 
 // More bytes than any line has.
@@ -11,24 +12,29 @@ fn behind(family: u8) -> usize {
     if family == IPV4 { 3 } else { 4 }
 }
 
+// What cannot come of a file that was read.
+fn no_address() -> io::Error {
+    io::Error::new(ErrorKind::InvalidData, "an address that has no line")
+}
+
 // The first bytes of a line, without those behind the address.
-fn print_first(line: &[u8], n: usize, cut: usize) -> bool {
+fn print_first(out: &impl Print, line: &[u8], n: usize, cut: usize) -> io::Result<()> {
     if n < cut {
-        return false;
+        return Err(no_address());
     }
     let end = n - cut;
     if line.len() < end {
-        return false;
+        return Err(no_address());
     }
-    io::write_all(STDOUT_FILENO, &line[..end])
+    out.write_all(&line[..end])
 }
 
-// The address of a network. Whether it was written.
-pub fn print(net: Net) -> bool {
+// The address of a network.
+pub fn print(out: &impl Print, net: Net) -> io::Result<()> {
     let mut line = [0u8; LINE];
     let written = text_either::write_line(net, &mut line);
     match written {
-        Written::Bytes(n, _) => print_first(&line, n as usize, behind(net.family)),
-        Written::Refused(_) => false,
+        Written::Bytes(n, _) => print_first(out, &line, n as usize, behind(net.family)),
+        Written::Refused(_) => Err(no_address()),
     }
 }

@@ -3,7 +3,8 @@
 //
 // The answer is a line on standard output. Where a file is refused or cannot be read, standard error says why and nothing is printed. So does it of a file of
 // more than 2,000,016 bytes, which is 400,000 IPv4 networks.
-use libc::STDERR_FILENO;
+#![tactic(auto)]
+
 use setfile_compare::compare;
 
 mod address;
@@ -13,24 +14,24 @@ mod telling;
 const ROOM: usize = 2000016;
 
 // Both files, in bytes that are lent.
-fn run(first: &mut [u8], second: &mut [u8]) {
-    let a = tool_files::read_source(b"same", 1, b"FIRST", first);
+fn run(rt: &HostRuntime, first: &mut [u8], second: &mut [u8]) {
+    let a = tool_files::read_source(rt, b"same", 1, b"FIRST", first);
     if !a.whole {
         return;
     }
-    let b = tool_files::read_source(b"same", 2, b"SECOND", second);
+    let b = tool_files::read_source(rt, b"same", 2, b"SECOND", second);
     if !b.whole {
         return;
     }
-    telling::tell(compare(&first[..a.bytes], &second[..b.bytes]));
+    telling::tell(rt, compare(&first[..a.bytes], &second[..b.bytes]));
 }
 
-fn main() {
-    if os::arg_count() != 3 {
-        io::write_all(STDERR_FILENO, b"usage: same FIRST SECOND\n");
+fn main(rt: HostRuntime) {
+    if !tool_files::has_two(&rt) {
+        tool_files::say(&rt, b"usage: same FIRST SECOND\n");
         return;
     }
     let mut first = [0u8; ROOM];
     let mut second = [0u8; ROOM];
-    run(&mut first, &mut second);
+    run(&rt, &mut first, &mut second);
 }

@@ -1,42 +1,37 @@
 // The answer in words.
 use crate::address::print;
-use libc::STDOUT_FILENO;
 use nets::Net;
 use setfile_compare::{Compared, Holder};
+use std::io;
 
-fn says(line: &[u8]) -> bool {
-    io::write_all(STDOUT_FILENO, line)
-}
-
-fn differs(holder: Holder, net: Net) -> bool {
-    if !(says(b"different addresses: ") && print(net)) {
-        return false;
-    }
+fn differs(out: &impl Print, holder: Holder, net: Net) -> io::Result<()> {
+    out.write_all(b"different addresses: ")?;
+    print(out, net)?;
     match holder {
-        Holder::First => says(b" is in the first file alone\n"),
-        Holder::Second => says(b" is in the second file alone\n"),
+        Holder::First => out.write_all(b" is in the first file alone\n"),
+        Holder::Second => out.write_all(b" is in the second file alone\n"),
     }
 }
 
-// Whether it was written.
-fn says_answer(c: Compared) -> bool {
+// Fails where it was not written.
+fn says_answer(rt: &HostRuntime, c: Compared) -> io::Result<()> {
     match c {
-        Compared::Differs(holder, net) => differs(holder, net),
-        Compared::Longer => says(
-            b"the same addresses, and the second file is not the shortest list\n",
-        ),
-        Compared::Shortest => says(
-            b"the same addresses, and the second file is the shortest list\n",
-        ),
+        Compared::Differs(holder, net) => differs(rt, holder, net),
+        Compared::Longer => {
+            rt.write_all(b"the same addresses, and the second file is not the shortest list\n")
+        }
+        Compared::Shortest => {
+            rt.write_all(b"the same addresses, and the second file is the shortest list\n")
+        }
         Compared::Refused(no) => {
-            tool_files::say_refused(b"same", no.number());
-            true
+            tool_files::say_refused(rt, b"same", no.number());
+            Ok(())
         }
     }
 }
 
-pub fn tell(c: Compared) {
-    if !says_answer(c) {
-        tool_files::say_failed(b"same", b"standard output");
+pub fn tell(rt: &HostRuntime, c: Compared) {
+    if let Err(e) = says_answer(rt, c) {
+        tool_files::say_failed(rt, b"same", b"standard output", &e);
     }
 }

@@ -2,7 +2,8 @@
 //
 // Where the file is refused, standard error says why and nothing is printed. The set has at most 100,000 nodes: a file with more is refused, OverLimit. One
 // with more bytes than the file of such a set can have is not read whole, and standard error says so.
-use libc::STDERR_FILENO;
+#![tactic(auto)]
+
 use nets::{IPV4, IPV6};
 use pool_state::Answer;
 use tool_files::{BYTES, NODES, ROWS, WORDS};
@@ -16,50 +17,50 @@ fn family_of(bytes: &[u8]) -> u8 {
 }
 
 // Lays the pool out for the file, and gives its set the list of it. The family, or 0 where it is refused.
-fn load(pool: &mut [u32], bytes: &[u8]) -> u8 {
+fn load(rt: &HostRuntime, pool: &mut [u32], bytes: &[u8]) -> u8 {
     let family = family_of(bytes);
     pool::layout(pool, family, 0, 1, NODES, &[NODES], &[NODES], 0);
     let loaded = setfile::load(pool, 0, bytes);
     match loaded {
         Answer::Granted(_) => family,
         Answer::Refused(no) => {
-            tool_files::say_refused(b"set-to-lines", no.number());
+            tool_files::say_refused(rt, b"set-to-lines", no.number());
             0
         }
     }
 }
 
 // The same from the file that the argument names, by way of lent bytes.
-fn load_file(pool: &mut [u32], bytes: &mut [u8]) -> u8 {
-    let a = tool_files::read_source(b"set-to-lines", 1, b"SETFILE", bytes);
+fn load_file(rt: &HostRuntime, pool: &mut [u32], bytes: &mut [u8]) -> u8 {
+    let a = tool_files::read_source(rt, b"set-to-lines", 1, b"SETFILE", bytes);
     if !a.whole {
         return 0;
     }
-    load(pool, &bytes[..a.bytes])
+    load(rt, pool, &bytes[..a.bytes])
 }
 
 // Prints the networks of the set, by way of lent rows.
-fn print(pool: &[u32], family: u8, rows: &mut [u64]) {
-    if !tool_print::print_set(pool, family, 0, rows) {
-        tool_files::say_failed(b"set-to-lines", b"standard output");
+fn print(rt: &HostRuntime, pool: &[u32], family: u8, rows: &mut [u64]) {
+    if let Err(e) = tool_print::print_set(rt, pool, family, 0, rows) {
+        tool_files::say_failed(rt, b"set-to-lines", b"standard output", &e);
     }
 }
 
 // The whole work, in the words of a pool and the bytes of a file.
-fn run(pool: &mut [u32], bytes: &mut [u8]) {
-    let family = load_file(pool, bytes);
+fn run(rt: &HostRuntime, pool: &mut [u32], bytes: &mut [u8]) {
+    let family = load_file(rt, pool, bytes);
     if family != 0 {
         let mut rows = [0u64; ROWS];
-        print(pool, family, &mut rows);
+        print(rt, pool, family, &mut rows);
     }
 }
 
-fn main() {
-    if os::arg_count() != 2 {
-        io::write_all(STDERR_FILENO, b"usage: set-to-lines SETFILE\n");
+fn main(rt: HostRuntime) {
+    if !tool_files::has_one(&rt) {
+        tool_files::say(&rt, b"usage: set-to-lines SETFILE\n");
         return;
     }
     let mut pool = [0u32; WORDS];
     let mut bytes = [0u8; BYTES];
-    run(&mut pool, &mut bytes);
+    run(&rt, &mut pool, &mut bytes);
 }

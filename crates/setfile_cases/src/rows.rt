@@ -44,54 +44,71 @@ pub fn begins(out: &[u8], bytes: &[u8], was: &[u8]) -> bool {
     if out.len() < n || was.len() < n {
         return false;
     }
-    check::same(&out[0..n], bytes) && check::same(&out[n..], &was[n..])
+    &out[0..n] == bytes && &out[n..] == &was[n..]
 }
 
 // Saved to so many bytes, set 0 gives this file and leaves what is behind it.
-fn fits(t: Tally, pool: &[u32], room: usize, row: &[u8], must: &[u8], bytes: &[u8]) -> Tally {
+fn fits(
+    rt: &impl Print,
+    t: Tally,
+    pool: &[u32],
+    room: usize,
+    row: &[u8],
+    must: &[u8],
+    bytes: &[u8],
+) -> Tally {
     let was = [165u8; ROOM];
     let mut out = [165u8; ROOM];
     let a = save_to(pool, 0, &mut out, room);
-    let t = tell(t, row, must, grants(a, bytes.len()));
-    tell(t, row, must, begins(&out, bytes, &was))
+    let t = tell(rt, t, row, must, grants(a, bytes.len()));
+    tell(rt, t, row, must, begins(&out, bytes, &was))
 }
 
 // Saved to so many bytes, the set gets this refusal, and no byte changes.
-fn denies(t: Tally, pool: &[u32], set: u32, room: usize, row: &[u8], must: &[u8], no: u8) -> Tally {
+fn denies(
+    rt: &impl Print,
+    t: Tally,
+    pool: &[u32],
+    set: u32,
+    room: usize,
+    row: &[u8],
+    must: &[u8],
+    no: u8,
+) -> Tally {
     let was = [165u8; ROOM];
     let mut out = [165u8; ROOM];
     let a = save_to(pool, set, &mut out, room);
-    let t = tell(t, row, must, refuses(a, no));
-    tell(t, row, must, check::same(&out, &was))
+    let t = tell(rt, t, row, must, refuses(a, no));
+    tell(rt, t, row, must, out == was)
 }
 
 // The file of set 0: with room to spare, with just enough, and with a byte less.
-fn saves(t: Tally, pool: &[u32], row: &[u8], must: &[u8], bytes: &[u8]) -> Tally {
-    let t = fits(t, pool, ROOM, row, must, bytes);
-    let t = fits(t, pool, bytes.len(), row, must, bytes);
+fn saves(rt: &impl Print, t: Tally, pool: &[u32], row: &[u8], must: &[u8], bytes: &[u8]) -> Tally {
+    let t = fits(rt, t, pool, ROOM, row, must, bytes);
+    let t = fits(rt, t, pool, bytes.len(), row, must, bytes);
     if bytes.len() == 0 {
         return t;
     }
-    denies(t, pool, 0, bytes.len() - 1, row, must, 11)
+    denies(rt, t, pool, 0, bytes.len() - 1, row, must, 11)
 }
 
 // Laid out for the family, a pool refuses the file, and keeps every word.
-fn breaks(t: Tally, family: u8, row: &[u8], must: &[u8], bytes: &[u8]) -> Tally {
+fn breaks(rt: &impl Print, t: Tally, family: u8, row: &[u8], must: &[u8], bytes: &[u8]) -> Tally {
     let no = number_of(must);
     let mut pool = [0u32; WORDS];
     let a = pool::layout(&mut pool, family, 0, 2, 140, &[0, 0], &[140, 140], 0);
-    let t = tell(t, row, must, grants(a, 0));
+    let t = tell(rt, t, row, must, grants(a, 0));
     let was = pool;
     let a = setfile::load(&mut pool, 0, bytes);
-    let t = tell(t, row, must, refuses(a, no));
-    tell(t, row, must, same(&was, &pool))
+    let t = tell(rt, t, row, must, refuses(a, no));
+    tell(rt, t, row, must, same(&was, &pool))
 }
 
 // Every beginning of the file is broken.
-fn cuts(t: Tally, family: u8, row: &[u8], must: &[u8], bytes: &[u8]) -> Tally {
+fn cuts(rt: &impl Print, t: Tally, family: u8, row: &[u8], must: &[u8], bytes: &[u8]) -> Tally {
     let mut t = t;
     for n in 0..bytes.len() {
-        t = breaks(t, family, row, must, &bytes[0..n]);
+        t = breaks(rt, t, family, row, must, &bytes[0..n]);
     }
     t
 }
@@ -131,27 +148,48 @@ fn matched(c: Compared) -> Got {
 }
 
 // Two files, the first of so many bytes.
-fn matches(t: Tally, row: &[u8], must: &[u8], bytes: &[u8], n: usize) -> Tally {
+fn matches(rt: &impl Print, t: Tally, row: &[u8], must: &[u8], bytes: &[u8], n: usize) -> Tally {
     if bytes.len() < n {
-        return tell(t, row, must, false);
+        return tell(rt, t, row, must, false);
     }
-    calls::score(t, row, must, matched(compare(&bytes[0..n], &bytes[n..])))
+    calls::score(
+        rt,
+        t,
+        row,
+        must,
+        matched(compare(&bytes[0..n], &bytes[n..])),
+    )
 }
 
 // A row of one call, which may change the pool.
-fn call(t: Tally, pool: &mut [u32; WORDS], row: &[u8], must: &[u8], bytes: &[u8]) -> Tally {
+fn call(
+    rt: &impl Print,
+    t: Tally,
+    pool: &mut [u32; WORDS],
+    row: &[u8],
+    must: &[u8],
+    bytes: &[u8],
+) -> Tally {
     let was = *pool;
     let got = load_or(pool, row, bytes);
-    let t = calls::score(t, row, must, got);
-    calls::keeps(t, row, must, &was, pool)
+    let t = calls::score(rt, t, row, must, got);
+    calls::keeps(rt, t, row, must, &was, pool)
 }
 
 // The row, by its first letter: several cases, but for the calls.
-fn with_file(t: Tally, pool: &mut [u32; WORDS], row: &[u8], must: &[u8], bytes: &[u8]) -> Tally {
+fn with_file(
+    rt: &impl Print,
+    t: Tally,
+    pool: &mut [u32; WORDS],
+    row: &[u8],
+    must: &[u8],
+    bytes: &[u8],
+) -> Tally {
     let n = taken(row, 1);
     match calls::letter(row) {
-        b'g' => saves(t, pool, row, must, bytes),
+        b'g' => saves(rt, t, pool, row, must, bytes),
         b'd' => denies(
+            rt,
             t,
             pool,
             n,
@@ -160,20 +198,21 @@ fn with_file(t: Tally, pool: &mut [u32; WORDS], row: &[u8], must: &[u8], bytes: 
             must,
             number_of(must),
         ),
-        b'o' => breaks(t, (n % 256) as u8, row, must, bytes),
-        b'c' => cuts(t, (n % 256) as u8, row, must, bytes),
-        b'e' => matches(t, row, must, bytes, n as usize),
-        b'm' => salvaging::mend(t, row, must, bytes),
+        b'o' => breaks(rt, t, (n % 256) as u8, row, must, bytes),
+        b'c' => cuts(rt, t, (n % 256) as u8, row, must, bytes),
+        b'e' => matches(rt, t, row, must, bytes, n as usize),
+        b'm' => salvaging::mend(rt, t, row, must, bytes),
         b'b' => {
-            let t = call(t, pool, row, must, bytes);
-            saves(t, pool, row, must, bytes)
+            let t = call(rt, t, pool, row, must, bytes);
+            saves(rt, t, pool, row, must, bytes)
         }
-        _ => call(t, pool, row, must, bytes),
+        _ => call(rt, t, pool, row, must, bytes),
     }
 }
 
 // The row, with a file of so many of the bytes.
 pub fn run(
+    rt: &impl Print,
     t: Tally,
     pool: &mut [u32; WORDS],
     row: &[u8],
@@ -185,5 +224,5 @@ pub fn run(
     if bytes.len() < n {
         return t;
     }
-    with_file(t, pool, row, must, &bytes[0..n])
+    with_file(rt, t, pool, row, must, &bytes[0..n])
 }

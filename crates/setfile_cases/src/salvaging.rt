@@ -32,41 +32,57 @@ fn salvage_to(file: &[u8], out: &mut [u8], room: usize) -> Salvaged {
 }
 
 // Refused with this number, in so many bytes of the output, of which none changes.
-fn denied(t: Tally, row: &[u8], must: &[u8], file: &[u8], room: usize, no: u32) -> Tally {
+fn denied(
+    rt: &impl Print,
+    t: Tally,
+    row: &[u8],
+    must: &[u8],
+    file: &[u8],
+    room: usize,
+    no: u32,
+) -> Tally {
     let was = [165u8; ROOM];
     let mut out = [165u8; ROOM];
     let a = salvage_to(file, &mut out, room);
-    let t = tell(t, row, must, refuses(a, no));
-    tell(t, row, must, check::same(&out, &was))
+    let t = tell(rt, t, row, must, refuses(a, no));
+    tell(rt, t, row, must, out == was)
 }
 
 // Granted in so many bytes of the output, which begins with the right file and is behind it as it was.
-fn granted(t: Tally, row: &[u8], must: &[u8], file: &[u8], room: usize, right: &[u8]) -> Tally {
+fn granted(
+    rt: &impl Print,
+    t: Tally,
+    row: &[u8],
+    must: &[u8],
+    file: &[u8],
+    room: usize,
+    right: &[u8],
+) -> Tally {
     let was = [165u8; ROOM];
     let mut out = [165u8; ROOM];
     let a = salvage_to(file, &mut out, room);
-    let t = tell(t, row, must, counts(a, must, right.len()));
-    tell(t, row, must, begins(&out, right, &was))
+    let t = tell(rt, t, row, must, counts(a, must, right.len()));
+    tell(rt, t, row, must, begins(&out, right, &was))
 }
 
 // The file in all of the output, in just enough of it, and in one byte less.
-fn judged(t: Tally, row: &[u8], must: &[u8], file: &[u8], right: &[u8]) -> Tally {
+fn judged(rt: &impl Print, t: Tally, row: &[u8], must: &[u8], file: &[u8], right: &[u8]) -> Tally {
     if letter(must) == b'r' {
-        return denied(t, row, must, file, ROOM, taken(must, 1));
+        return denied(rt, t, row, must, file, ROOM, taken(must, 1));
     }
-    let t = granted(t, row, must, file, ROOM, right);
-    let t = granted(t, row, must, file, right.len(), right);
+    let t = granted(rt, t, row, must, file, ROOM, right);
+    let t = granted(rt, t, row, must, file, right.len(), right);
     if right.len() == 0 {
         return t;
     }
-    denied(t, row, must, file, right.len() - 1, 11)
+    denied(rt, t, row, must, file, right.len() - 1, 11)
 }
 
 // A row of a wrecked file.
-pub fn mend(t: Tally, row: &[u8], must: &[u8], bytes: &[u8]) -> Tally {
+pub fn mend(rt: &impl Print, t: Tally, row: &[u8], must: &[u8], bytes: &[u8]) -> Tally {
     let n = taken(row, 1) as usize;
     if bytes.len() < n {
-        return tell(t, row, must, false);
+        return tell(rt, t, row, must, false);
     }
-    judged(t, row, must, &bytes[0..n], &bytes[n..])
+    judged(rt, t, row, must, &bytes[0..n], &bytes[n..])
 }

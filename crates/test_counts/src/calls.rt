@@ -161,13 +161,13 @@ pub fn call(pool: &mut [u32], row: &[u8]) -> Got {
     }
 }
 
-// One case more; where it came out wrong its row is written.
-pub fn tell(t: Tally, row: &[u8], must: &[u8], right: bool) -> Tally {
+// One case more; where it came out wrong its row is written. Where that fails the line that counts the cases is not written either.
+pub fn tell(rt: &impl Print, t: Tally, row: &[u8], must: &[u8], right: bool) -> Tally {
     if !right {
-        io::write_all(1, b"wrong: ");
-        io::write_all(1, row);
-        io::write_all(1, must);
-        io::write_all(1, b"\n");
+        let _ = rt.write_all(b"wrong: ");
+        let _ = rt.write_all(row);
+        let _ = rt.write_all(must);
+        let _ = rt.write_all(b"\n");
     }
     count(t, right)
 }
@@ -177,13 +177,14 @@ fn is(v: Word, w: Word) -> bool {
 }
 
 // Where the row is a case, what it must answer is held to this answer.
-pub fn score(t: Tally, row: &[u8], must: &[u8], got: Got) -> Tally {
+pub fn score(rt: &impl Print, t: Tally, row: &[u8], must: &[u8], got: Got) -> Tally {
     if must.len() == 0 {
         return t;
     }
     let first = got.first;
     let second = got.second;
     tell(
+        rt,
         t,
         row,
         must,
@@ -192,9 +193,16 @@ pub fn score(t: Tally, row: &[u8], must: &[u8], got: Got) -> Tally {
 }
 
 // Where `kept` stands behind a refusal: another case, that the call left every word.
-pub fn keeps(t: Tally, row: &[u8], must: &[u8], was: &[u32], pool: &[u32]) -> Tally {
+pub fn keeps(
+    rt: &impl Print,
+    t: Tally,
+    row: &[u8],
+    must: &[u8],
+    was: &[u32],
+    pool: &[u32],
+) -> Tally {
     if !is(word_at(must, 2), named(b'k')) {
         return t;
     }
-    tell(t, row, must, same(was, pool))
+    tell(rt, t, row, must, same(was, pool))
 }

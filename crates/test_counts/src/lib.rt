@@ -1,5 +1,9 @@
 // What a program that runs cases counts, and the line in which it says so; and how it compares words.
+#![tactic(auto)]
+
 ghost use Rattle.std.specs.Prelude.{◌≡◌, ◌+◌, ◌%◌, ◌^◌, true, if◌then◌else◌};
+
+use std::io;
 
 pub mod calls;
 pub mod table;
@@ -50,9 +54,8 @@ pub fn same(a: &[u32], b: &[u32]) -> bool
 }
 
 // Writes how many cases there were, and how many of them came out wrong.
-pub fn say(t: Tally) {
-    io::print_decimal(1, t.cases as u64);
-    io::write_all(1, b" cases, ");
-    io::print_decimal(1, t.wrong as u64);
-    io::write_all(1, b" wrong\n");
+pub fn say(rt: &impl Print, t: Tally) -> io::Result<()> {
+    let cases = t.cases;
+    let wrong = t.wrong;
+    println!(rt; "{cases} cases, {wrong} wrong")
 }

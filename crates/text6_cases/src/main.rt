@@ -1,12 +1,16 @@
 // Runs the examples of RFC 4291, sections 2.2 and 2.3, and of RFC 5952, sections 2, 4 and 5, through reading and writing: the rows of its input, each
 // against what it must answer.
+#![tactic(auto)]
+
 mod expect;
 
 ghost use Rattle.std.specs.Prelude.{◌≤◌, length};
 
+use std::io;
 use test_counts::calls::taken;
 use test_counts::table::{Place, Word};
 use test_counts::{Tally, table};
+use tool_files::read_full;
 
 // The place of the first quote from a place on, or else the end.
 fn quote_from(s: &[u8], from: usize) -> usize
@@ -86,8 +90,11 @@ fn run(text: &[u8]) -> Tally {
     t
 }
 
-fn main() {
-    let mut text = io::large_buffer();
-    let n = io::read_full(0, &mut text);
-    test_counts::say(run(&text[..n]));
+// The most bytes of the input.
+const INPUT: usize = 65536;
+
+fn main(rt: HostRuntime) -> io::Result<()> {
+    let mut text = [0u8; INPUT];
+    let n = read_full(&mut rt.stdin(), &mut text)?;
+    test_counts::say(&rt, run(&text[..n]))
 }

@@ -1,5 +1,7 @@
 // Runs lines made by hand from the scope document, and from RFC 3986's rule for a number, through reading and writing, and networks of both families through
 // taking them in; counts those that come out otherwise.
+#![tactic(auto)]
+
 mod entering;
 mod expect;
 mod rows;
@@ -7,6 +9,7 @@ mod rows;
 ghost use Rattle.std.specs.Prelude.{◌≤◌};
 
 use nets::Net;
+use std::io;
 use test_counts::{Tally, count};
 
 // The numbers, written to so many bytes, get this refusal.
@@ -115,7 +118,7 @@ fn trimmed_amid(t: Tally) -> Tally {
 
 // Lines with an entry and no bit past the length: the ends of the ranges, the document's input, numbers at the ends of the RFC's alternatives. Lines that are refused: the shape, misplaced
 // bytes, numbers that are too large, bytes that are no digits, and from the customer's line on numbers with a leading zero.
-fn main() {
+fn main(rt: HostRuntime) -> io::Result<()> {
     let t = rows::lines(
         test_counts::none(),
         b"0.0.0.0/0|255.255.255.255/32|192.168.0.0/24|192.168.1.0/24|10.0.0.0/8|11.0.0.0/8|\
@@ -141,5 +144,5 @@ fn main() {
             0x00000001_20,
         ],
     );
-    test_counts::say(entering::networks(trimmed_amid(trimmed(denied(t)))));
+    test_counts::say(&rt, entering::networks(trimmed_amid(trimmed(denied(t)))))
 }

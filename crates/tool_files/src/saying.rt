@@ -1,61 +1,76 @@
-// Messages on standard error, a line each. A program has no exit status: one that says nothing has done its work, and one that says a line has not.
-use libc::STDERR_FILENO;
+// Messages on standard error, a line each. The status of a program tells nothing: one that says nothing has done its work, and one that says a line has not.
+use std::io;
+
+// Writes to standard error. Where that fails there is nothing left to say it to.
+pub fn say(rt: &HostRuntime, text: &[u8]) {
+    let _ = rt.stderr().write_all(text);
+}
 
 // The name of a refusal's number.
-fn name(no: u8) -> bool {
+fn name(no: u8) -> &'static str {
     match no {
-        1 => io::write_all(STDERR_FILENO, b"BadSetup"),
-        2 => io::write_all(STDERR_FILENO, b"Damaged"),
-        3 => io::write_all(STDERR_FILENO, b"NoSet"),
-        4 => io::write_all(STDERR_FILENO, b"BadText"),
-        5 => io::write_all(STDERR_FILENO, b"BadFile"),
-        6 => io::write_all(STDERR_FILENO, b"WrongFamily"),
-        7 => io::write_all(STDERR_FILENO, b"BadNetwork"),
-        8 => io::write_all(STDERR_FILENO, b"Occupied"),
-        9 => io::write_all(STDERR_FILENO, b"OverLimit"),
-        10 => io::write_all(STDERR_FILENO, b"NoRoom"),
-        11 => io::write_all(STDERR_FILENO, b"ShortBuffer"),
-        12 => io::write_all(STDERR_FILENO, b"BadRange"),
-        13 => io::write_all(STDERR_FILENO, b"BadShare"),
-        _ => io::write_all(STDERR_FILENO, b"NotPublic"),
+        1 => "BadSetup",
+        2 => "Damaged",
+        3 => "NoSet",
+        4 => "BadText",
+        5 => "BadFile",
+        6 => "WrongFamily",
+        7 => "BadNetwork",
+        8 => "Occupied",
+        9 => "OverLimit",
+        10 => "NoRoom",
+        11 => "ShortBuffer",
+        12 => "BadRange",
+        13 => "BadShare",
+        _ => "NotPublic",
     }
 }
 
 // The end of a line about a refusal: its name, its number, and where the table stands.
-fn refusal(no: u8) {
-    name(no);
-    io::write_all(STDERR_FILENO, b" (");
-    io::print_decimal(STDERR_FILENO, no as u64);
-    io::write_all(STDERR_FILENO, b" in docs/REFUSALS.md)\n");
+fn refusal(rt: &HostRuntime, no: u8) {
+    let name = name(no);
+    let _ = eprintln!(rt; "{name} ({no} in docs/REFUSALS.md)");
 }
 
 // The program's call is refused.
-pub fn say_refused(program: &[u8], no: u8) {
-    io::write_all(STDERR_FILENO, program);
-    io::write_all(STDERR_FILENO, b": ");
-    refusal(no);
+pub fn say_refused(rt: &HostRuntime, program: &[u8], no: u8) {
+    say(rt, program);
+    say(rt, b": ");
+    refusal(rt, no);
 }
 
 // A line of the program's input is refused.
-pub fn say_refused_line(program: &[u8], number: u64, no: u8) {
-    io::write_all(STDERR_FILENO, program);
-    io::write_all(STDERR_FILENO, b": line ");
-    io::print_decimal(STDERR_FILENO, number);
-    io::write_all(STDERR_FILENO, b" refused: ");
-    refusal(no);
+pub fn say_refused_line(rt: &HostRuntime, program: &[u8], number: u64, no: u8) {
+    say(rt, program);
+    let _ = eprint!(rt; ": line {number} refused: ");
+    refusal(rt, no);
 }
 
-// The system refused something to the program: what, and errno's text.
-pub fn say_failed(program: &[u8], what: &[u8]) {
-    io::write_all(STDERR_FILENO, program);
-    io::write_all(STDERR_FILENO, b": ");
-    os::fail(what);
+// The text of an error. The library writes that of the system's with its number behind it, which is left out here.
+fn tell(rt: &HostRuntime, error: &io::Error) {
+    let Ok(text) = error.to_string(rt.alloc()) else {
+        let _ = rt.eprint(error);
+        return;
+    };
+    let text = text.as_str();
+    match text.split_once(" (os error ") {
+        Some((message, _)) => say(rt, message.as_bytes()),
+        None => say(rt, text.as_bytes()),
+    }
+}
+
+// The system refused something to the program: what, and the error's text.
+pub fn say_failed(rt: &HostRuntime, program: &[u8], what: &[u8], error: &io::Error) {
+    say(rt, program);
+    say(rt, b": ");
+    say(rt, what);
+    say(rt, b": ");
+    tell(rt, error);
+    say(rt, b"\n");
 }
 
 // A file of the program has more bytes than it can read.
-pub fn say_long(program: &[u8], most: usize) {
-    io::write_all(STDERR_FILENO, program);
-    io::write_all(STDERR_FILENO, b": the file has more than ");
-    io::print_decimal(STDERR_FILENO, most as u64);
-    io::write_all(STDERR_FILENO, b" bytes\n");
+pub fn say_long(rt: &HostRuntime, program: &[u8], most: usize) {
+    say(rt, program);
+    let _ = eprintln!(rt; ": the file has more than {most} bytes");
 }

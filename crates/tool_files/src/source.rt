@@ -1,8 +1,13 @@
 // A file that is read whole.
-ghost use Rattle.io.specs.Counts.{IsPrefixLen};
+ghost use Rattle.std.specs.Io.{ReadsAtMost};
+ghost use Rattle.std.specs.Prelude.{◌≤◌, length};
 
-use crate::opening::open_source;
+use crate::opening::{ENAMETOOLONG, Opened, PATH, open_source};
+use crate::reading::read_full;
 use crate::saying::{say_failed, say_long};
+use std::env::{Env, FillError};
+use std::io;
+use std::io::Read;
 
 // How many bytes the file has; or it is not read, and standard error has said why.
 #[derive(Clone, Copy)]
@@ -16,46 +21,107 @@ const NOTHING: Source = Source {
     bytes: 0,
 };
 
-// One byte more: how many came, 0 at the end of the file, or -1.
-fn past(fd: i32) -> isize {
+// The system's number for an argument that is missing.
+const EINVAL: i32 = 22;
+
+// Whether the program has an argument at a place, short or long.
+fn is_given(rt: &HostRuntime, place: usize) -> bool {
+    let mut none = [0u8; 1];
+    match rt.arg(place, &mut none) {
+        Err(FillError::NotPresent) => false,
+        Ok(_) | Err(FillError::TooLong) => true,
+    }
+}
+
+// Whether the program has one argument, and no second.
+pub fn has_one(rt: &HostRuntime) -> bool {
+    is_given(rt, 1) && !is_given(rt, 2)
+}
+
+// Whether it has two, and no third.
+pub fn has_two(rt: &HostRuntime) -> bool {
+    is_given(rt, 2) && !is_given(rt, 3)
+}
+
+// Puts the argument at a place into a buffer that is lent, and answers its length.
+pub fn argument(rt: &HostRuntime, place: usize, buf: &mut [u8]) -> io::Result<usize>
+    ensures { ReadsAtMost result buf.new }
+{
+    match rt.arg(place, buf) {
+        Ok(n) => Ok(n),
+        Err(FillError::NotPresent) => Err(io::Error::from_raw_os_error(EINVAL)),
+        Err(FillError::TooLong) => Err(io::Error::from_raw_os_error(ENAMETOOLONG)),
+    }
+}
+
+// One byte more: how many came, 0 at the end of the file.
+fn past(file: &mut Opened) -> io::Result<usize> {
     let mut one = [0u8; 1];
-    libc::read(fd, &mut one)
+    file.read(&mut one)
+}
+
+// The file of so many bytes, if none comes behind them.
+fn ended(rt: &HostRuntime, program: &[u8], file: &mut Opened, path: &[u8], n: usize) -> Source
+    ensures { result.bytes ≤ n }
+{
+    match past(file) {
+        Ok(0) => Source {
+            whole: true,
+            bytes: n,
+        },
+        Ok(_) => {
+            say_long(rt, program, n);
+            NOTHING
+        }
+        Err(e) => {
+            say_failed(rt, program, path, &e);
+            NOTHING
+        }
+    }
 }
 
 // Reads an open file.
-fn read(program: &[u8], fd: i32, path: &[u8], bytes: &mut [u8]) -> Source
-    ensures { IsPrefixLen result.bytes bytes.new }
+fn read(
+    rt: &HostRuntime,
+    program: &[u8],
+    file: &mut Opened,
+    path: &[u8],
+    bytes: &mut [u8],
+) -> Source
+    ensures { result.bytes ≤ length bytes.new }
 {
-    let n = io::read_full(fd, bytes);
-    let more = past(fd);
-    if more < 0 {
-        say_failed(program, path);
-        return NOTHING;
-    }
-    if more > 0 {
-        say_long(program, bytes.len());
-        return NOTHING;
-    }
-    Source {
-        whole: true,
-        bytes: n,
+    match read_full(file, bytes) {
+        Ok(n) => ended(rt, program, file, path, n),
+        Err(e) => {
+            say_failed(rt, program, path, &e);
+            NOTHING
+        }
     }
 }
 
 // Reads the file that the argument at a place names, into bytes that are lent. It may have no more than these.
-pub fn read_source(program: &[u8], place: usize, what: &[u8], bytes: &mut [u8]) -> Source
-    ensures { IsPrefixLen result.bytes bytes.new }
+pub fn read_source(
+    rt: &HostRuntime,
+    program: &[u8],
+    place: usize,
+    what: &[u8],
+    bytes: &mut [u8],
+) -> Source
+    ensures { result.bytes ≤ length bytes.new }
 {
-    let mut path = io::buffer();
-    let n = os::arg(place, &mut path);
-    if os::errno() != 0 {
-        say_failed(program, what);
-        return NOTHING;
+    let mut path = [0u8; PATH];
+    let n = match argument(rt, place, &mut path) {
+        Ok(n) => n,
+        Err(e) => {
+            say_failed(rt, program, what, &e);
+            return NOTHING;
+        }
+    };
+    match open_source(rt, &path[..n]) {
+        Ok(mut file) => read(rt, program, &mut file, &path[..n], bytes),
+        Err(e) => {
+            say_failed(rt, program, &path[..n], &e);
+            NOTHING
+        }
     }
-    let fd = open_source(&path[..n]);
-    if fd < 0 {
-        say_failed(program, &path[..n]);
-        return NOTHING;
-    }
-    read(program, fd, &path[..n], bytes)
 }

@@ -1,4 +1,6 @@
 // What the programs share of networks coming in: lines from an open file into a set. What is read no contract can say: each function is proved safe and ending.
+#![tactic(auto)]
+
 mod reading;
 
 pub use crate::reading::{Input, Lines, read_lines};

@@ -1,23 +1,30 @@
 // Networks on standard output.
 ghost use Rattle.std.specs.Prelude.{◌*◌, ◌≤◌, length};
 
-use libc::STDOUT_FILENO;
 use nets::Net;
 use pool_state::Answer;
+use std::io;
+use std::io::ErrorKind;
 use text::Written;
 
-// One network, by way of a lent line. Whether it was written.
-fn network(net: Net, line: &mut [u8]) -> bool {
+// What cannot come of a set's own networks.
+fn no_network() -> io::Error {
+    io::Error::new(ErrorKind::InvalidData, "a network that has no line")
+}
+
+// One network, by way of a lent line.
+fn network(out: &impl Print, net: Net, line: &mut [u8]) -> io::Result<()> {
     let written = text_either::write_line(net, line);
     let Written::Bytes(k, _) = written else {
-        return false;
+        return Err(no_network());
     };
     let n = k as usize;
-    io::write_all(STDOUT_FILENO, &line[..n]) && io::write_all(STDOUT_FILENO, b"\n")
+    out.write_all(&line[..n])?;
+    out.write_all(b"\n")
 }
 
 // The network of three numbers. No line that is written has more than 43 bytes.
-fn row(family: u8, hi: u64, lo: u64, len: u64) -> bool {
+fn row(out: &impl Print, family: u8, hi: u64, lo: u64, len: u64) -> io::Result<()> {
     let mut line = [0u8; 43];
     let net = Net {
         family,
@@ -25,25 +32,30 @@ fn row(family: u8, hi: u64, lo: u64, len: u64) -> bool {
         lo,
         len: (len % 256) as u8,
     };
-    network(net, &mut line)
+    network(out, net, &mut line)
 }
 
 // The networks of so many rows, up to the first that cannot be written.
-fn networks(family: u8, rows: &[u64], count: usize) -> bool
+fn networks(out: &impl Print, family: u8, rows: &[u64], count: usize) -> io::Result<()>
     requires { 3 * count ≤ length rows.now }
 {
-    let mut i = 0;
-    while i < count && row(family, rows[3 * i], rows[3 * i + 1], rows[3 * i + 2]) {
-        i += 1;
+    for i in 0..count {
+        row(out, family, rows[3 * i], rows[3 * i + 1], rows[3 * i + 2])?;
     }
-    i == count
+    Ok(())
 }
 
-// The networks of a set of a pool of the family in the order of its list, a line each, by way of lent rows. Whether all were written.
-pub fn print_set(pool: &[u32], family: u8, set: u32, rows: &mut [u64]) -> bool {
+// The networks of a set of a pool of the family in the order of its list, a line each, by way of lent rows, up to the first that cannot be written.
+pub fn print_set(
+    out: &impl Print,
+    pool: &[u32],
+    family: u8,
+    set: u32,
+    rows: &mut [u64],
+) -> io::Result<()> {
     let listed = listing::list(pool, set, rows);
     let Answer::Granted(n) = listed else {
-        return false;
+        return Err(no_network());
     };
-    networks(family, rows, n as usize)
+    networks(out, family, rows, n as usize)
 }

@@ -1,10 +1,14 @@
 // Runs the scope document's worked networks that are not proved as a table through the public calls, with cases at full pools, at the ends of the
 // address words, at refusals, of public-only and of indexed sets, and in the second form: the rows of its input, each against what it must answer.
+#![tactic(auto)]
+
 use lookup::Contained;
 use pool_state::Told;
+use std::io;
 use test_counts::calls::{Got, taken};
 use test_counts::table::Place;
 use test_counts::{Tally, calls, table};
+use tool_files::read_full;
 
 // The words of the largest pools here: one set of 256 nodes, three of 250.
 const WORDS: usize = 2120;
@@ -58,15 +62,15 @@ fn call(pool: &mut [u32], row: &[u8]) -> Got {
     }
 }
 
-fn case(t: Tally, pool: &mut [u32; WORDS], row: &[u8], must: &[u8]) -> Tally {
+fn case(rt: &impl Print, t: Tally, pool: &mut [u32; WORDS], row: &[u8], must: &[u8]) -> Tally {
     let was = *pool;
     let got = call(pool, row);
-    let t = calls::score(t, row, must, got);
-    calls::keeps(t, row, must, &was, pool)
+    let t = calls::score(rt, t, row, must, got);
+    calls::keeps(rt, t, row, must, &was, pool)
 }
 
 // The row, where it is whole.
-fn at_end(t: Tally, pool: &mut [u32; WORDS], text: &[u8], p: Place) -> Tally {
+fn at_end(rt: &impl Print, t: Tally, pool: &mut [u32; WORDS], text: &[u8], p: Place) -> Tally {
     let r = table::row_in(p, text.len());
     let start = r.start;
     let sign = r.sign;
@@ -74,22 +78,25 @@ fn at_end(t: Tally, pool: &mut [u32; WORDS], text: &[u8], p: Place) -> Tally {
     if !r.whole {
         return t;
     }
-    case(t, pool, &text[start..sign], &text[sign..end])
+    case(rt, t, pool, &text[start..sign], &text[sign..end])
 }
 
-fn run(text: &[u8]) -> Tally {
+fn run(rt: &impl Print, text: &[u8]) -> Tally {
     let mut pool = [0u32; WORDS];
     let mut t = test_counts::none();
     let mut p = table::begin();
     for at in 0..text.len() {
         p = table::next(p, text[at], at);
-        t = at_end(t, &mut pool, text, p);
+        t = at_end(rt, t, &mut pool, text, p);
     }
     t
 }
 
-fn main() {
-    let mut text = io::large_buffer();
-    let n = io::read_full(0, &mut text);
-    test_counts::say(run(&text[..n]));
+// The most bytes of the input.
+const INPUT: usize = 65536;
+
+fn main(rt: HostRuntime) -> io::Result<()> {
+    let mut text = [0u8; INPUT];
+    let n = read_full(&mut rt.stdin(), &mut text)?;
+    test_counts::say(&rt, run(&rt, &text[..n]))
 }
