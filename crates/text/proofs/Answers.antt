@@ -10,7 +10,7 @@ use lib.Seq.{sets-eq, take-append_seam}
 use borrow.Author.Tests.{eq-eqb, ne_eqb, le-leb, lt-leb}
 use Rattle.nets.proofs.Answers.{number-one, number-some, answered-granted, entered_as-one}
 use Rattle.nets.specs.Networks.{in_range, refusal_of, cleared, has_bit_past, no_net, taken_as, no_entry, entered_as, taken_in, entered}
-use Rattle.nets.specs.Refusals.{number, answered}
+use Rattle.nets.specs.Refusals.{number}
 use Rattle.nets.specs.declared.Net.{Net}
 use Rattle.nets.specs.declared.Refusal.{Refusal}
 use Rattle.nets.specs.declared.Refusal.TheVariants.{WrongFamily, BadNetwork, ShortBuffer}

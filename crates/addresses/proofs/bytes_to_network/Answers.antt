@@ -1,5 +1,4 @@
 -- `bytes_to_network` meets its contract: the number of sixteen bytes is that of eight groups. Assumes nothing.
-use borrow.Author.Rules.{rules}
 use Rattle.addresses.proofs.Words.{big_endian-bytes}
 use Rattle.addresses.proofs.bytes_to_network.Goals as goal
 

@@ -1,6 +1,5 @@
 -- `groups_to_network` meets its contract: the number of eight groups is that of two words of four. Assumes nothing.
 use native.Mathlib.Omega.{arith}
-use borrow.Author.Rules.{rules}
 use Rattle.nets.proofs.TwoWords.{net_of-value}
 use Rattle.addresses.proofs.Words.{big_endian-groups}
 use Rattle.addresses.proofs.groups_to_network.Goals as goal

@@ -1,6 +1,5 @@
 -- `octets_to_network` meets its contract: the number of four bytes is one word. Assumes nothing.
 use native.Mathlib.Omega.{arith}
-use borrow.Author.Rules.{rules}
 use Rattle.nets.proofs.TwoWords.{net_of-value}
 use Rattle.addresses.proofs.Words.{big_endian-octets}
 use Rattle.addresses.proofs.octets_to_network.Goals as goal

@@ -1,5 +1,4 @@
 -- `words_to_network` meets its contract: it is `Net::new` at the width of the family. Assumes nothing.
-use borrow.Author.Rules.{rules}
 use Rattle.addresses.proofs.words_to_network.Goals as goal
 
 pub returns : goal.returns

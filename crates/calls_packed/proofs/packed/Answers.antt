@@ -1,6 +1,4 @@
 -- `packed` meets its contract: no part reaches into the next. Assumes nothing.
-use borrow.Author.Rules.{rules}
-use native.Mathlib.Omega.{arith}
 use Rattle.calls_packed.specs.Packed.{packed}
 use Rattle.calls_packed.proofs.packed.Goals as goal
 

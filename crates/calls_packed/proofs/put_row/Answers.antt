@@ -1,5 +1,4 @@
 -- `put_row` meets its contract. Assumes nothing.
-use borrow.Author.Rules.{rules}
 use Rattle.calls_packed.specs.Packed.{row_after}
 use Rattle.calls_packed.proofs.put_row.Goals as goal
 

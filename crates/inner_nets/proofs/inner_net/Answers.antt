@@ -1,5 +1,4 @@
 -- `inner_net` meets its contract, by its test. Assumes nothing.
-use borrow.Author.Rules.{rules}
 use Rattle.inner_nets.proofs.Numbered.{inner_nets-4, inner_nets-6}
 use Rattle.inner_nets.proofs.inner_net.Goals as goal
 

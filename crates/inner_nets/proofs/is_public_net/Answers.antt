@@ -1,5 +1,4 @@
 -- `is_public_net` meets its contract, by the bits of the network. Assumes nothing.
-use borrow.Author.Rules.{rules}
 use Rattle.inner_nets.proofs.Numbered.{net-few, net-clear, net-refused}
 use Rattle.inner_nets.proofs.is_public_net.Goals as goal
 

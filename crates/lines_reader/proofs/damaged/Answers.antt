@@ -1,5 +1,4 @@
 -- `damaged` meets its contract. Assumes nothing.
-use borrow.Author.Rules.{rules}
 use Rattle.lines_reader.proofs.damaged.Goals as goal
 
 pub returns : goal.returns

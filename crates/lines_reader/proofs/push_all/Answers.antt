@@ -1,12 +1,10 @@
 -- `push_all` meets its contract and ends. Each turn pushes a byte, as long as there is a place for it. Assumes nothing.
-use Prim.Native.Nat.{◌-◌, ◌≤◌}
-use mathlib.Core.Path.{◌≡◌, refl, ◌∙◌}
+use Prim.Native.Nat.{◌-◌}
+use mathlib.Core.Path.{refl, ◌∙◌}
 use native.Mathlib.Omega.{arith}
-use borrow.Author.Rules.{rules}
 use borrow.Author.Tests.{ltb-true, ltb-false}
-use lib.ListN.{length, drop}
-use Rattle.lines_reader.specs.Kept.{places, pushed_all}
-use Rattle.lines_reader.proofs.Pushing.{counted, pushed-one, pushed_none, pushed-full}
+use lib.ListN.{drop}
+use Rattle.lines_reader.proofs.Pushing.{pushed-one, pushed_none, pushed-full}
 use Rattle.lines_reader.proofs.push_all.Goals as goal
 
 pub loop-i-init : goal.loop-i-init

@@ -1,12 +1,9 @@
 -- `push_all` meets its contract and ends. Each turn pushes a byte, as long as there is a place for it. Assumes nothing.
 use Prim.Native.Nat.{◌-◌, ◌≤◌}
-use mathlib.Core.Path.{◌≡◌, refl, ◌∙◌}
-use native.Mathlib.Omega.{arith}
-use borrow.Author.Rules.{rules}
-use borrow.Author.Tests.{ltb-true, ltb-false}
+use mathlib.Core.Path.{◌≡◌}
 use lib.ListN.{length, drop}
-use Rattle.lines_reader.specs.Kept.{places, pushed_all}
-use Rattle.lines_reader.proofs.Pushing.{counted, pushed-one, pushed_none, pushed-full}
+use Rattle.lines_reader.specs.Kept.{pushed_all}
+use Rattle.lines_reader.proofs.Pushing.{counted}
 use Rattle.lines_reader.proofs.push_all.Given as goal
 
 abbrev pub invariant-loop-i : goal.invariant-loop-i

@@ -1,5 +1,4 @@
 -- `read_line` meets its contract: the network that a line reads as is taken in. Assumes nothing.
-use borrow.Author.Rules.{rules}
 use Rattle.text.proofs.RoundTrip.{entered_line-network, entered_line-refused}
 use Rattle.text.proofs.read_line.Goals as goal
 

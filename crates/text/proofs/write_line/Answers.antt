@@ -3,7 +3,6 @@
 use mathlib.Core.Path.{◌≡◌}
 use native.Mathlib.Omega.{arith}
 use lib.ListN.{length}
-use borrow.Author.Rules.{rules}
 use Rattle.nets.specs.Networks.{refusal_of, cleared, has_bit_past}
 use Rattle.nets.specs.declared.Refusal.TheVariants.{WrongFamily, BadNetwork, ShortBuffer}
 use Rattle.text.specs.Ipv4.{line_of}

@@ -1,8 +1,7 @@
 -- `is_index` meets its contract. The loop's invariant: the words that are left to compare decide. Assumes nothing.
-use Prim.Native.Nat.{◌-◌, ◌≤◌}
+use Prim.Native.Nat.{◌-◌}
 use native.Mathlib.Omega.{arith}
-use borrow.Author.Rules.{rules}
-use Rattle.trie_index.proofs.Words.{Left, left-start, left-off, left-on, left_end}
+use Rattle.trie_index.proofs.Words.{left-start, left-off, left-on, left_end}
 use Rattle.trie_index.proofs.is_index.Goals as goal
 
 pub loop-v-init : goal.loop-v-init

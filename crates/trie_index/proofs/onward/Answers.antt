@@ -1,5 +1,4 @@
 -- `onward` meets its contract. Assumes nothing.
-use borrow.Author.Rules.{rules}
 use borrow.Author.Tests.{eq-eqb, ne_eqb}
 use Rattle.trie_index.proofs.onward.Goals as goal
 

@@ -1,10 +1,6 @@
 -- `top_words` meets its contract. The loop's invariant: the words of the keys below 2 k are filled in. Assumes nothing.
-use mathlib.Core.Bool.{true, false}
-use mathlib.Core.Path.{refl}
 use Prim.Native.Nat.{◌*◌, ◌-◌, ◌≤◌}
-use native.Mathlib.Omega.{arith}
-use borrow.Author.Rules.{rules}
-use Rattle.trie_index.proofs.Words.{Filled, Turn, filled-start, filled-end, turn_in, turn_small, turn_on}
+use Rattle.trie_index.proofs.Words.{Filled}
 use Rattle.trie_index.proofs.top_words.Given as goal
 
 abbrev pub invariant-loop-k : goal.invariant-loop-k

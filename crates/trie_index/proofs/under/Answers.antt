@@ -1,6 +1,5 @@
 -- `under` meets its contract. Assumes nothing.
 use native.Mathlib.Omega.{arith}
-use borrow.Author.Rules.{rules}
 use Rattle.trie_index.proofs.under.Goals as goal
 
 pub overflow_add-root : goal.overflow_add-root

@@ -1,8 +1,7 @@
 -- `write_index` meets its contract. The loop's invariant: what is left to write completes the index. Assumes nothing.
-use Prim.Native.Nat.{◌-◌, ◌≤◌}
+use Prim.Native.Nat.{◌-◌}
 use native.Mathlib.Omega.{arith}
-use borrow.Author.Rules.{rules}
-use Rattle.trie_index.proofs.Words.{Writing, writing_start, writing-end, writing-on}
+use Rattle.trie_index.proofs.Words.{writing_start, writing-end, writing-on}
 use Rattle.trie_index.proofs.write_index.Goals as goal
 
 pub loop-v-init : goal.loop-v-init

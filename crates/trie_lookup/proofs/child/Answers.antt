@@ -1,5 +1,4 @@
 -- `child` meets its contract. Assumes nothing.
-use borrow.Author.Rules.{rules}
 use Rattle.trie_lookup.proofs.child.Goals as goal
 
 pub returns-then-bit : goal.returns-then-bit

@@ -2,11 +2,10 @@
 use mathlib.Core.Path.{refl, ap, sym, ◌∙◌}
 use Prim.Native.Nat.{◌-◌}
 use native.Mathlib.Omega.{arith}
-use borrow.Author.Rules.{rules}
 use lib.ListN.{get_or}
 use Rattle.nets.specs.Networks.{bits_left, next_as}
 use Rattle.trie_lookup.specs.Walks.{walk}
-use Rattle.trie_lookup.proofs.Turns.{Placed, placed-asks, placed-start, Seen, seen-less, seen-leaf, seen-lone, seen-chain, seen-fork}
+use Rattle.trie_lookup.proofs.Turns.{placed-asks, placed-start, Seen, seen-less, seen-leaf, seen-lone, seen-chain, seen-fork}
 use Rattle.trie_lookup.proofs.walk_down.Goals as goal
 
 seen : (c : goal.Then-x-eq0) →

@@ -1,12 +1,8 @@
 -- `walk_down` meets its contract. The loop's invariant: the walk from here shows what the whole walk shows. Assumes nothing.
-use mathlib.Core.Path.{refl, ap, sym, ◌∙◌}
 use Prim.Native.Nat.{◌-◌}
-use native.Mathlib.Omega.{arith}
-use borrow.Author.Rules.{rules}
-use lib.ListN.{get_or}
-use Rattle.nets.specs.Networks.{bits_left, next_as}
+use Rattle.nets.specs.Networks.{bits_left}
 use Rattle.trie_lookup.specs.Walks.{walk}
-use Rattle.trie_lookup.proofs.Turns.{Placed, placed-asks, placed-start, Seen, seen-less, seen-leaf, seen-lone, seen-chain, seen-fork}
+use Rattle.trie_lookup.proofs.Turns.{Placed}
 use Rattle.trie_lookup.proofs.walk_down.Given as goal
 
 abbrev pub invariant-loop-bit : goal.invariant-loop-bit

@@ -1,7 +1,6 @@
 -- `walk_from` meets its contract, by its tests. Assumes nothing.
 use mathlib.Core.Path.{◌∙◌}
 use native.Mathlib.Omega.{arith}
-use borrow.Author.Rules.{rules}
 use Rattle.trie_lookup.proofs.Turns.{walk_from-none, walk_from-over, walk_from-node}
 use Rattle.trie_lookup.proofs.walk_from.Goals as goal
 

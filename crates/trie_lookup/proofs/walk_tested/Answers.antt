@@ -2,11 +2,10 @@
 use mathlib.Core.Path.{refl, ap, sym, ◌∙◌}
 use Prim.Native.Nat.{◌+◌, ◌-◌}
 use native.Mathlib.Omega.{arith}
-use borrow.Author.Rules.{rules}
 use Rattle.nets.specs.Networks.{bits_left, next_as}
 use Rattle.trie_lookup.specs.Walks.{walk}
 use Rattle.trie_lookup.specs.declared.Shown.{Shown}
-use Rattle.trie_lookup.proofs.Turns.{Down, down-leaf, down-first, down-second, Inner, inner-end, Turned, turned_none, turned-less, turned-within, turned_on}
+use Rattle.trie_lookup.proofs.Turns.{down-leaf, down-first, down-second, Inner, inner-end, Turned, turned_none, turned-less, turned-within, turned_on}
 use Rattle.trie_lookup.proofs.walk_tested.Goals as goal
 
 abbrev target : (c : goal.In-End) → Shown

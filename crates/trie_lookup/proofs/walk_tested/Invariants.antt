@@ -1,12 +1,8 @@
 -- `walk_tested` meets its contract. The loop's invariant: the walk from here shows what the whole walk shows. Assumes nothing.
-use mathlib.Core.Path.{refl, ap, sym, ◌∙◌}
 use Prim.Native.Nat.{◌+◌, ◌-◌}
-use native.Mathlib.Omega.{arith}
-use borrow.Author.Rules.{rules}
-use Rattle.nets.specs.Networks.{bits_left, next_as}
+use Rattle.nets.specs.Networks.{bits_left}
 use Rattle.trie_lookup.specs.Walks.{walk}
-use Rattle.trie_lookup.specs.declared.Shown.{Shown}
-use Rattle.trie_lookup.proofs.Turns.{Down, down-leaf, down-first, down-second, Inner, inner-end, Turned, turned_none, turned-less, turned-within, turned_on}
+use Rattle.trie_lookup.proofs.Turns.{Down}
 use Rattle.trie_lookup.proofs.walk_tested.Given as goal
 
 abbrev pub invariant-loop-left : goal.invariant-loop-left

@@ -1,7 +1,6 @@
 -- `bytes::byte_at` meets its contract, by its test. Assumes nothing.
 use mathlib.Core.Path.{sym}
 use Rattle.calls_bytes.proofs.Written.{get_d_past}
-use borrow.Author.Rules.{rules}
 use Rattle.calls_bytes.proofs.bytes.byte_at.Goals as goal
 
 pub returns : goal.returns

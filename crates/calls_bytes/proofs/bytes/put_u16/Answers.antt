@@ -4,7 +4,6 @@ use mathlib.Core.Path.{refl}
 use Prim.Native.Nat.{◌+◌, ◌/◌, ◌%◌}
 use Rattle.calls_bytes.specs.Bytes.{u16_bytes}
 use Rattle.calls_bytes.proofs.Written.{behind}
-use borrow.Author.Rules.{rules}
 use Rattle.calls_bytes.proofs.bytes.put_u16.Goals as goal
 
 pub returns : goal.returns

@@ -3,7 +3,6 @@ use mathlib.Core.Path.{refl}
 use Prim.Native.Nat.{◌+◌, ◌/◌, ◌%◌}
 use Rattle.calls_bytes.specs.Bytes.{u16_bytes, u32_bytes, u64_bytes}
 use Rattle.calls_bytes.proofs.Written.{behind}
-use borrow.Author.Rules.{rules}
 use Rattle.calls_bytes.proofs.bytes.put_u64.Goals as goal
 
 pub returns : goal.returns

@@ -1,6 +1,5 @@
 -- `bytes::u16_at` meets its contract. Assumes nothing.
 use Rattle.calls_bytes.specs.Bytes.{u16_at}
-use borrow.Author.Rules.{rules}
 use Rattle.calls_bytes.proofs.bytes.u16_at.Goals as goal
 
 pub returns : goal.returns

@@ -1,6 +1,5 @@
 -- `bytes::u32_at` meets its contract. Assumes nothing.
 use Rattle.calls_bytes.specs.Bytes.{u32_at}
-use borrow.Author.Rules.{rules}
 use Rattle.calls_bytes.proofs.bytes.u32_at.Goals as goal
 
 pub returns : goal.returns

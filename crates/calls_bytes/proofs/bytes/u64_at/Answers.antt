@@ -1,6 +1,5 @@
 -- `bytes::u64_at` meets its contract. Assumes nothing.
 use Rattle.calls_bytes.specs.Bytes.{u64_at}
-use borrow.Author.Rules.{rules}
 use Rattle.calls_bytes.proofs.bytes.u64_at.Goals as goal
 
 pub returns : goal.returns

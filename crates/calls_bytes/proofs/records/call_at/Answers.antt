@@ -1,6 +1,5 @@
 -- `records::call_at` meets its contract, number by number. Assumes nothing.
 use Rattle.calls_bytes.specs.Records.{call_at}
-use borrow.Author.Rules.{rules}
 use Rattle.calls_bytes.proofs.records.call_at.Goals as goal
 
 pub returns : goal.returns

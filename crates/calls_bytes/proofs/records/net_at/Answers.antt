@@ -1,6 +1,5 @@
 -- `records::net_at` meets its contract, byte by byte. Assumes nothing.
 use Rattle.calls_bytes.specs.Records.{net_at}
-use borrow.Author.Rules.{rules}
 use Rattle.calls_bytes.proofs.records.net_at.Goals as goal
 
 pub returns : goal.returns

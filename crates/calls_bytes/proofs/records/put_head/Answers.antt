@@ -6,7 +6,6 @@ use Prim.Native.Nat.{◌+◌}
 use Rattle.calls_bytes.specs.Bytes.{u32_bytes}
 use Rattle.calls_bytes.specs.Records.{head_bytes}
 use Rattle.calls_bytes.proofs.Written.{behind, length-u32}
-use borrow.Author.Rules.{rules}
 use native.Mathlib.Omega.{arith}
 use Rattle.calls_bytes.proofs.records.put_head.Goals as goal
 

@@ -5,7 +5,6 @@ use Prim.Native.Nat.{◌+◌}
 use Rattle.calls_bytes.specs.Bytes.{u64_bytes}
 use Rattle.calls_bytes.specs.Records.{net_bytes}
 use Rattle.calls_bytes.proofs.Written.{behind, length-u64}
-use borrow.Author.Rules.{rules}
 use native.Mathlib.Omega.{arith}
 use Rattle.calls_bytes.proofs.records.put_net.Goals as goal
 

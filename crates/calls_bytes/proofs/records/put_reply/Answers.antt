@@ -2,7 +2,6 @@
 use Prim.Native.Nat.{◌+◌}
 use Rattle.calls_bytes.specs.Records.{head_bytes, net_bytes, reply_bytes}
 use Rattle.calls_bytes.proofs.Written.{behind, length-head}
-use borrow.Author.Rules.{rules}
 use native.Mathlib.Omega.{arith}
 use Rattle.calls_bytes.proofs.records.put_reply.Goals as goal
 

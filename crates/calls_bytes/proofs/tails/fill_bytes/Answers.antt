@@ -1,10 +1,9 @@
 -- `tails::fill_bytes` meets its contract. The loop's invariant: what is left to fill completes it. Assumes nothing.
 use mathlib.Core.List.{[], ◌∷◌}
-use mathlib.Core.Path.{◌≡◌, refl}
-use Prim.Native.Nat.{◌+◌, ◌-◌, ◌≤◌}
+use mathlib.Core.Path.{refl}
+use Prim.Native.Nat.{◌+◌, ◌-◌}
 use native.Mathlib.Nat.{add-zero, sub-zero}
-use lib.ListN.{length, replicate}
-use Rattle.nodes.specs.Words.{put}
+use lib.ListN.{replicate}
 use Rattle.calls_bytes.proofs.Rows.{onward, ended, replicate-on, replicate-none}
 use native.Mathlib.Omega.{arith}
 use Rattle.calls_bytes.proofs.tails.fill_bytes.Goals as goal

@@ -1,12 +1,8 @@
 -- `tails::fill_bytes` meets its contract. The loop's invariant: what is left to fill completes it. Assumes nothing.
-use mathlib.Core.List.{[], ◌∷◌}
-use mathlib.Core.Path.{◌≡◌, refl}
+use mathlib.Core.Path.{◌≡◌}
 use Prim.Native.Nat.{◌+◌, ◌-◌, ◌≤◌}
-use native.Mathlib.Nat.{add-zero, sub-zero}
 use lib.ListN.{length, replicate}
 use Rattle.nodes.specs.Words.{put}
-use Rattle.calls_bytes.proofs.Rows.{onward, ended, replicate-on, replicate-none}
-use native.Mathlib.Omega.{arith}
 use Rattle.calls_bytes.proofs.tails.fill_bytes.Given as goal
 
 abbrev pub invariant-loop-i : goal.invariant-loop-i

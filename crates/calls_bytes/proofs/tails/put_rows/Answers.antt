@@ -1,9 +1,8 @@
 -- `tails::put_rows` meets its contract. The loop's invariant: the bytes of the rows from i on complete it. Assumes nothing.
-use mathlib.Core.Path.{◌≡◌, refl}
-use Prim.Native.Nat.{◌+◌, ◌*◌, ◌-◌, ◌≤◌}
+use mathlib.Core.Path.{refl}
+use Prim.Native.Nat.{◌+◌, ◌*◌, ◌-◌}
 use native.Mathlib.Nat.{add-zero, sub-zero}
-use lib.ListN.{length, get_or}
-use Rattle.nodes.specs.Words.{put}
+use lib.ListN.{get_or}
 use Rattle.calls_bytes.specs.Bytes.{u64_bytes}
 use Rattle.calls_bytes.specs.Tails.{words_from, row_bytes}
 use Rattle.calls_bytes.proofs.Written.{length-u64}

@@ -1,14 +1,10 @@
 -- `tails::put_rows` meets its contract. The loop's invariant: the bytes of the rows from i on complete it. Assumes nothing.
-use mathlib.Core.Path.{◌≡◌, refl}
+use mathlib.Core.Path.{◌≡◌}
 use Prim.Native.Nat.{◌+◌, ◌*◌, ◌-◌, ◌≤◌}
-use native.Mathlib.Nat.{add-zero, sub-zero}
-use lib.ListN.{length, get_or}
+use lib.ListN.{length}
 use Rattle.nodes.specs.Words.{put}
 use Rattle.calls_bytes.specs.Bytes.{u64_bytes}
 use Rattle.calls_bytes.specs.Tails.{words_from, row_bytes}
-use Rattle.calls_bytes.proofs.Written.{length-u64}
-use Rattle.calls_bytes.proofs.Rows.{onward, ended, row_bytes-on, row_bytes-none}
-use native.Mathlib.Omega.{arith}
 use Rattle.calls_bytes.proofs.tails.put_rows.Given as goal
 
 abbrev pub invariant-loop-i : goal.invariant-loop-i

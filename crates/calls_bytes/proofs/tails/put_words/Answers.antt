@@ -1,14 +1,12 @@
 -- `tails::put_words` meets its contract. The loop's invariant: the bytes of the words from i on complete it. Assumes nothing.
-use mathlib.Core.Path.{◌≡◌, refl}
-use Prim.Native.Nat.{◌+◌, ◌*◌, ◌-◌, ◌≤◌}
+use mathlib.Core.Path.{refl}
+use Prim.Native.Nat.{◌+◌, ◌*◌, ◌-◌}
 use native.Mathlib.Nat.{add-zero, sub-zero}
-use lib.ListN.{length, get_or}
-use Rattle.nodes.specs.Words.{put}
+use lib.ListN.{get_or}
 use Rattle.calls_bytes.specs.Bytes.{u32_bytes}
 use Rattle.calls_bytes.specs.Tails.{words_from, row_bytes}
 use Rattle.calls_bytes.proofs.Written.{length-u32}
 use Rattle.calls_bytes.proofs.Rows.{onward, ended, row_bytes-on, row_bytes-none}
-use borrow.Author.Rules.{rules}
 use native.Mathlib.Omega.{arith}
 use Rattle.calls_bytes.proofs.tails.put_words.Goals as goal
 

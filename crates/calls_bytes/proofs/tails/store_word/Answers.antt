@@ -2,7 +2,6 @@
 use mathlib.Core.Path.{sym}
 use Rattle.nodes.proofs.Put.{set-put}
 use Rattle.calls_bytes.proofs.Rows.{put-past}
-use borrow.Author.Rules.{rules}
 use Rattle.calls_bytes.proofs.tails.store_word.Goals as goal
 
 pub returns-then-w-i : goal.returns-then-w-i

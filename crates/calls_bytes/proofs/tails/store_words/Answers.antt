@@ -1,14 +1,11 @@
 -- `tails::store_words` meets its contract. The loop's invariant: the numbers from i on complete it. Assumes nothing.
 use mathlib.Core.List.{[], ◌∷◌}
-use mathlib.Core.Path.{◌≡◌, refl}
-use Prim.Native.Nat.{◌+◌, ◌*◌, ◌-◌, ◌≤◌}
+use mathlib.Core.Path.{refl}
+use Prim.Native.Nat.{◌+◌, ◌*◌, ◌-◌}
 use native.Mathlib.Nat.{add-zero, sub-zero}
-use lib.ListN.{length}
-use Rattle.nodes.specs.Words.{put}
 use Rattle.calls_bytes.specs.Bytes.{u32_at}
 use Rattle.calls_bytes.specs.Tails.{numbers_from}
 use Rattle.calls_bytes.proofs.Rows.{onward, ended, numbers_from-on, numbers_from-none}
-use borrow.Author.Rules.{rules}
 use native.Mathlib.Omega.{arith}
 use Rattle.calls_bytes.proofs.tails.store_words.Goals as goal
 

@@ -1,7 +1,6 @@
 -- `tables::inner4` meets its contract, arm by arm. Assumes nothing.
 use mathlib.Core.Path.{sym, ◌∙◌}
 use native.Mathlib.Omega.{arith}
-use borrow.Author.Rules.{rules}
 use lib.ListN.{get_or-eq_default}
 use Rattle.nets.specs.Networks.{no_net}
 use Rattle.inner_nets.specs.Inner.{inner_nets4}

@@ -2,7 +2,6 @@
 use Prim.Native.Nat.{ℕ, ◌/◌, ◌^◌, ◌≤◌, ◌<◌}
 use mathlib.Core.Path.{◌≡◌}
 use native.Mathlib.Nat.{lt_of_lt_of_le, div-eq_of_lt}
-use borrow.Author.Rules.{rules}
 use lib.Pow.{pow_mono}
 use Rattle.inner_nets.proofs.walks.agree.Goals as goal
 

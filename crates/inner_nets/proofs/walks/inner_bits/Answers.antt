@@ -1,6 +1,5 @@
 -- `walks::inner_bits` meets its contract: each inner network is a network, and past the last there is none. Assumes nothing.
 use native.Mathlib.Omega.{arith}
-use borrow.Author.Rules.{rules}
 use Rattle.inner_nets.proofs.Numbered.{bits-found, bits_none}
 use Rattle.inner_nets.proofs.walks.inner_bits.Goals as goal
 

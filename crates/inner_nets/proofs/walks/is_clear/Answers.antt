@@ -1,12 +1,9 @@
 -- `walks::is_clear` meets its contract. The loop's invariant: an inner network that overlaps is among those from number k on. Assumes nothing.
 use mathlib.Core.Path.{sym, ◌∙◌}
-use mathlib.Core.List.{[], ◌∷◌}
 use Prim.Native.Nat.{◌-◌}
 use native.Mathlib.Omega.{arith}
-use borrow.Author.Rules.{rules}
 use Rattle.nets.specs.Networks.{bits_left}
-use Rattle.inner_nets.specs.Inner.{overlaps_one}
-use Rattle.inner_nets.proofs.Numbered.{Left, left-start, left-done, left-found, left-next, is_public-found, is_public-none, overlaps_one-one}
+use Rattle.inner_nets.proofs.Numbered.{left-start, left-done, left-found, left-next, is_public-found, is_public-none, overlaps_one-one}
 use Rattle.inner_nets.proofs.walks.is_clear.Goals as goal
 
 pub loop-k-init : goal.loop-k-init

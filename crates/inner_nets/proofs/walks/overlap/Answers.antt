@@ -1,7 +1,6 @@
 -- `walks::overlap` meets its contract, by the words of the bits. Assumes nothing.
 use Prim.Native.Nat.{◌-◌}
 use native.Mathlib.Omega.{arith}
-use borrow.Author.Rules.{rules}
 use borrow.Author.Tests.{eq-eqb, ne_eqb}
 use Rattle.inner_nets.proofs.BitWords.{overlap-high, overlap-low}
 use Rattle.inner_nets.proofs.walks.overlap.Goals as goal

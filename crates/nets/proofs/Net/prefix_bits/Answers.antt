@@ -1,5 +1,4 @@
 -- `Net::prefix_bits` meets its contract: what `accept` grants is started on, and what it refuses is refused. Assumes nothing.
-use borrow.Author.Rules.{rules}
 use Rattle.nets.specs.Networks.{no_bits, start_of}
 use Rattle.nets.proofs.Answers.{judged-network, judged-refused}
 use Rattle.nets.proofs.Net.prefix_bits.Goals as goal

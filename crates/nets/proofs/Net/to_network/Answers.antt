@@ -1,6 +1,4 @@
 -- `Net::to_network` meets its contract: of what is cut, whether a bit past the length was set is reported, and of a refusal nothing. Assumes nothing.
-use mathlib.Core.Path.{◌∙◌}
-use borrow.Author.Rules.{rules}
 use Rattle.nets.specs.Networks.{refusal_of, no_entry, cleared, has_bit_past}
 use Rattle.nets.proofs.Answers.{taken-network, taken_refused}
 use Rattle.nets.proofs.Net.to_network.Goals as goal

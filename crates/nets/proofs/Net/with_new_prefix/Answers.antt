@@ -1,6 +1,5 @@
 -- `Net::with_new_prefix` meets its contract: what `accept` grants is cleared at the new length, and what it refuses is refused. Assumes nothing.
 use mathlib.Core.Path.{ap, ◌∙◌}
-use borrow.Author.Rules.{rules}
 use Rattle.nets.specs.Networks.{no_net, cleared, with_len}
 use Rattle.nets.proofs.Answers.{judged-network, judged-refused, number-some, with_len_no-net, with_len_no-none}
 use Rattle.nets.proofs.Net.with_new_prefix.Goals as goal

@@ -1,6 +1,5 @@
 -- `PrefixBits::next` meets its contract, by the words one place to the left. Assumes nothing.
 use native.Mathlib.Omega.{arith}
-use borrow.Author.Rules.{rules}
 use Rattle.nets.specs.Networks.{next_of}
 use Rattle.nets.proofs.TwoWords.{next_of-bit}
 use Rattle.nets.proofs.PrefixBits.next.Goals as goal

@@ -1,5 +1,4 @@
 -- `families::is_family` meets its contract, by its test. Assumes nothing.
-use borrow.Author.Rules.{rules}
 use borrow.Author.Tests.{eq-eqb, ne_eqb}
 use Rattle.nets.proofs.families.is_family.Goals as goal
 

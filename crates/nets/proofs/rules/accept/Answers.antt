@@ -1,6 +1,5 @@
 -- `rules::accept` meets its contract: its tests are those of `refusal_of`. Assumes nothing.
 use mathlib.Core.Path.{sym, ◌∙◌}
-use borrow.Author.Rules.{rules}
 use borrow.Author.Tests.{not-true, not-false}
 use Rattle.nets.specs.Networks.{refusal_of}
 use Rattle.nets.proofs.rules.accept.Goals as goal

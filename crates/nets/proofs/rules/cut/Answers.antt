@@ -1,6 +1,5 @@
 -- `rules::cut` meets its contract: what `accept` grants is cleared, and what it refuses is refused. Assumes nothing.
 use mathlib.Core.Path.{◌≡◌}
-use borrow.Author.Rules.{rules}
 use Rattle.nets.specs.Networks.{refusal_of, no_net, cleared}
 use Rattle.nets.proofs.Answers.{judged-network, judged-refused}
 use Rattle.nets.proofs.rules.cut.Goals as goal

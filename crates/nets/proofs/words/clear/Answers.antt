@@ -1,6 +1,5 @@
 -- `words::clear` meets its contract: each word loses its part of the bits past the length. Assumes nothing.
 use native.Mathlib.Omega.{arith}
-use borrow.Author.Rules.{rules}
 use Rattle.nets.proofs.Numbers.{refusal_of-is}
 use Rattle.nets.proofs.TwoWords.{cleared-words}
 use Rattle.nets.proofs.words.clear.Goals as goal

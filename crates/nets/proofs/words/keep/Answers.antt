@@ -3,7 +3,6 @@ use mathlib.Core.Path.{sym}
 use Prim.Native.Nat.{◌^◌}
 use native.Mathlib.Nat.{lt_of_le_of_lt, div-mul-le_self, mod-eq_of_lt}
 use native.Mathlib.Omega.{arith}
-use borrow.Author.Rules.{rules}
 use Rattle.nets.proofs.TwoWords.{keep_all}
 use Rattle.nets.proofs.words.keep.Goals as goal
 

@@ -1,8 +1,8 @@
 -- `reading::trie_end` meets its contract. The loop's invariant: what the stack makes of the end of the part now read is the answer. Assumes nothing.
-use Prim.Native.Nat.{suc, ◌+◌, ◌-◌, ◌%◌}
+use Prim.Native.Nat.{◌-◌, ◌%◌}
 use native.Mathlib.Omega.{arith}
 use borrow.Author.Rules.{rules}
-use Rattle.nodes.proofs.Check.{Known, Flags, Loop, loop-start, end-dry, end-past, flags-small, gone, done, refused, onward}
+use Rattle.nodes.proofs.Check.{Known, Flags, loop-start, end-dry, end-past, flags-small, gone, done, refused, onward}
 use Rattle.nodes.proofs.reading.trie_end.Goals as goal
 
 flags : (c : goal.After-when-leaf) → Flags c.word_at-x.result c.when-leaf.result c.when-two.result

@@ -1,8 +1,6 @@
 -- `reading::trie_end` meets its contract. The loop's invariant: what the stack makes of the end of the part now read is the answer. Assumes nothing.
-use Prim.Native.Nat.{suc, ◌+◌, ◌-◌, ◌%◌}
-use native.Mathlib.Omega.{arith}
-use borrow.Author.Rules.{rules}
-use Rattle.nodes.proofs.Check.{Known, Flags, Loop, loop-start, end-dry, end-past, flags-small, gone, done, refused, onward}
+use Prim.Native.Nat.{suc, ◌-◌}
+use Rattle.nodes.proofs.Check.{Loop}
 use Rattle.nodes.proofs.reading.trie_end.Given as goal
 
 abbrev pub invariant-loop-at : goal.invariant-loop-at

@@ -1,8 +1,7 @@
 -- `reading::zeros_at` meets its contract. The loop's invariant: the zeros from k on complete the count. Assumes nothing.
 use Prim.Native.Nat.{◌-◌}
 use native.Mathlib.Omega.{arith}
-use borrow.Author.Rules.{rules}
-use Rattle.nodes.proofs.Zeros.{Count, count-start, count-done, count-on}
+use Rattle.nodes.proofs.Zeros.{count-start, count-done, count-on}
 use Rattle.nodes.proofs.reading.zeros_at.Goals as goal
 
 pub loop-k-init : goal.loop-k-init

@@ -1,8 +1,6 @@
 -- `reading::zeros_at` meets its contract. The loop's invariant: the zeros from k on complete the count. Assumes nothing.
 use Prim.Native.Nat.{◌-◌}
-use native.Mathlib.Omega.{arith}
-use borrow.Author.Rules.{rules}
-use Rattle.nodes.proofs.Zeros.{Count, count-start, count-done, count-on}
+use Rattle.nodes.proofs.Zeros.{Count}
 use Rattle.nodes.proofs.reading.zeros_at.Given as goal
 
 abbrev pub invariant-loop-k : goal.invariant-loop-k

@@ -1,6 +1,5 @@
 -- `steps::look` meets its contract, by its tests. Assumes nothing.
 use mathlib.Core.Path.{◌∙◌}
-use borrow.Author.Rules.{rules}
 use Rattle.nodes.proofs.Views.{look_none, look-place, look-leaf, look-inner}
 use Rattle.nodes.proofs.steps.look.Goals as goal
 

@@ -1,5 +1,4 @@
 -- `steps::middle` meets its contract, by its test. Assumes nothing.
-use borrow.Author.Rules.{rules}
 use Rattle.nodes.proofs.Segments.{middle-some}
 use Rattle.nodes.proofs.steps.middle.Goals as goal
 

@@ -1,5 +1,4 @@
 -- `writing::first` meets its contract, by its test. Assumes nothing.
-use borrow.Author.Rules.{rules}
 use borrow.Author.Tests.{eq-eqb, ne_eqb}
 use Rattle.nodes.proofs.writing.first.Goals as goal
 

@@ -1,7 +1,6 @@
 -- `writing::links` meets its contract. Assumes nothing.
 use Prim.Native.Nat.{◌≤◌}
 use native.Mathlib.Omega.{arith}
-use borrow.Author.Rules.{rules}
 use Rattle.nodes.specs.Links.{linked}
 use Rattle.nodes.proofs.Linked.{to_first-le, to_second-le}
 use Rattle.nodes.proofs.writing.links.Goals as goal

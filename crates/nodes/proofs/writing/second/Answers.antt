@@ -1,5 +1,4 @@
 -- `writing::second` meets its contract, by its test. Assumes nothing.
-use borrow.Author.Rules.{rules}
 use borrow.Author.Tests.{eq-eqb, ne_eqb}
 use Rattle.nodes.proofs.writing.second.Goals as goal
 

@@ -1,10 +1,9 @@
 -- `writing::shift_down` meets its contract. The loop's invariant: the first i words stand at their new place. Assumes nothing.
-use mathlib.Core.Path.{◌≡◌, sym}
-use Prim.Native.Nat.{◌-◌, ◌≤◌}
+use mathlib.Core.Path.{sym}
+use Prim.Native.Nat.{◌-◌}
 use native.Mathlib.Omega.{arith}
 use borrow.Author.Rules.{rules}
-use lib.ListN.{length, take, drop, length-set}
-use Rattle.nodes.specs.Words.{put}
+use lib.ListN.{length-set}
 use Rattle.nodes.proofs.Put.{put-nil}
 use Rattle.nodes.proofs.Move.{down_step, down-end}
 use Rattle.nodes.proofs.writing.shift_down.Goals as goal

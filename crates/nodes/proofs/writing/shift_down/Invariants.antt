@@ -1,12 +1,8 @@
 -- `writing::shift_down` meets its contract. The loop's invariant: the first i words stand at their new place. Assumes nothing.
-use mathlib.Core.Path.{◌≡◌, sym}
+use mathlib.Core.Path.{◌≡◌}
 use Prim.Native.Nat.{◌-◌, ◌≤◌}
-use native.Mathlib.Omega.{arith}
-use borrow.Author.Rules.{rules}
-use lib.ListN.{length, take, drop, length-set}
+use lib.ListN.{length, take, drop}
 use Rattle.nodes.specs.Words.{put}
-use Rattle.nodes.proofs.Put.{put-nil}
-use Rattle.nodes.proofs.Move.{down_step, down-end}
 use Rattle.nodes.proofs.writing.shift_down.Given as goal
 
 abbrev pub invariant-loop-i : goal.invariant-loop-i

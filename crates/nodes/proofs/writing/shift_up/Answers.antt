@@ -1,10 +1,8 @@
 -- `writing::shift_up` meets its contract. The loop's invariant: the words from i on stand at their new place. Assumes nothing.
-use mathlib.Core.Path.{◌≡◌}
-use Prim.Native.Nat.{◌+◌, ◌-◌, ◌≤◌}
+use Prim.Native.Nat.{◌-◌}
 use native.Mathlib.Omega.{arith}
 use borrow.Author.Rules.{rules}
-use lib.ListN.{length, take, drop, length-set}
-use Rattle.nodes.specs.Words.{put}
+use lib.ListN.{length-set}
 use Rattle.nodes.proofs.Move.{up_start, up_step, up-end}
 use Rattle.nodes.proofs.writing.shift_up.Goals as goal
 

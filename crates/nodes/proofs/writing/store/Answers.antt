@@ -1,5 +1,4 @@
 -- `writing::store` meets its contract: a store is a write of one word. Assumes nothing.
-use borrow.Author.Rules.{rules}
 use Rattle.nodes.proofs.Put.{set-put}
 use Rattle.nodes.proofs.writing.store.Goals as goal
 

@@ -1,6 +1,5 @@
 -- `ipv4::digits` meets its contract. Assumes nothing.
 use lib.ListN.{length}
-use borrow.Author.Rules.{rules}
 use mathlib.Core.Path.{ap, ◌∙◌}
 use Rattle.text_decimal.specs.Decimal.{digits_of}
 use Rattle.text.proofs.ipv4.digits.Goals as goal

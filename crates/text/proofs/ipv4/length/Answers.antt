@@ -1,6 +1,5 @@
 -- `ipv4::length` meets its contract. Assumes nothing.
 use native.Mathlib.Omega.{arith}
-use borrow.Author.Rules.{rules}
 use Rattle.text.proofs.Writing.{lengths}
 use Rattle.text.proofs.ipv4.length.Goals as goal
 

@@ -3,7 +3,6 @@
 use mathlib.Core.Path.{refl, ap}
 use native.Mathlib.Omega.{arith}
 use lib.ListN.{length}
-use borrow.Author.Rules.{rules}
 use Rattle.text_decimal.specs.Decimal.{digits_of}
 use Rattle.text.specs.Ipv4.{octet_of}
 use Rattle.text_decimal.specs.Places.{Stored}

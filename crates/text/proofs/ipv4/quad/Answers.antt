@@ -1,6 +1,5 @@
 -- `ipv4::quad` meets its contract: what its four calls read is what `read_quad` reads. Assumes nothing.
 use mathlib.Core.Path.{ap, ◌∙◌}
-use borrow.Author.Rules.{rules}
 use Rattle.text.specs.Ipv4.{dot, slash, read_next, read_quad}
 use Rattle.text.proofs.ipv4.quad.Goals as goal
 

@@ -3,7 +3,6 @@
 use mathlib.Core.Path.{◌≡◌}
 use native.Mathlib.Omega.{arith}
 use lib.ListN.{drop}
-use borrow.Author.Rules.{rules}
 use Rattle.text_decimal.specs.Decimal.{parsed, read_number}
 use Rattle.text.specs.Ipv4.{read_quad}
 use Rattle.text_decimal.proofs.Numbers.{read_number-most}

@@ -1,6 +1,5 @@
 -- `ipv4::write` meets its contract: each call stores behind the one before it, and what they store makes the line. Assumes nothing.
 use native.Mathlib.Omega.{arith}
-use borrow.Author.Rules.{rules}
 use Rattle.text_decimal.proofs.Writing.{stored-append}
 use Rattle.text.proofs.Writing.{stored-line, lengths}
 use Rattle.text.proofs.ipv4.write.Goals as goal

@@ -1,7 +1,6 @@
 -- `cursor::byte_at` meets its contract. Assumes nothing.
 use mathlib.Core.Path.{refl, sym}
 use lib.Seq.{drop-cons}
-use borrow.Author.Rules.{rules}
 use Rattle.text_decimal.specs.Places.{starts_byte}
 use Rattle.text_decimal.proofs.Places.{starts-past}
 use Rattle.text_decimal.proofs.cursor.byte_at.Goals as goal

@@ -3,11 +3,10 @@ use mathlib.Core.Bool.{false}
 use mathlib.Core.Path.{◌≡◌, sym, ◌∙◌}
 use Prim.Native.Nat.{◌-◌}
 use native.Mathlib.Omega.{arith}
-use lib.ListN.{length, drop}
-use borrow.Author.Rules.{rules}
+use lib.ListN.{drop}
 use Rattle.text_decimal.specs.Places.{starts_digit}
 use Rattle.text_decimal.proofs.Places.{Digit, starts_digit-is}
-use Rattle.text_decimal.proofs.Loop.{Reading, read_number-zero, reading-start, reading-over, reading-again, reading-none, reading-end}
+use Rattle.text_decimal.proofs.Loop.{read_number-zero, reading-start, reading-over, reading-again, reading-none, reading-end}
 use Rattle.text_decimal.proofs.decimal.number.Goals as goal
 
 -- a digit stands where a turn begins, and none where the loop ends

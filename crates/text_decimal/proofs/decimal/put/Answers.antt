@@ -3,7 +3,6 @@ use mathlib.Core.Path.{ap, refl}
 use native.Mathlib.Numerals.{add-one, add-two}
 use native.Mathlib.Omega.{arith}
 use lib.ListN.{length, length-set}
-use borrow.Author.Rules.{rules}
 use Rattle.text_decimal.proofs.Writing.{digits_of-one, digits_of-two, digits_of-three}
 use Rattle.text_decimal.proofs.decimal.put.Goals as goal
 

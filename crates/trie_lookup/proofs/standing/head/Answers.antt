@@ -1,10 +1,8 @@
 -- `standing::head` meets its contract. The loop's invariant: what is taken is the beginning of the query, what is left is its rest. Assumes nothing.
 use Prim.Native.Nat.{◌-◌}
 use native.Mathlib.Omega.{arith}
-use borrow.Author.Rules.{rules}
-use Rattle.nets.specs.Networks.{bits_left}
 use Rattle.nets.proofs.Handing.{hands, hands_end, length-bits_left}
-use Rattle.trie_lookup.proofs.Openings.{Taken, taken_start, taken-low, taken-some, taken-on, taken-end}
+use Rattle.trie_lookup.proofs.Openings.{taken_start, taken-low, taken-some, taken-on, taken-end}
 use Rattle.trie_lookup.proofs.standing.head.Goals as goal
 
 pub loop-k-init : goal.loop-k-init

@@ -1,7 +1,6 @@
 -- `standing::node_shows` meets its contract, by its tests. Assumes nothing.
 use mathlib.Core.Path.{sym, ◌∙◌}
 use native.Mathlib.Omega.{arith}
-use borrow.Author.Rules.{rules}
 use Rattle.trie_lookup.proofs.Openings.{node-walk, node-member, node-damaged}
 use Rattle.trie_lookup.proofs.standing.node_shows.Goals as goal
 

@@ -1,7 +1,6 @@
 -- `standing::push` meets its contract. Assumes nothing.
 use mathlib.Core.Path.{sym}
 use native.Mathlib.Nat.{add-zero}
-use borrow.Author.Rules.{rules}
 use Rattle.trie_lookup.proofs.standing.push.Goals as goal
 
 pub returns-then-bit : goal.returns-then-bit

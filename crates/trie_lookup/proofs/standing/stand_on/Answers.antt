@@ -1,7 +1,6 @@
 -- `standing::stand_on` meets its contract, by its tests. Assumes nothing.
 use mathlib.Core.Path.{◌∙◌}
 use native.Mathlib.Omega.{arith}
-use borrow.Author.Rules.{rules}
 use Rattle.trie_lookup.proofs.Openings.{word-under, word_over, word-node, word_low, word-high, word-absent}
 use Rattle.trie_lookup.proofs.standing.stand_on.Goals as goal
 

@@ -1,5 +1,4 @@
 -- `preorder::down` meets its contract. Assumes nothing.
-use borrow.Author.Rules.{rules}
 use Rattle.trie_paths.proofs.preorder.down.Goals as goal
 
 pub returns : goal.returns

@@ -1,5 +1,4 @@
 -- `preorder::half` meets its contract, by its test. Assumes nothing.
-use borrow.Author.Rules.{rules}
 use Rattle.trie_paths.proofs.preorder.half.Goals as goal
 
 pub returns-then-y-eq2 : goal.returns-then-y-eq2

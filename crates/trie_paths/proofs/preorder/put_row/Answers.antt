@@ -1,6 +1,5 @@
 -- `preorder::put_row` meets its contract: three stores are one write. Assumes nothing.
 use native.Mathlib.Omega.{arith}
-use borrow.Author.Rules.{rules}
 use lib.ListN.{length-set}
 use Rattle.trie_paths.proofs.RowForm.{set-row}
 use Rattle.trie_paths.proofs.preorder.put_row.Goals as goal
