@@ -131,9 +131,8 @@ pub grow-requires : goal.grow-requires
 grow-requires τ c = (c.requires.0, rw (sym (empty τ c)) at c.requires.1)
 
 pub insert-z-requires : goal.insert-z-requires
-insert-z-requires τ c = let s = start t (looked t c) in
-    let h = right τ c in
-    (omega (arith, s.pre.0, h.len), (omega (arith, s.pre.1.0, h.len), insertable-side (inner τ c) true (rw h.bits at s.pre.1.1)))
+insert-z-requires τ c = let h = right τ c in
+    (omega (arith, c.decreases, h.len), (omega (arith, c.requires.0, h.len), insertable-side (inner τ c) true (rw h.bits at c.requires.1)))
 
 pub links-requires : goal.links-requires
 links-requires τ c = omega (arith, fit τ c)
@@ -145,9 +144,8 @@ pub overflow_add-i : goal.overflow_add-i
 overflow_add-i τ c = omega (arith, fit-insert-arg-in-inner-1 τ c)
 
 pub insert-y-requires : goal.insert-y-requires
-insert-y-requires τ c = let s = start t (looked t c) in
-    let h = left τ c in
-    (omega (arith, s.pre.0, h.len), (omega (arith, s.pre.1.0, h.len), insertable-side (inner-insert-arg-in-inner-1 τ c) false (rw h.bits at s.pre.1.1)))
+insert-y-requires τ c = let h = left τ c in
+    (omega (arith, c.decreases, h.len), (omega (arith, c.requires.0, h.len), insertable-side (inner-insert-arg-in-inner-1 τ c) false (rw h.bits at c.requires.1)))
 
 pub overflow_sub-z : goal.overflow_sub-z
 overflow_sub-z τ c = omega (arith, fit-slice_known-in-inner-1 τ c)

@@ -8,6 +8,10 @@ use Rattle.trie_lanes.specs.Lanes.{AllGo, Live}
 use Rattle.trie_lanes.proofs.LaneRows.{all_stay, all_moved}
 use Rattle.trie_lanes.proofs.round.Goals as goal
 
+nearer : (on : Bool) (k j m i : ℕ) → m ≡ cond on k (k - 1) → i ≡ cond on (j + 1) j → j < k → m - i < k - j
+nearer true k j m i e f lt = omega arith
+nearer false k j m i e f lt = omega arith
+
 pub loop-j-init : goal.loop-j-init
 loop-j-init c = let h = c.requires in (all_stay _ _ _ _ _ h.1, h.2)
 

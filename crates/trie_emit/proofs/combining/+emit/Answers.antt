@@ -71,34 +71,34 @@ pub halves-q-requires : goal.halves-q-requires
 halves-q-requires τ c = let (g, t, u, s, p) = c.requires in (_, g, t, u, s.first, s.second)
 
 pub overflow_add-o : goal.overflow_add-o
-overflow_add-o τ c = let s = (start n c).pre.1.3 in omega arith
+overflow_add-o τ c = let s = c.requires.3 in omega arith
 
 pub overflow_sub-fuel : goal.overflow_sub-fuel
-overflow_sub-fuel τ c = let s = (start n c).pre.1.3 in omega arith
+overflow_sub-fuel τ c = let s = c.requires.3 in omega arith
 
 pub emit-l-requires : goal.emit-l-requires
-emit-l-requires τ c = let (g, t, u, s, p) = (start n c).pre.1 in
+emit-l-requires τ c = let (g, t, u, s, p) = c.requires in
     let d = split τ c g t u s in
-    (omega (arith, (start n c).pre.0, s.turn), (g, _, _, left-inputs d, left-gap d p))
+    (omega (arith, c.decreases, s.turn), (g, _, _, left-inputs d, left-gap d p))
 
 pub overflow_add-o-2 : goal.overflow_add-o-2
-overflow_add-o-2 τ c = let s = (start n c).pre.1.3 in omega arith
+overflow_add-o-2 τ c = let s = c.requires.3 in omega arith
 
 pub end_of-m-requires : goal.end_of-m-requires
-end_of-m-requires τ c = let s = (start n c).pre.1.3 in omega arith
+end_of-m-requires τ c = let s = c.requires.3 in omega arith
 
 pub overflow_sub-fuel-2 : goal.overflow_sub-fuel-2
-overflow_sub-fuel-2 τ c = let s = (start n c).pre.1.3 in omega arith
+overflow_sub-fuel-2 τ c = let s = c.requires.3 in omega arith
 
 pub emit-r-requires : goal.emit-r-requires
-emit-r-requires τ c = let (g, t, u, s, p) = (start n c).pre.1 in
+emit-r-requires τ c = let (g, t, u, s, p) = c.requires in
     let d = split-emit-arg-2-1 τ c g t u s in
     let l = c.emit-l.ensures g _ _ (left-inputs d) (left-gap d p) in
     let e = c.end_of-m.ensures in
-    (omega (arith, (start n c).pre.0, s.turn), (g, _, _, rest-inputs d p _ _ _ l e, rest-gap d p _ _ _ l e))
+    (omega (arith, c.decreases, s.turn), (g, _, _, rest-inputs d p _ _ _ l e, rest-gap d p _ _ _ l e))
 
 pub finish-requires : goal.finish-requires
-finish-requires τ c = let (g, t, u, s, p) = (start n c).pre.1 in
+finish-requires τ c = let (g, t, u, s, p) = c.requires in
     let d = split-finish-arg-1 τ c g t u s in
     let l = c.emit-l.ensures g _ _ (left-inputs d) (left-gap d p) in
     let e = c.end_of-m.ensures in

@@ -70,29 +70,29 @@ pub halves-q-requires : goal.halves-q-requires
 halves-q-requires τ c = let (g, t, u, s) = c.requires in (_, g, t, u, s.first, s.second)
 
 pub overflow_add-o : goal.overflow_add-o
-overflow_add-o τ c = let s = (start n c).requires.1.3 in omega arith
+overflow_add-o τ c = let s = c.requires.3 in omega arith
 
 pub overflow_sub-fuel : goal.overflow_sub-fuel
-overflow_sub-fuel τ c = let s = (start n c).requires.1.3 in omega arith
+overflow_sub-fuel τ c = let s = c.requires.3 in omega arith
 
 pub foresee-l-requires : goal.foresee-l-requires
-foresee-l-requires τ c = let (g, t, u, s) = (start n c).requires.1 in (omega (arith, (start n c).requires.0, s.turn), (g, _, _, left-inputs (split τ c g t u s)))
+foresee-l-requires τ c = let (g, t, u, s) = c.requires in (omega (arith, c.decreases, s.turn), (g, _, _, left-inputs (split τ c g t u s)))
 
 pub overflow_add-o-2 : goal.overflow_add-o-2
-overflow_add-o-2 τ c = let s = (start n c).pre.1.3 in omega arith
+overflow_add-o-2 τ c = let s = c.requires.3 in omega arith
 
 pub end_of-m-requires : goal.end_of-m-requires
-end_of-m-requires τ c = let s = (start n c).pre.1.3 in omega arith
+end_of-m-requires τ c = let s = c.requires.3 in omega arith
 
 pub overflow_sub-fuel-2 : goal.overflow_sub-fuel-2
-overflow_sub-fuel-2 τ c = let s = (start n c).pre.1.3 in omega arith
+overflow_sub-fuel-2 τ c = let s = c.requires.3 in omega arith
 
 pub foresee-r-requires : goal.foresee-r-requires
-foresee-r-requires τ c = let (g, t, u, s) = (start n c).pre.1 in
-    (omega (arith, (start n c).pre.0, s.turn), (g, _, _, right-inputs (split-end_of-m τ c g t u s) _ _ c.foresee-l.ensures c.end_of-m.ensures))
+foresee-r-requires τ c = let (g, t, u, s) = c.requires in
+    (omega (arith, c.decreases, s.turn), (g, _, _, right-inputs (split-end_of-m τ c g t u s) _ _ c.foresee-l.ensures c.end_of-m.ensures))
 
 pub parent-requires : goal.parent-requires
-parent-requires τ c = let (g, t, u, s) = (start n c).pre.1 in
+parent-requires τ c = let (g, t, u, s) = c.requires in
     (_, _, foreseen-both (split-foresee-r τ c g t u s) _ _ c.foresee-l.ensures c.end_of-m.ensures _ c.foresee-r.ensures)
 
 pub returns : goal.returns
