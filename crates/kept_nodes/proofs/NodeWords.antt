@@ -27,7 +27,7 @@ use Rattle.kept_nodes.proofs.Places.{length-node_words}
 pub has-matches : {w : List ℕ} {p : ℕ} (xs : List ℕ) → Has w p xs → matches w p xs ≡ true
 unfolding matches
 has-matches [] h = refl
-has-matches {w} {p} (x ∷ xs) h = and_both (eqb (get_or w p 0) x) (matches w (p + 1) xs) (eq-eqb (get_or w p 0) x (has-head h)) (has-matches xs (has-tail h))
+has-matches {w} {p} (x ∷ xs) h = and_both (eqb (get_or w p 0) x) (matches w (p + 1) xs) (eq-eqb (get_or w p 0) x (has-head h)) (has-matches {p = p + 1} xs (has-tail h))
 
 pub matches-has : (w : List ℕ) (p : ℕ) (xs : List ℕ) → p + length xs ≤ length w → matches w p xs ≡ true → Has w p xs
 unfolding matches
