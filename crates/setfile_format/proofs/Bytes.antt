@@ -40,7 +40,7 @@ big_endian-bytes_of zero n ys = sym (mod-one n)
 big_endian-bytes_of (suc k) n ys =
     let m = n / 256 in
     let e : bytes_of (suc k) n ++ ys ≡ bytes_of k m ++ (n % 256 ∷ ys) = ap (λ xs. xs ++ ys) (bytes_of-last k n) ∙ append_assoc (bytes_of k m) (n % 256 ∷ []) ys in
-    rw (e, big_endian-bytes_of k m (n % 256 ∷ ys), get_or_at (bytes_of k m) (n % 256) ys 0 k (length-bytes_of k m), pow-suc 256 k) (sym (mod-mul n (one-le-pow k 256 (omega arith)) (omega arith)))
+    ap (λ zs. big_endian 256 zs (suc k)) e ∙ rw (big_endian-bytes_of k m (n % 256 ∷ ys), get_or_at (bytes_of k m) (n % 256) ys 0 k (length-bytes_of k m), pow-suc 256 k) (sym (mod-mul n (one-le-pow k 256 (omega arith)) (omega arith)))
 
 module _ (xs : List ℕ) (bytes : Bytes xs) where
   pub big_endian-lt : (k : ℕ) → big_endian 256 xs k < 256 ^ k

@@ -39,7 +39,10 @@ returns-then-within-3 c = let h = upper c in
     record { value = sym (hex_value-upper c.args.b h.0 h.1); upper_bound = omega arith }
 
 pub returns : goal.returns
-returns c = record { value = sym (hex_value-other c.args.b
-          (sym c.within.ensures ∙ c.if-within.false)
-          (sym c.within-2.ensures ∙ c.if-within-2.false)
-          (sym c.within-3.ensures ∙ c.if-within-3.false)); upper_bound = (omega arith,) }
+returns c = record {
+  value = sym (hex_value-other c.args.b
+      (sym c.within.ensures ∙ c.if-within.false)
+      (sym c.within-2.ensures ∙ c.if-within-2.false)
+      (sym c.within-3.ensures ∙ c.if-within-3.false));
+  upper_bound = omega arith;
+}

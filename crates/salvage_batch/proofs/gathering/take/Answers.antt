@@ -36,7 +36,7 @@ pub hold-requires : goal.hold-requires
 hold-requires c = record { holds = (_, _, c.requires.holds); clean = known-hold-arg-1 c }
 
 pub returns-in-Refused : goal.returns-in-Refused
-returns-in-Refused c = record { kept = kept_same _ _ _; holds_2 = (rw (taken-long c.args.family c.args.bytes.now c.args.i c.requires.holds.room.family c.entry.ensures.value c.entry.ensures.result_bound c.to_network-taken.ensures _ c.in-Refused.is) c.requires.holds,) }
+returns-in-Refused c = record { kept = kept_same _ _ _; holds_2 = (rw (taken-long c.args.family c.args.bytes.now c.args.i c.requires.holds.room.family c.entry.ensures.value c.entry.ensures.result_bound c.to_network-taken.ensures _ c.in-Refused.is) c.requires.holds) }
 
 pub returns-else-not-is_past : goal.returns-else-not-is_past
 returns-else-not-is_past c = record { kept = c.hold.ensures.kept; holds_2 = rw (joins-slice_known-in-network-1 c) (c.hold.ensures.holds_2 _ _ c.requires.holds (sym c.is_past.ensures ∙ not-false _ c.if-not-is_past.false-raw)) }

@@ -28,4 +28,4 @@ overflow_add-result c = let p = c.requires in
 
 pub returns : goal.returns
 returns c = let p = c.requires in
-    record { kept = kept_trans c.make_room-g.ensures.kept (kept-written _ _ _ _ c.put_entry.ensures c.make_room-g.ensures.count_lt_most); holds_2 = (λ S a o w. holds-put (c.make_room-g.ensures.holds S a o) p.1 w c.make_room-g.ensures.count_lt_most (sym c.is_beyond.ensures ∙ c.if-is_beyond.false) c.put_entry.ensures _ refl refl,) }
+    record { kept = kept_trans c.make_room-g.ensures.kept (kept-written _ _ _ _ c.put_entry.ensures c.make_room-g.ensures.count_lt_most); holds_2 = (λ S a o w. holds-put (c.make_room-g.ensures.holds S a o) p.1 w c.make_room-g.ensures.count_lt_most (sym c.is_beyond.ensures ∙ c.if-is_beyond.false) c.put_entry.ensures _ refl refl) }

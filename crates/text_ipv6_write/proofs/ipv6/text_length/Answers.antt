@@ -27,7 +27,7 @@ eight-length-3 c = c.well_formed.0.1.0.1
 
 pub returns-then-r-lt-SHORTEST : goal.returns-then-r-lt-SHORTEST
 returns-then-r-lt-SHORTEST c = let r = c.longest-r.result in
-    record { value = c.length.ensures.value ∙ ap length (sym (whole c.args.g r.at r.count (eight c) c.longest-r.ensures c.if-r-lt-SHORTEST.true)); upper_bound = (omega (arith, c.length.ensures.upper_bound),) }
+    record { value = c.length.ensures.value ∙ ap length (sym (whole c.args.g r.at r.count (eight c) c.longest-r.ensures c.if-r-lt-SHORTEST.true)); upper_bound = (omega (arith, c.length.ensures.upper_bound)) }
 
 pub length-requires-2 : goal.length-requires-2
 length-requires-2 c = omega (arith, room c)
@@ -44,4 +44,4 @@ returns c = let g = c.args.g in
         c.length-2.ensures.value,
         ap length (around g r.at r.count (eight-length-3 c) c.longest-r.ensures c.if-r-lt-SHORTEST.false),
         length-sides g r.at r.count,
-      ); upper_bound = (omega (arith, c.length-3.ensures.upper_bound, c.length-2.ensures.upper_bound),) }
+      ); upper_bound = (omega (arith, c.length-3.ensures.upper_bound, c.length-2.ensures.upper_bound)) }

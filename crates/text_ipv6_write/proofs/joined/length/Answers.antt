@@ -47,4 +47,4 @@ loop-i-preserved c = let k = c.length.result in
     c.loop-i-test.true c.loop-i.invariant c.length.ensures.value refl
 
 pub returns : goal.returns
-returns c = record { value = counted-all c.args.g c.args.from c.args.to (omega (arith, eight-loop-i c)) c.loop-i.n c.loop-i.i c.loop-i-test.false c.loop-i.invariant; upper_bound = (omega (arith, c.loop-i.invariant),) }
+returns c = record { value = counted-all c.args.g c.args.from c.args.to (omega (arith, eight-loop-i c)) c.loop-i.n c.loop-i.i c.loop-i-test.false c.loop-i.invariant; upper_bound = (omega (arith, c.loop-i.invariant)) }
