@@ -124,7 +124,7 @@ length-over_records w s i (x ∷ xs) = length-over_records (put w (record_at s) 
 has-over_records : {w : List ℕ} {p : ℕ} {ys : List ℕ} (s i : ℕ) (xs : List SetState) → Has w p ys → p + length ys ≤ record_at s → Has (over_records w s i xs) p ys
 unfolding over_records
 has-over_records s i [] h le = h
-has-over_records s i (x ∷ xs) h le = has-over_records (s + 1) (i + held x) xs (has-put (record_at s) (record_of i x) h (λ k a b c d. omega arith)) (omega arith)
+has-over_records {w = w} s i (x ∷ xs) h le = has-over_records {w = put w (record_at s) (record_of i x)} (s + 1) (i + held x) xs (has-put (record_at s) (record_of i x) h (λ k a b c d. omega arith)) (omega arith)
 
 over_records-has : (w : List ℕ) (s i : ℕ) (xs : List SetState) → record_at (s + length xs) ≤ length w → Records (over_records w s i xs) s i xs
 unfolding over_records

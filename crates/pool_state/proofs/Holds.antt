@@ -257,7 +257,7 @@ pub holds_at : {F : Form} {w : List ℕ} {b n v i : ℕ} (s k : ℕ) (xs : List 
     → HoldsSet F w b n v (s + k) (first_node k i xs) (get_or xs k no_set)
 holds_at s k [] pos lt h = absurd (omega arith)
 holds_at s zero (x ∷ xs) pos lt h = let e : s + 0 ≡ s = omega arith in rw e (holds-head pos h)
-holds_at s (suc k) (x ∷ xs) pos lt h = let e : s + suc k ≡ s + 1 + k = omega arith in rw e (holds_at (s + 1) k xs (omega arith) (omega arith) (holds-tail pos h))
+holds_at {i = i} s (suc k) (x ∷ xs) pos lt h = let e : s + suc k ≡ s + 1 + k = omega arith in rw e (holds_at {i = i + held x} (s + 1) k xs (omega arith) (omega arith) (holds-tail pos h))
 
 pub node_words-at : (v k : ℕ) (xs : List SetState) → k < length xs
     → node_words v xs ≡ node_words v (take k xs) ++ (enc_l (get_or xs k no_set).form v (get_or xs k no_set).list ++ node_words v (drop (suc k) xs))

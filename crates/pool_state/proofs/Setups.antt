@@ -21,7 +21,7 @@ use Rattle.pool_state.proofs.Kept.{held_l-nil, enc_l-nil}
 use Rattle.pool_state.specs.Kept.{Form, first, form_no, form_of, held_l, index_l}
 use Rattle.pool_state.specs.States.{indexed_of, is_size}
 use Rattle.nets.specs.Networks.{is_family}
-use Rattle.pool_state.specs.Decode.{mark, record_at, least_words, over_records, node_words, over_sets, tag_of, over_indexes, over, is_form}
+use Rattle.pool_state.specs.Decode.{mark, record_at, least_words, over_records, node_words, over_sets, tag_of, index_words, over_indexes, over, is_form}
 use Rattle.pool_state.specs.Rules.{within_limits, total, shares_fit, Setup, marks_fit, marks, words_of, is_formed, is_setup, layout_no, empty_sets, blanks, laid, Laid}
 use Rattle.nodes.proofs.Put.{put-nil, length-put, set-put, put-behind-at}
 
@@ -238,7 +238,8 @@ over_indexes-blanks : (F : Form) (w : List ℕ) (m s j : ℕ) (shares limits : L
 unfolding over_indexes
 over_indexes-blanks F w m s j [] limits z e = refl
 over_indexes-blanks F w m s j (x ∷ shares) [] z e = absurd (omega arith)
-over_indexes-blanks F w m s j (x ∷ shares) (y ∷ limits) z e = over_indexes-blanks F _ m (s + 1) (j + digit (eqb (z % 2) 1)) shares limits (z / 2) (omega arith)
+over_indexes-blanks F w m s j (x ∷ shares) (y ∷ limits) z e =
+    over_indexes-blanks F (put (put w (record_at s + 4) (tag_of (eqb (z % 2) 1) j ∷ [])) (m + 256 * j) (index_words (record { share = 0; limit = 0; public = false; indexed = eqb (z % 2) 1; form = first; list = [] }))) m (s + 1) (j + digit (eqb (z % 2) 1)) shares limits (z / 2) (omega arith)
 
 -- The marks: what is left of the number, for the sets that are left, completes the count, and decides whether all are of sets.
 pub record Marking (sets z left x n : ℕ) : Type 0 where
