@@ -1,5 +1,6 @@
 -- The proof of the cycle of calls {remove}. The measure is how many bits are left. Assumes nothing.
 use mathlib.Core.List.{List}
+use mathlib.Core.Path.{subst}
 use Prim.Native.Nat.{ℕ, ◌<◌}
 use native.Mathlib.Omega.{arith}
 use borrow.Author.Rules.{rules}
@@ -25,7 +26,10 @@ called : (τ : ℕ) → (c : goal.Then-y-from τ) → let a = c.args in let k = 
     (t' : Trie) (rest : List ℕ) (g : Segment a.w.now a.b a.i a.e a.u t' rest) →
     let n = inside-then-y-from τ c t' rest a.u g in
     Spliced a.w.now c.remove-y.new.w a.b (begin (above_of a.from k) k.first (left g n)) c.remove-y.result (left g n) (behind g n.branch c.in-Inner.bit)
-called τ c t' rest g = rw c.above.ensures at (c.remove-y.ensures _ _ (child-here g (inside-then-y-from τ c t' rest _ g)))
+called τ c t' rest g = let a = c.args in
+    let k = c.in-Inner.c in
+    let n = inside-then-y-from τ c t' rest a.u g in
+    subst (λ z. Spliced a.w.now c.remove-y.new.w a.b (begin z k.first (left g n)) c.remove-y.result (left g n) (behind g n.branch c.in-Inner.bit)) c.above.ensures (c.remove-y.ensures _ _ (child-here g n))
 
 -- what the step says of any trie that stands there
 inside-relink-arg-1 : (τ : ℕ) → (c : goal.After-relink-arg-1 τ) → let a = c.args in (t : Trie) (rest : List ℕ) (u : ℕ) → Segment a.w.now a.b a.i a.e u t rest → Inside a.s a.i a.e t c.in-Inner.bit c.in-Inner.c c.in-Inner.later
@@ -36,7 +40,10 @@ called-relink-arg-1 : (τ : ℕ) → (c : goal.After-relink-arg-1 τ) → let a 
     (t' : Trie) (rest : List ℕ) (g : Segment a.w.now a.b a.i a.e a.u t' rest) →
     let n = inside-relink-arg-1 τ c t' rest a.u g in
     Spliced a.w.now c.remove-y.new.w a.b (begin (above_of a.from k) k.first (left g n)) c.remove-y.result (left g n) (behind g n.branch c.in-Inner.bit)
-called-relink-arg-1 τ c t' rest g = rw c.above.ensures at (c.remove-y.ensures _ _ (child-here g (inside-relink-arg-1 τ c t' rest _ g)))
+called-relink-arg-1 τ c t' rest g = let a = c.args in
+    let k = c.in-Inner.c in
+    let n = inside-relink-arg-1 τ c t' rest a.u g in
+    subst (λ z. Spliced a.w.now c.remove-y.new.w a.b (begin z k.first (left g n)) c.remove-y.result (left g n) (behind g n.branch c.in-Inner.bit)) c.above.ensures (c.remove-y.ensures _ _ (child-here g n))
 
 -- what the step says of any trie that stands there
 inside-slice_known-in-inner-2-1 : (τ : ℕ) → (c : goal.After-slice_known-in-Inner-2-1 τ) → let a = c.args in (t : Trie) (rest : List ℕ) (u : ℕ) → Segment a.w.now a.b a.i a.e u t rest → Inside a.s a.i a.e t c.in-Inner.bit c.in-Inner.c c.in-Inner.later
@@ -47,7 +54,10 @@ called-slice_known-in-inner-2-1 : (τ : ℕ) → (c : goal.After-slice_known-in-
     (t' : Trie) (rest : List ℕ) (g : Segment a.w.now a.b a.i a.e a.u t' rest) →
     let n = inside-slice_known-in-inner-2-1 τ c t' rest a.u g in
     Spliced a.w.now c.remove-y.new.w a.b (begin (above_of a.from k) k.first (left g n)) c.remove-y.result (left g n) (behind g n.branch c.in-Inner.bit)
-called-slice_known-in-inner-2-1 τ c t' rest g = rw c.above.ensures at (c.remove-y.ensures _ _ (child-here g (inside-slice_known-in-inner-2-1 τ c t' rest _ g)))
+called-slice_known-in-inner-2-1 τ c t' rest g = let a = c.args in
+    let k = c.in-Inner.c in
+    let n = inside-slice_known-in-inner-2-1 τ c t' rest a.u g in
+    subst (λ z. Spliced a.w.now c.remove-y.new.w a.b (begin z k.first (left g n)) c.remove-y.result (left g n) (behind g n.branch c.in-Inner.bit)) c.above.ensures (c.remove-y.ensures _ _ (child-here g n))
 
 pub step_down-n-requires : goal.step_down-n-requires
 step_down-n-requires τ c = let p = c.requires in (p.0, (p.1.t, p.1.rest, _, p.1.here))

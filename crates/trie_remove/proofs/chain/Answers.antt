@@ -39,4 +39,4 @@ loop-bit-smaller c = omega (arith, chain-less c.loop-bit.invariant _ _ (bit-slic
 
 pub loop-bit-preserved : goal.loop-bit-preserved
 loop-bit-preserved c = let h = c.halve-k in
-    chain-turn c.loop-bit.invariant _ _ _ _ (bit-slice_known-in-bit-1 c) h.auto.0 h.ensures.0 h.ensures.1
+    chain-turn c.loop-bit.invariant _ _ _ _ (bit-slice_known-in-bit-1 c) h.auto.w h.ensures.0 h.ensures.1

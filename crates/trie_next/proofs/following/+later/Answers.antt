@@ -144,56 +144,48 @@ pub middle-m-requires : goal.middle-m-requires
 middle-m-requires τ c = omega (arith, spans-small c.requires.by_index.3.stands)
 
 pub second-requires : goal.second-requires
-second-requires τ c = let d = middle t c in
-    let o = (start t d).pre.1.1 in
-    record { len_bound = path-goes-on o.3 (halves τ d o.3.stands); by_index = (o.0, o.1, o.3.path) }
+second-requires τ c = let o = c.requires.by_index in
+    record { len_bound = path-goes-on o.3 (halves τ c o.3.stands); by_index = (o.0, o.1, o.3.path) }
 
 pub later-requires : goal.later-requires
-later-requires τ c = let d = middle t c in
-    let q = (start t d).pre in
-    let o = q.1.1.3 in
-    let k = halves-second τ d o.stands in
-    ((forked-falls k q.0).1, (omega (arith, (more τ c).len, q.1.0), (q.1.1.0, snoc q.1.1.1 true, k.r, located-right o k (c.second.ensures _ _ o.path))))
+later-requires τ c = let o = c.requires.by_index.3 in
+    let k = halves-second τ c o.stands in
+    ((forked-falls k c.decreases).1, (omega (arith, (more τ c).len, c.requires.len_bound), (c.requires.by_index.0, snoc c.requires.by_index.1 true, k.r, located-right o k (c.second.ensures _ _ o.path))))
 
 pub returns-then-bit : goal.returns-then-bit
-returns-then-bit τ c f p u o = let k = halves-later τ (middle t c) o.stands in
+returns-then-bit τ c f p u o = let k = halves-later τ c o.stands in
     later_second f p k _ _ (bits_are τ c c.if-bit.true) (c.later.ensures _ _ _ (located-right o k (c.second.ensures _ _ o.path)))
 
 pub overflow_add-i : goal.overflow_add-i
-overflow_add-i τ c = omega (arith, spans-small (start t (middle t c)).pre.1.1.3.stands)
+overflow_add-i τ c = omega (arith, spans-small c.requires.by_index.3.stands)
 
 pub first-requires : goal.first-requires
-first-requires τ c = let d = middle t c in let o = (start t d).pre.1.1.3 in path-goes-on o (halves-else-bit τ d o.stands)
+first-requires τ c = let o = c.requires.by_index.3 in path-goes-on o (halves-else-bit τ c o.stands)
 
 pub later-n-requires : goal.later-n-requires
-later-n-requires τ c = let d = middle t c in
-    let q = (start t d).pre in
-    let o = q.1.1.3 in
-    let k = halves-first τ d o.stands in
-    ((forked-falls k q.0).0, (omega (arith, (more-first τ c).len, q.1.0), (q.1.1.0, snoc q.1.1.1 false, k.l, located-left o k (c.first.ensures _ _ o.path))))
+later-n-requires τ c = let o = c.requires.by_index.3 in
+    let k = halves-first τ c o.stands in
+    ((forked-falls k c.decreases).0, (omega (arith, (more-first τ c).len, c.requires.len_bound), (c.requires.by_index.0, snoc c.requires.by_index.1 false, k.l, located-left o k (c.first.ensures _ _ o.path))))
 
 pub second-requires-in-End-n : goal.second-requires-in-End-n
-second-requires-in-End-n τ c = let d = middle t c in
-    let o = (start t d).pre.1.1 in
-    record { len_bound = path-goes-on o.3 (halves-in-end-n τ d o.3.stands); by_index = (o.0, o.1, o.3.path) }
+second-requires-in-End-n τ c = let o = c.requires.by_index in
+    record { len_bound = path-goes-on o.3 (halves-in-end-n τ c o.3.stands); by_index = (o.0, o.1, o.3.path) }
 
 pub first_at-requires : goal.first_at-requires
-first_at-requires τ c = let d = middle t c in
-    let o = (start t d).pre.1.1 in
-    let k = halves-struct_known-1 τ d o.3.stands in
+first_at-requires τ c = let o = c.requires.by_index in
+    let k = halves-struct_known-1 τ c o.3.stands in
     (o.0, snoc o.1 true, k.r, located-right o.3 k (c.second-in-End-n.ensures _ _ o.3.path))
 
 pub returns-in-End : goal.returns-in-End
-returns-in-End τ c f p u o = later-inner f p (halves-in-end τ c o.stands) _ (hands_end _ _ (start t c).requires.1.0 c.next-bits.ensures c.in-End.is)
+returns-in-End τ c f p u o = later-inner f p (halves-in-end τ c o.stands) _ (hands_end _ _ c.requires.len_bound c.next-bits.ensures c.in-End.is)
 
 pub returns-in-Network : goal.returns-in-Network
-returns-in-Network τ c f p u o = let k = halves-in-network τ (middle t c) o.stands in
+returns-in-Network τ c f p u o = let k = halves-in-network τ c o.stands in
     later-left f p k _ _ (bits_are-in-network τ c c.if-bit.false) (c.later-n.ensures _ _ _ (located-left o k (c.first.ensures _ _ o.path))) c.in-Network.is
 
 pub returns-in-End-n : goal.returns-in-End-n
-returns-in-End-n τ c f p u o = let d = middle t c in
-    let k = halves-first_at τ d o.stands in
+returns-in-End-n τ c f p u o = let k = halves-first_at τ c o.stands in
     let r = c.first_at.ensures _ _ _ (located-right o k (c.second-in-End-n.ensures _ _ o.path)) in
     let z = c.in-Bit.rest in
     later-right f p k _ _ (bits_are-first_at τ c c.if-bit.false) (c.later-n.ensures _ _ _ (located-left o k (c.first.ensures _ _ o.path))) c.in-End-n.is
-    (rw (length-bits_left z (omega (arith, (more-first_at τ c).len, (start t d).pre.1.0))) r)
+    (rw (length-bits_left z (omega (arith, (more-first_at τ c).len, c.requires.len_bound))) r)
