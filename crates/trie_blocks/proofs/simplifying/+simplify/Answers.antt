@@ -70,35 +70,35 @@ pub look-v-requires : goal.look-v-requires
 look-v-requires τ c = let (t, g) = c.requires.0 in (t, g.rest, g.u, g.here)
 
 pub overflow_add-i : goal.overflow_add-i
-overflow_add-i τ c = let g = (start n c).pre.1.0.1 in omega arith
+overflow_add-i τ c = let g = c.requires.0.1 in omega arith
 
 pub overflow_add-o : goal.overflow_add-o
-overflow_add-o τ c = let g = (start n c).pre.1.0.1 in omega arith
+overflow_add-o τ c = let g = c.requires.0.1 in omega arith
 
 pub overflow_sub-fuel : goal.overflow_sub-fuel
 overflow_sub-fuel τ c = fork-fuel (here τ c).1
 
 pub simplify-l-requires : goal.simplify-l-requires
 simplify-l-requires τ c = let f = here τ c in
-    (omega (arith, fork-fuel f.1, (start n c).pre.0), ((f.0.l, left-source f.1), left-apart f.1 (start n c).pre.1.1))
+    (omega (arith, fork-fuel f.1, c.decreases), ((f.0.l, left-source f.1), left-apart f.1 c.requires.1))
 
 pub overflow_add-o-in-Inner : goal.overflow_add-o-in-Inner
-overflow_add-o-in-Inner τ c = let g = (start n c).pre.1.0.1 in omega arith
+overflow_add-o-in-Inner τ c = let g = c.requires.0.1 in omega arith
 
 pub end_of-k-requires : goal.end_of-k-requires
-end_of-k-requires τ c = let g = (start n c).pre.1.0.1 in omega arith
+end_of-k-requires τ c = let g = c.requires.0.1 in omega arith
 
 pub join_from-p-requires : goal.join_from-p-requires
 join_from-p-requires τ c = let f = here-end_of-k τ c in
     let g = (rest-source f.1 _ _ _ c.simplify-l.ensures c.end_of-k.ensures).here in
-    record { le_m = segment-asks g; apart = right-apart f.1 (start n c).requires.1.1 g }
+    record { le_m = segment-asks g; apart = right-apart f.1 c.requires.1 g }
 
 pub overflow_sub-fuel-in-Inner : goal.overflow_sub-fuel-in-Inner
 overflow_sub-fuel-in-Inner τ c = fork-fuel (here-simplify-arg-in-inner-1 τ c).1
 
 pub simplify-r-requires : goal.simplify-r-requires
 simplify-r-requires τ c = let f = here-simplify-arg-in-inner-1 τ c in
-    (omega (arith, fork-fuel f.1, (start n c).requires.0), ((f.0.r, rest-source f.1 _ _ _ c.simplify-l.ensures c.end_of-k.ensures), c.join_from-p.ensures))
+    (omega (arith, fork-fuel f.1, c.decreases), ((f.0.r, rest-source f.1 _ _ _ c.simplify-l.ensures c.end_of-k.ensures), c.join_from-p.ensures))
 
 pub finish-requires : goal.finish-requires
 finish-requires τ c = let f = here-finish-arg-1 τ c in
