@@ -50,28 +50,28 @@ pub returns-then-v-eq-FULL : goal.returns-then-v-eq-FULL
 returns-then-v-eq-FULL τ c t u s = leaves-full s _ _ (c.outcome-v.ensures 0 0 t u s.first s.second) c.if-v-eq-FULL.true
 
 pub halves-p-requires : goal.halves-p-requires
-halves-p-requires τ c = let (t, u, s) = (start n c).requires.1 in (0, 0, t, u, s.first, s.second)
+halves-p-requires τ c = let (t, u, s) = c.requires in (0, 0, t, u, s.first, s.second)
 
 pub overflow_sub-fuel : goal.overflow_sub-fuel
-overflow_sub-fuel τ c = let s = (start n c).pre.1.2 in omega arith
+overflow_sub-fuel τ c = let s = c.requires.2 in omega arith
 
 pub leaves-requires : goal.leaves-requires
-leaves-requires τ c = let (t, u, s) = (start n c).requires.1 in
-    (omega (arith, (start n c).requires.0, s.turn), (_, _, halved τ c t u s false _ _ (c.halves-p.ensures 0 0 t u s.first s.second)))
+leaves-requires τ c = let (t, u, s) = c.requires in
+    (omega (arith, c.decreases, s.turn), (_, _, halved τ c t u s false _ _ (c.halves-p.ensures 0 0 t u s.first s.second)))
 
 pub returns-then-leaves : goal.returns-then-leaves
 returns-then-leaves τ c t u s = leaves-first s _ _ (c.outcome-v.ensures 0 0 t u s.first s.second) c.if-v-eq-EMPTY.false c.if-v-eq-FULL.false _
     (c.leaves.ensures _ _ (halved-then-leaves τ c t u s false _ _ (c.halves-p.ensures 0 0 t u s.first s.second))) c.if-leaves.true
 
 pub halves-q-requires : goal.halves-q-requires
-halves-q-requires τ c = let (t, u, s) = (start n c).pre.1 in (0, 0, t, u, s.first, s.second)
+halves-q-requires τ c = let (t, u, s) = c.requires in (0, 0, t, u, s.first, s.second)
 
 pub overflow_sub-fuel-2 : goal.overflow_sub-fuel-2
-overflow_sub-fuel-2 τ c = let s = (start n c).pre.1.2 in omega arith
+overflow_sub-fuel-2 τ c = let s = c.requires.2 in omega arith
 
 pub leaves-requires-2 : goal.leaves-requires-2
-leaves-requires-2 τ c = let (t, u, s) = (start n c).requires.1 in
-    (omega (arith, (start n c).requires.0, s.turn), (_, _, halved-halves-q τ c t u s true _ _ (c.halves-q.ensures 0 0 t u s.first s.second)))
+leaves-requires-2 τ c = let (t, u, s) = c.requires in
+    (omega (arith, c.decreases, s.turn), (_, _, halved-halves-q τ c t u s true _ _ (c.halves-q.ensures 0 0 t u s.first s.second)))
 
 pub returns : goal.returns
 returns τ c t u s = leaves-second s _ _ (c.outcome-v.ensures 0 0 t u s.first s.second) c.if-v-eq-EMPTY.false c.if-v-eq-FULL.false _ _

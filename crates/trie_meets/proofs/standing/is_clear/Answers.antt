@@ -3,7 +3,7 @@ use Rattle.trie_meets.proofs.Inside.{stands-means}
 use Rattle.trie_meets.proofs.standing.is_clear.Goals as goal
 
 pub is_public-requires : goal.is_public-requires
-is_public-requires c = let p = c.requires in let (f, t, s, z) = p.1 in (0, 0, t, stands-means t p.0.0 p.0.1 s z)
+is_public-requires c = let p = c.requires in let (f, t, s, z) = p.by_index in (0, 0, t, stands-means t p.room.0 p.room.1 s z)
 
 pub returns : goal.returns
-returns c f t s z = let p = c.requires in c.is_public.ensures 0 0 t (stands-means t p.0.0 p.0.1 s z)
+returns c f t s z = let p = c.requires in c.is_public.ensures 0 0 t (stands-means t p.room.0 p.room.1 s z)
