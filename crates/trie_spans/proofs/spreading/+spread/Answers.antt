@@ -144,49 +144,49 @@ pub returns-then-k-ne-MIXED : goal.returns-then-k-ne-MIXED
 returns-then-k-ne-MIXED τ c g t s p = spread-flat t s _ (c.kind-k.ensures _ g t s.first) c.if-k-ne-MIXED.true
 
 pub word-requires : goal.word-requires
-word-requires τ c = let (g, t, s, p) = (begun n c).pre.1.0 in let f = fork-fits (fork τ c g t s) in (f.0, f.1)
+word-requires τ c = let (g, t, s, p) = c.requires.0 in let f = fork-fits (fork τ c g t s) in (f.0, f.1)
 
 pub middle-m-requires : goal.middle-m-requires
-middle-m-requires τ c = let (g, t, s, p) = (begun n c).requires.1.0 in omega (arith, fork-fits (fork-word τ c g t s), c.word.ensures.1)
+middle-m-requires τ c = let (g, t, s, p) = c.requires.0 in omega (arith, fork-fits (fork-word τ c g t s), c.word.ensures.1)
 
 pub overflow_add-i : goal.overflow_add-i
-overflow_add-i τ c = let (g, t, s, p) = (start n c).requires.1.0 in omega (arith, fork-fits (fork-spread-arg-1 τ c g t s))
+overflow_add-i τ c = let (g, t, s, p) = c.requires.0 in omega (arith, fork-fits (fork-spread-arg-1 τ c g t s))
 
 pub overflow_add-o : goal.overflow_add-o
-overflow_add-o τ c = let (g, t, s, p) = (start n c).pre.1.0 in omega (arith, s.few)
+overflow_add-o τ c = let (g, t, s, p) = c.requires.0 in omega (arith, s.few)
 
 pub overflow_sub-fuel : goal.overflow_sub-fuel
-overflow_sub-fuel τ c = let (g, t, s, p) = (start n c).pre.1.0 in s.turn
+overflow_sub-fuel τ c = let (g, t, s, p) = c.requires.0 in s.turn
 
 pub spread-l-requires : goal.spread-l-requires
-spread-l-requires τ c = let ((g, t, s, p), a) = (start n c).requires.1 in
+spread-l-requires τ c = let ((g, t, s, p), a) = c.requires in
     let d = parts τ c g t s in
-    (omega (arith, (start n c).requires.0, s.turn), ((g, _, left-extents d, left-room d p), spread-left t s (fork-spread-arg-1 τ c g t s) _ (middle τ c g t s) a))
+    (omega (arith, c.decreases, s.turn), ((g, _, left-extents d, left-room d p), spread-left t s (fork-spread-arg-1 τ c g t s) _ (middle τ c g t s) a))
 
 pub join_from-p-requires : goal.join_from-p-requires
-join_from-p-requires τ c = let ((g, t, s, p), a) = (start n c).requires.1 in
+join_from-p-requires τ c = let ((g, t, s, p), a) = c.requires in
     let l = wrote τ c g t s p in
     let f = fork-slice_known-2-1 τ c g t s in
     record { le_m = spread-still t s f _ (middle-slice_known-2-1 τ c g t s) l; apart = spread-right t s f _ (middle-slice_known-2-1 τ c g t s) a (right-extents (parts-slice_known-2-1 τ c g t s) p _ _ l).first }
 
 pub overflow_add-o-2 : goal.overflow_add-o-2
-overflow_add-o-2 τ c = let (g, t, s, p) = (start n c).pre.1.0 in omega (arith, s.few)
+overflow_add-o-2 τ c = let (g, t, s, p) = c.requires.0 in omega (arith, s.few)
 
 pub overflow_add-o-3 : goal.overflow_add-o-3
-overflow_add-o-3 τ c = let (g, t, s, p) = (start n c).pre.1.0 in
+overflow_add-o-3 τ c = let (g, t, s, p) = c.requires.0 in
     omega (arith, (right-extents (parts-spread-arg-2-1 τ c g t s) p _ _ (wrote-spread-arg-2-1 τ c g t s p)).few)
 
 pub overflow_sub-fuel-2 : goal.overflow_sub-fuel-2
-overflow_sub-fuel-2 τ c = let (g, t, s, p) = (start n c).pre.1.0 in s.turn
+overflow_sub-fuel-2 τ c = let (g, t, s, p) = c.requires.0 in s.turn
 
 pub spread-r-requires : goal.spread-r-requires
-spread-r-requires τ c = let ((g, t, s, p), a) = (start n c).requires.1 in
+spread-r-requires τ c = let ((g, t, s, p), a) = c.requires in
     let d = parts-spread-arg-2-1 τ c g t s in
     let l = wrote-spread-arg-2-1 τ c g t s p in
-    (omega (arith, (start n c).requires.0, s.turn), ((g, _, right-extents d p _ _ l, right-room d p _ _ l), c.join_from-p.ensures))
+    (omega (arith, c.decreases, s.turn), ((g, _, right-extents d p _ _ l, right-room d p _ _ l), c.join_from-p.ensures))
 
 pub over_halves-requires : goal.over_halves-requires
-over_halves-requires τ c = let (g, t, s, p) = (start n c).pre.1.0 in
+over_halves-requires τ c = let (g, t, s, p) = c.requires.0 in
     (_, _, _, both (parts-over_halves-arg-1 τ c g t s) p _ _ (wrote-over_halves-arg-1 τ c g t s p) _ _ (wrote-rest τ c g t s p))
 
 pub returns : goal.returns
