@@ -182,34 +182,34 @@ pub returns-then-not-are_mixed : goal.returns-then-not-are_mixed
 returns-then-not-are_mixed τ c g t u s p = c.flat.ensures g t u s p (c.kind-x.ensures _ g t s.first) (c.kind-y.ensures _ g u s.second)
 
 pub word-p-requires : goal.word-p-requires
-word-p-requires τ c = let (g, t, u, s, p) = (begun n c).pre.1 in let f = fork-fits (forks τ c g t u s).first in (f.0, f.1)
+word-p-requires τ c = let (g, t, u, s, p) = c.requires in let f = fork-fits (forks τ c g t u s).first in (f.0, f.1)
 
 pub word-q-requires : goal.word-q-requires
-word-q-requires τ c = let (g, t, u, s, p) = (begun n c).requires.1 in let f = fork-fits (forks-word-p τ c g t u s).second in (f.0, f.1)
+word-q-requires τ c = let (g, t, u, s, p) = c.requires in let f = fork-fits (forks-word-p τ c g t u s).second in (f.0, f.1)
 
 pub overflow_add-a : goal.overflow_add-a
-overflow_add-a τ c = let i = mixed n c in let (g, t, u, s, p) = (begun n i).pre.1 in omega (arith, fork-fits (forks-combine-arg-1 τ i g t u s).first)
+overflow_add-a τ c = let (g, t, u, s, p) = c.requires in omega (arith, fork-fits (forks-combine-arg-1 τ c g t u s).first)
 
 pub overflow_add-c : goal.overflow_add-c
-overflow_add-c τ c = let i = mixed n c in let (g, t, u, s, p) = (begun n i).pre.1 in omega (arith, fork-fits (forks-combine-arg-1 τ i g t u s).second)
+overflow_add-c τ c = let (g, t, u, s, p) = c.requires in omega (arith, fork-fits (forks-combine-arg-1 τ c g t u s).second)
 
 pub overflow_add-o : goal.overflow_add-o
-overflow_add-o τ c = let (g, t, u, s, p) = (start n c).pre.1 in omega (arith, s.few)
+overflow_add-o τ c = let (g, t, u, s, p) = c.requires in omega (arith, s.few)
 
 pub overflow_sub-fuel : goal.overflow_sub-fuel
-overflow_sub-fuel τ c = let (g, t, u, s, p) = (start n c).pre.1 in s.turn
+overflow_sub-fuel τ c = let (g, t, u, s, p) = c.requires in s.turn
 
 pub combine-n-requires : goal.combine-n-requires
-combine-n-requires τ c = let (g, t, u, s, p) = (start n c).pre.1 in
-    let f = forks-combine-arg-1 τ (mixed n c) g t u s in
+combine-n-requires τ c = let (g, t, u, s, p) = c.requires in
+    let f = forks-combine-arg-1 τ c g t u s in
     let y = c.word-p.ensures.0 in
     let z = c.word-q.ensures.0 in
     let h = told τ c in
-    let op = (start n c).args.op in
-    (omega (arith, (start n c).pre.0, s.turn), (g, _, _, only-extents f op _ _ y z h 1 (omega arith), only-room f op _ _ y z h p))
+    let op = c.args.op in
+    (omega (arith, c.decreases, s.turn), (g, _, _, only-extents f op _ _ y z h 1 (omega arith), only-room f op _ _ y z h p))
 
 pub above-requires : goal.above-requires
-above-requires τ c = let (g, t, u, s, p) = (start n c).pre.1 in
+above-requires τ c = let (g, t, u, s, p) = c.requires in
     (_, _, _, (only-done τ c g t u s p).2)
 
 pub returns-then-is_only : goal.returns-then-is_only
@@ -217,57 +217,52 @@ returns-then-is_only τ c g t u s p = let (d, r, h, e) = only-done-slice_known-t
     rw e (c.above.ensures _ d r h)
 
 pub middle-m-requires : goal.middle-m-requires
-middle-m-requires τ c = let i = mixed n c in
-    let (g, t, u, s, p) = (begun n i).pre.1 in
-    omega (arith, fork-fits (forks-else-is_only τ i g t u s).first, c.word-p.ensures.1)
+middle-m-requires τ c = let (g, t, u, s, p) = c.requires in
+    omega (arith, fork-fits (forks-else-is_only τ c g t u s).first, c.word-p.ensures.1)
 
 pub middle-k-requires : goal.middle-k-requires
-middle-k-requires τ c = let i = mixed n c in
-    let (g, t, u, s, p) = (begun n i).pre.1 in
-    omega (arith, fork-fits (forks-middle-m τ i g t u s).second, c.word-q.ensures.1)
+middle-k-requires τ c = let (g, t, u, s, p) = c.requires in
+    omega (arith, fork-fits (forks-middle-m τ c g t u s).second, c.word-q.ensures.1)
 
 pub overflow_add-a-2 : goal.overflow_add-a-2
-overflow_add-a-2 τ c = let i = mixed n (worded n c) in let (g, t, u, s, p) = (begun n i).pre.1 in omega (arith, fork-fits (forks-combine-arg-2-1 τ i g t u s).first)
+overflow_add-a-2 τ c = let (g, t, u, s, p) = c.requires in omega (arith, fork-fits (forks-combine-arg-2-1 τ c g t u s).first)
 
 pub overflow_add-c-2 : goal.overflow_add-c-2
-overflow_add-c-2 τ c = let i = mixed n (worded n c) in let (g, t, u, s, p) = (begun n i).pre.1 in omega (arith, fork-fits (forks-combine-arg-2-1 τ i g t u s).second)
+overflow_add-c-2 τ c = let (g, t, u, s, p) = c.requires in omega (arith, fork-fits (forks-combine-arg-2-1 τ c g t u s).second)
 
 pub overflow_add-o-2 : goal.overflow_add-o-2
-overflow_add-o-2 τ c = let (g, t, u, s, p) = (start n (worded n c)).pre.1 in omega (arith, s.few)
+overflow_add-o-2 τ c = let (g, t, u, s, p) = c.requires in omega (arith, s.few)
 
 pub overflow_sub-fuel-2 : goal.overflow_sub-fuel-2
-overflow_sub-fuel-2 τ c = let (g, t, u, s, p) = (start n (worded n c)).pre.1 in s.turn
+overflow_sub-fuel-2 τ c = let (g, t, u, s, p) = c.requires in s.turn
 
 pub combine-l-requires : goal.combine-l-requires
-combine-l-requires τ c = let (g, t, u, s, p) = (start n (worded n c)).pre.1 in
+combine-l-requires τ c = let (g, t, u, s, p) = c.requires in
     let d = parts τ c g t u s in
-    (omega (arith, (start n (worded n c)).pre.0, s.turn), (g, _, _, left-extents d, left-room d p))
+    (omega (arith, c.decreases, s.turn), (g, _, _, left-extents d, left-room d p))
 
 pub overflow_add-o-3 : goal.overflow_add-o-3
-overflow_add-o-3 τ c = let (g, t, u, s, p) = (start n (worded n (inside n c))).pre.1 in omega (arith, s.few)
+overflow_add-o-3 τ c = let (g, t, u, s, p) = c.requires in omega (arith, s.few)
 
 pub overflow_add-o-4 : goal.overflow_add-o-4
-overflow_add-o-4 τ c = let (g, t, u, s, p) = (start n (worded n (inside n c))).pre.1 in
-    omega (arith, (right-extents (parts-combine-arg-3-1 τ (inside n c) g t u s) p _ _ (wrote τ c g t u s p)).few)
+overflow_add-o-4 τ c = let (g, t, u, s, p) = c.requires in
+    omega (arith, (right-extents (parts-combine-arg-3-1 τ c g t u s) p _ _ (wrote τ c g t u s p)).few)
 
 pub overflow_sub-fuel-3 : goal.overflow_sub-fuel-3
-overflow_sub-fuel-3 τ c = let (g, t, u, s, p) = (start n (worded n (inside n c))).pre.1 in s.turn
+overflow_sub-fuel-3 τ c = let (g, t, u, s, p) = c.requires in s.turn
 
 pub combine-r-requires : goal.combine-r-requires
-combine-r-requires τ c = let i = inside n c in
-    let (g, t, u, s, p) = (start n (worded n i)).pre.1 in
-    let d = parts-combine-arg-3-1 τ i g t u s in
+combine-r-requires τ c = let (g, t, u, s, p) = c.requires in
+    let d = parts-combine-arg-3-1 τ c g t u s in
     let l = wrote τ c g t u s p in
-    (omega (arith, (start n (worded n i)).pre.0, s.turn), (g, _, _, right-extents d p _ _ l, right-room d p _ _ l))
+    (omega (arith, c.decreases, s.turn), (g, _, _, right-extents d p _ _ l, right-room d p _ _ l))
 
 pub over_halves-requires : goal.over_halves-requires
-over_halves-requires τ c = let k = first n c in
-    let (g, t, u, s, p) = (start n (worded n (inside n k))).pre.1 in
-    (_, _, _, both (parts-over_halves-arg-1 τ (inside n k) g t u s) p _ _ (wrote-over_halves-arg-1 τ k g t u s p) _ _ (wrote-rest τ c g t u s p))
+over_halves-requires τ c = let (g, t, u, s, p) = c.requires in
+    (_, _, _, both (parts-over_halves-arg-1 τ c g t u s) p _ _ (wrote-over_halves-arg-1 τ c g t u s p) _ _ (wrote-rest τ c g t u s p))
 
 pub returns : goal.returns
-returns τ c g t u s p = let k = first n c in
-    let d = parts-slice_known-4-1 τ (inside n k) g t u s in
-    let l = wrote-slice_known-4-1 τ k g t u s p in
+returns τ c g t u s p = let d = parts-slice_known-4-1 τ c g t u s in
+    let l = wrote-slice_known-4-1 τ c g t u s p in
     let h = wrote-rest-slice_known-4-1 τ c g t u s p in
     combined d p _ _ l _ _ h _ _ (c.over_halves.ensures _ _ _ (both d p _ _ l _ _ h))

@@ -155,63 +155,61 @@ pub returns-then-not-are_mixed : goal.returns-then-not-are_mixed
 returns-then-not-are_mixed τ c t u s = c.flat.ensures t u s (c.kind-x.ensures _ _ t s.first) (c.kind-y.ensures _ _ u s.second)
 
 pub word-p-requires : goal.word-p-requires
-word-p-requires τ c = let (t, u, s) = (begun n c).requires.1 in let f = fork-fits (forks τ c t u s).first in (f.0, f.1)
+word-p-requires τ c = let (t, u, s) = c.requires in let f = fork-fits (forks τ c t u s).first in (f.0, f.1)
 
 pub word-q-requires : goal.word-q-requires
-word-q-requires τ c = let (t, u, s) = (begun n c).requires.1 in let f = fork-fits (forks-word-p τ c t u s).second in (f.0, f.1)
+word-q-requires τ c = let (t, u, s) = c.requires in let f = fork-fits (forks-word-p τ c t u s).second in (f.0, f.1)
 
 pub overflow_add-a : goal.overflow_add-a
-overflow_add-a τ c = let i = mixed n c in let (t, u, s) = (begun n i).pre.1 in omega (arith, fork-fits (forks-then-is_only τ i t u s).first)
+overflow_add-a τ c = let (t, u, s) = c.requires in omega (arith, fork-fits (forks-then-is_only τ c t u s).first)
 
 pub overflow_add-c : goal.overflow_add-c
-overflow_add-c τ c = let i = mixed n c in let (t, u, s) = (begun n i).pre.1 in omega (arith, fork-fits (forks-then-is_only τ i t u s).second)
+overflow_add-c τ c = let (t, u, s) = c.requires in omega (arith, fork-fits (forks-then-is_only τ c t u s).second)
 
 pub overflow_sub-fuel : goal.overflow_sub-fuel
-overflow_sub-fuel τ c = let (t, u, s) = (start n c).pre.1 in s.turn
+overflow_sub-fuel τ c = let (t, u, s) = c.requires in s.turn
 
 pub count-n-requires : goal.count-n-requires
-count-n-requires τ c = let (t, u, s) = (start n c).pre.1 in
-    let f = forks-then-is_only τ (mixed n c) t u s in
-    let op = (start n c).args.op in
-    (omega (arith, (start n c).pre.0, s.turn), (_, _, only-extents f op _ _ c.word-p.ensures.0 c.word-q.ensures.0 (told τ c) 0 (omega arith)))
+count-n-requires τ c = let (t, u, s) = c.requires in
+    let f = forks-then-is_only τ c t u s in
+    let op = c.args.op in
+    (omega (arith, c.decreases, s.turn), (_, _, only-extents f op _ _ c.word-p.ensures.0 c.word-q.ensures.0 (told τ c) 0 (omega arith)))
 
 pub above_nodes-requires : goal.above_nodes-requires
-above_nodes-requires τ c = let (t, u, s) = (start n c).pre.1 in let (d, v, p, q, e) = only-done τ c t u s in omega arith
+above_nodes-requires τ c = let (t, u, s) = c.requires in let (d, v, p, q, e) = only-done τ c t u s in omega arith
 
 pub returns-then-is_only : goal.returns-then-is_only
 returns-then-is_only τ c t u s = let (d, v, p, q, e) = only-done-above_nodes τ c t u s in rw e (c.above_nodes.ensures d v p)
 
 pub middle-m-requires : goal.middle-m-requires
-middle-m-requires τ c = let i = mixed n c in
-    let (t, u, s) = (begun n i).pre.1 in
-    omega (arith, fork-fits (forks-else-is_only τ i t u s).first, c.word-p.ensures.1)
+middle-m-requires τ c = let (t, u, s) = c.requires in
+    omega (arith, fork-fits (forks-else-is_only τ c t u s).first, c.word-p.ensures.1)
 
 pub middle-k-requires : goal.middle-k-requires
-middle-k-requires τ c = let i = mixed n c in
-    let (t, u, s) = (begun n i).pre.1 in
-    omega (arith, fork-fits (forks-middle-m τ i t u s).second, c.word-q.ensures.1)
+middle-k-requires τ c = let (t, u, s) = c.requires in
+    omega (arith, fork-fits (forks-middle-m τ c t u s).second, c.word-q.ensures.1)
 
 pub overflow_add-a-2 : goal.overflow_add-a-2
-overflow_add-a-2 τ c = let i = mixed n (worded n c) in let (t, u, s) = (begun n i).pre.1 in omega (arith, fork-fits (forks-middle-k τ i t u s).first)
+overflow_add-a-2 τ c = let (t, u, s) = c.requires in omega (arith, fork-fits (forks-middle-k τ c t u s).first)
 
 pub overflow_add-c-2 : goal.overflow_add-c-2
-overflow_add-c-2 τ c = let i = mixed n (worded n c) in let (t, u, s) = (begun n i).pre.1 in omega (arith, fork-fits (forks-middle-k τ i t u s).second)
+overflow_add-c-2 τ c = let (t, u, s) = c.requires in omega (arith, fork-fits (forks-middle-k τ c t u s).second)
 
 pub overflow_sub-fuel-2 : goal.overflow_sub-fuel-2
-overflow_sub-fuel-2 τ c = let (t, u, s) = (start n (worded n c)).pre.1 in s.turn
+overflow_sub-fuel-2 τ c = let (t, u, s) = c.requires in s.turn
 
 pub count-l-requires : goal.count-l-requires
-count-l-requires τ c = let (t, u, s) = (start n (worded n c)).pre.1 in (omega (arith, (start n (worded n c)).pre.0, s.turn), (_, _, first-extents (parts τ c t u s)))
+count-l-requires τ c = let (t, u, s) = c.requires in (omega (arith, c.decreases, s.turn), (_, _, first-extents (parts τ c t u s)))
 
 pub overflow_sub-fuel-3 : goal.overflow_sub-fuel-3
-overflow_sub-fuel-3 τ c = let (t, u, s) = (start n (worded n c)).pre.1 in s.turn
+overflow_sub-fuel-3 τ c = let (t, u, s) = c.requires in s.turn
 
 pub count-r-requires : goal.count-r-requires
-count-r-requires τ c = let (t, u, s) = (start n (worded n c)).pre.1 in
-    (omega (arith, (start n (worded n c)).pre.0, s.turn), (_, _, second-extents (parts-count-l τ c t u s)))
+count-r-requires τ c = let (t, u, s) = c.requires in
+    (omega (arith, c.decreases, s.turn), (_, _, second-extents (parts-count-l τ c t u s)))
 
 pub over_nodes-requires : goal.over_nodes-requires
-over_nodes-requires τ c = let i = inside n c in let (t, u, s) = (start n (worded n i)).pre.1 in counts-small (parts-count-r τ i t u s) _ _ (first τ c t u s) (second τ c t u s)
+over_nodes-requires τ c = let (t, u, s) = c.requires in counts-small (parts-count-r τ c t u s) _ _ (first τ c t u s) (second τ c t u s)
 
 pub returns : goal.returns
-returns τ c t u s = counted (parts-over_nodes τ (inside n c) t u s) _ _ (first-over_nodes τ c t u s) (second-over_nodes τ c t u s) _ c.over_nodes.ensures
+returns τ c t u s = counted (parts-over_nodes τ c t u s) _ _ (first-over_nodes τ c t u s) (second-over_nodes τ c t u s) _ c.over_nodes.ensures

@@ -111,35 +111,35 @@ pub returns-then-k-ne-MIXED : goal.returns-then-k-ne-MIXED
 returns-then-k-ne-MIXED τ c t s = (spread-flat t s _ (c.kind-k.ensures _ _ t s.first) c.if-k-ne-MIXED.true).counts
 
 pub word-requires : goal.word-requires
-word-requires τ c = let (t, s) = (begun n c).requires.1.0 in let f = fork-fits (fork τ c t s) in (f.0, f.1)
+word-requires τ c = let (t, s) = c.requires.0 in let f = fork-fits (fork τ c t s) in (f.0, f.1)
 
 pub middle-m-requires : goal.middle-m-requires
-middle-m-requires τ c = let (t, s) = (begun n c).requires.1.0 in omega (arith, fork-fits (fork-word τ c t s), c.word.ensures.1)
+middle-m-requires τ c = let (t, s) = c.requires.0 in omega (arith, fork-fits (fork-word τ c t s), c.word.ensures.1)
 
 pub join_from-p-requires : goal.join_from-p-requires
-join_from-p-requires τ c = let ((t, s), a) = (start n c).requires.1 in
+join_from-p-requires τ c = let ((t, s), a) = c.requires in
     let f = fork-middle-m τ c t s in
     record { le_m = spread-asks t s f _ (middle τ c t s); apart = spread-right t s f _ (middle τ c t s) a (fork-right f _ (middle τ c t s)) }
 
 pub overflow_add-i : goal.overflow_add-i
-overflow_add-i τ c = let (t, s) = (begun n c).requires.1.0 in omega (arith, fork-fits (fork-join_from-p τ c t s))
+overflow_add-i τ c = let (t, s) = c.requires.0 in omega (arith, fork-fits (fork-join_from-p τ c t s))
 
 pub overflow_sub-fuel : goal.overflow_sub-fuel
-overflow_sub-fuel τ c = let (t, s) = (start n c).pre.1.0 in s.turn
+overflow_sub-fuel τ c = let (t, s) = c.requires.0 in s.turn
 
 pub spread-l-requires : goal.spread-l-requires
-spread-l-requires τ c = let ((t, s), a) = (start n c).requires.1 in
-    (omega (arith, (start n c).requires.0, s.turn), ((_, first-extents (parts τ c t s)), spread-left t s (fork-join_from-p τ c t s) _ (middle-join_from-p τ c t s) a))
+spread-l-requires τ c = let ((t, s), a) = c.requires in
+    (omega (arith, c.decreases, s.turn), ((_, first-extents (parts τ c t s)), spread-left t s (fork-join_from-p τ c t s) _ (middle-join_from-p τ c t s) a))
 
 pub overflow_sub-fuel-2 : goal.overflow_sub-fuel-2
-overflow_sub-fuel-2 τ c = let (t, s) = (start n c).pre.1.0 in s.turn
+overflow_sub-fuel-2 τ c = let (t, s) = c.requires.0 in s.turn
 
 pub spread-r-requires : goal.spread-r-requires
-spread-r-requires τ c = let (t, s) = (start n c).requires.1.0 in
-    (omega (arith, (start n c).requires.0, s.turn), ((_, second-extents (parts-spread-l τ c t s)), c.join_from-p.ensures))
+spread-r-requires τ c = let (t, s) = c.requires.0 in
+    (omega (arith, c.decreases, s.turn), ((_, second-extents (parts-spread-l τ c t s)), c.join_from-p.ensures))
 
 pub over_nodes-requires : goal.over_nodes-requires
-over_nodes-requires τ c = let i = inside n c in let (t, s) = (start n i).pre.1.0 in counts-small (parts-spread-r τ i t s) _ _ (first τ c t s) (second τ c t s)
+over_nodes-requires τ c = let (t, s) = c.requires.0 in counts-small (parts-spread-r τ c t s) _ _ (first τ c t s) (second τ c t s)
 
 pub returns : goal.returns
-returns τ c t s = counted (parts-over_nodes τ (inside n c) t s) _ _ (first-over_nodes τ c t s) (second-over_nodes τ c t s) _ c.over_nodes.ensures
+returns τ c t s = counted (parts-over_nodes τ c t s) _ _ (first-over_nodes τ c t s) (second-over_nodes τ c t s) _ c.over_nodes.ensures
