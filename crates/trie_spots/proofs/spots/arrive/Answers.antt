@@ -4,7 +4,7 @@ use Rattle.trie_spots.proofs.Onward.{arrive-network, arrive-end}
 use Rattle.trie_spots.proofs.spots.arrive.Goals as goal
 
 pub returns-in-Network : goal.returns-in-Network
-returns-in-Network c = arrive-network _ _ _ c.in-Network.is
+returns-in-Network c = arrive-network c.args.s _ _ c.in-Network.is
 
 pub returns-in-End : goal.returns-in-End
-returns-in-End c = arrive-end _ _ c.in-End.is
+returns-in-End c = arrive-end c.args.s _ c.in-End.is
