@@ -180,7 +180,7 @@ loop-i-preserved c = let l = c.loop-i in
     let a = c.args in
     put_step c.put-next.new.out c.put-next.result a.g (a.from + 1) a.to (eight-slice_known-in-loop-i-1 c) l.i l.out l.next c.put-next-in-loop-i.new.out
     c.put-next-in-loop-i.result c.loop-i-test.true l.invariant
-    (stored-append {c = colon ∷ []} (record { place = refl; bytes = refl }) c.put-next-in-loop-i.ensures)
+    (stored-append {s = colon ∷ []} (record { place = refl; bytes = refl }) c.put-next-in-loop-i.ensures)
 
 pub shape_of-out : goal.shape_of-out
 shape_of-out c = same-still-loop-i c
