@@ -2,7 +2,7 @@
 use mathlib.Core.Bool.{Bool, true, false, not, cond, ◌&&◌, ◌||◌, or-true, false≢true, true≢false}
 use mathlib.Core.List.{List, [], ◌∷◌}
 use mathlib.Core.Logic.{◌⊎◌, inl, inr}
-use mathlib.Core.Path.{◌≡◌, refl, ap, sym, ◌∙◌}
+use mathlib.Core.Path.{◌≡◌, refl, ap, sym, subst, ◌∙◌}
 use Prim.Native.Nat.{◌≤◌}
 use native.Mathlib.Omega.{arith}
 use lib.ListN.{length}
@@ -55,7 +55,7 @@ thin-behind p (x ∷ l) s = go (leads p x) refl (thin-behind p l ((λ q k. s.0 q
     kept-ahead e h q (inr k) = ahead-trans p x q e (h.chain.0 q k)
 
     kept_in : Behind x l (thin_behind x l) → (q : Bits) → (q ≡ x) ⊎ (member q (thin_behind x l) ≡ true) → member q (x ∷ l) ≡ true
-    kept_in h q (inl k) = rw k (member-first x l)
+    kept_in h q (inl k) = subst (λ z. member z (x ∷ l) ≡ true) (sym k) (member-first x l)
     kept_in h q (inr k) = member-later q x l (h.inside q k)
 
     kept-reach : Behind x l (thin_behind x l) → (q : Bits) → (q ≡ x) ⊎ (member q l ≡ true) → covers (p ∷ x ∷ thin_behind x l) q ≡ true
@@ -81,7 +81,7 @@ thin-squeezed (p ∷ l) s = record { chain = h.chain; inside = λ q k. in_all q 
     h = thin-behind p l s
 
     in_all : (q : Bits) → (q ≡ p) ⊎ (member q (thin_behind p l) ≡ true) → member q (p ∷ l) ≡ true
-    in_all q (inl k) = rw k (member-first p l)
+    in_all q (inl k) = subst (λ z. member z (p ∷ l) ≡ true) (sym k) (member-first p l)
     in_all q (inr k) = member-later q p l (h.inside q k)
 
     reached : (q : Bits) → (q ≡ p) ⊎ (member q l ≡ true) → covers (p ∷ thin_behind p l) q ≡ true

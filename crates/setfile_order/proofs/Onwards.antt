@@ -39,7 +39,7 @@ module _ {d : List ℕ} {f n : ℕ} {ms : List Bits} {x : Lane} (e : Entries d f
 -- The lane of the first network.
 module _ {d : List ℕ} {f n : ℕ} {q : Bits} {ms : List Bits} {x : Lane} (e : Entries d f n) (r : Runs d f n (q ∷ ms) x) (i : x.len ≡ length q) where
   first : (x.next < x.end) × (network_at f d x.next ≡ q) × (networks_in f d (suc x.next) (x.end - suc x.next) ≡ of_length x.len ms)
-  first = networks_in-cons f d x.next x.end q (of_length x.len ms) (r.rest ∙ rw i (of_length-head q ms))
+  first = networks_in-cons f d x.next x.end q (of_length x.len ms) (r.rest ∙ ap (λ k. of_length k (q ∷ ms)) i ∙ of_length-head q ms ∙ ap (λ k. q ∷ of_length k ms) (sym i))
 
   pub first_short : length q ≤ width f
   first_short = rw first.1 at (network_at-within f d x.next)

@@ -106,7 +106,7 @@ run-pieces (more {q = q} {s = s} {xs = ys} g h p) (suc k) xs t l z =
     let x = hex_number g in
     let c = colon-apart (s ++ t) in
     rw (append_assoc g (colon ∷ s) t, read_piece-group (suc k) g (colon ∷ (s ++ t)) h c.0 c.1, goes_on-pieces t p)
-    (run-pieces p k (xs ++ (x ∷ [])) t (omega arith) z ∙ ap (λ u. ran u q t) (append_assoc xs (x ∷ []) ys))
+    (run-pieces {q = q} {a = s} {ys = ys} p k (xs ++ (x ∷ [])) t (omega arith) z ∙ ap (λ u. ran u q t) (append_assoc xs (x ∷ []) ys))
 
 pub run-stays : (k : ℕ) (xs t : List ℕ) → Stops t → run_from k xs t ≡ ran xs false t
 unfolding run_from

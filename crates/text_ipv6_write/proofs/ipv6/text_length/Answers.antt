@@ -38,10 +38,13 @@ overflow_add-r c = omega (arith, room-struct_known-2-1 c)
 pub returns : goal.returns
 returns c = let g = c.args.g in
     let r = c.longest-r.result in
-    record { value = omega (
+    record {
+      value = omega (
         arith,
         c.length-3.ensures.value,
         c.length-2.ensures.value,
         ap length (around g r.at r.count (eight-length-3 c) c.longest-r.ensures c.if-r-lt-SHORTEST.false),
         length-sides g r.at r.count,
-      ); upper_bound = (omega (arith, c.length-3.ensures.upper_bound, c.length-2.ensures.upper_bound)) }
+      );
+      upper_bound = (omega (arith, c.length-3.ensures.upper_bound, c.length-2.ensures.upper_bound));
+    }
