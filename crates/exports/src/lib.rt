@@ -1,5 +1,7 @@
 // Every call exported by itself, for programs in other languages: numbers and slices in, one number out. The header of the archive is include/marlbrace.h. The number has the
 // value in its low 32 bits, then the number of the refusal, 0 where the call is granted, then a bit for yes and one for the report of a cut bit.
+#![tactic(auto)]
+
 ghost use Rattle.std.specs.Prelude.{◌≡◌};
 ghost use Rattle.nets.specs.Networks.{net_words};
 
