@@ -1,6 +1,5 @@
 -- `is_header` meets its contract: its tests are those of `is_header`. Assumes nothing.
 use mathlib.Core.Path.{sym, ◌∙◌}
-use borrow.Author.Rules.{rules}
 use borrow.Author.Tests.{not-true, not-false}
 use Rattle.pool_state.proofs.Header.{is_header-short, is_header-mark, is_header-family, is_header-size, is_header-indexed, is_header-long, is_header-form}
 use Rattle.pool_header.proofs.is_header.Goals as goal

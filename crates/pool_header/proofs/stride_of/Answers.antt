@@ -1,5 +1,4 @@
 -- `stride_of` meets its contract: the form, and then the family. Assumes nothing.
-use borrow.Author.Rules.{rules}
 use Rattle.pool_header.proofs.Strides.{stride-plain, stride-short, stride-long}
 use Rattle.pool_header.proofs.stride_of.Goals as goal
 

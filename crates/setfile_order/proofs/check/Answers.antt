@@ -2,7 +2,6 @@
 use mathlib.Core.Bool.{true, ◌&&◌}
 use mathlib.Core.Path.{◌≡◌, sym, ◌∙◌}
 use native.Mathlib.Omega.{arith}
-use borrow.Author.Rules.{rules}
 use borrow.Author.Tests.{not-true, not-false}
 use Rattle.nets.specs.Lists.{ascending}
 use Rattle.setfile_format.specs.Files.{head_number, are_clean, networks_in, is_file_header}

@@ -1,8 +1,8 @@
 -- `survey` meets its contract. The loop's invariant: h is head number k, and the nodes of the heads so far are counted. Assumes nothing.
-use Prim.Native.Nat.{◌-◌, ◌≤◌}
+use Prim.Native.Nat.{◌-◌}
 use native.Mathlib.Omega.{arith}
 use Rattle.setfile_order.proofs.First.{behind-head, stepped}
-use Rattle.setfile_order.proofs.Counting.{Survey, survey-none, survey-first, survey-end, survey-inside, survey-deep, survey-few, survey-next}
+use Rattle.setfile_order.proofs.Counting.{survey-none, survey-first, survey-end, survey-inside, survey-deep, survey-few, survey-next}
 use Rattle.setfile_order.proofs.survey.Goals as goal
 
 pub returns-then-n-eq0 : goal.returns-then-n-eq0

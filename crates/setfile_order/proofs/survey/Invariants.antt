@@ -1,8 +1,6 @@
 -- `survey` meets its contract. The loop's invariant: h is head number k, and the nodes of the heads so far are counted. Assumes nothing.
 use Prim.Native.Nat.{◌-◌, ◌≤◌}
-use native.Mathlib.Omega.{arith}
-use Rattle.setfile_order.proofs.First.{behind-head, stepped}
-use Rattle.setfile_order.proofs.Counting.{Survey, survey-none, survey-first, survey-end, survey-inside, survey-deep, survey-few, survey-next}
+use Rattle.setfile_order.proofs.Counting.{Survey}
 use Rattle.setfile_order.proofs.survey.Given as goal
 
 abbrev pub invariant-loop-k : goal.invariant-loop-k

@@ -1,7 +1,4 @@
 -- `length` meets its contract, by the family. Assumes nothing.
-use mathlib.Core.Path.{ap, sym, ◌∙◌}
-use borrow.Author.Rules.{rules}
-use lib.ListN.{length}
 use Rattle.text_either.proofs.RoundTrip.{either_as-4, either_as-6}
 use Rattle.text_either.proofs.length.Goals as goal
 

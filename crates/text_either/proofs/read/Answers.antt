@@ -1,5 +1,4 @@
 -- `read` meets its contract: a line that is none of IPv4 is read as one of IPv6. Assumes nothing.
-use borrow.Author.Rules.{rules}
 use Rattle.text_either.proofs.Reading.{either-network, either-other}
 use Rattle.text_either.proofs.read.Goals as goal
 

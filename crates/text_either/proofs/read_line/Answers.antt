@@ -1,5 +1,4 @@
 -- `read_line` meets its contract: the network that a line reads as is taken in. Assumes nothing.
-use borrow.Author.Rules.{rules}
 use Rattle.text_either.proofs.Reading.{entered_either-network, entered_either-refused}
 use Rattle.text_either.proofs.read_line.Goals as goal
 

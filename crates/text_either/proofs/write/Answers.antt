@@ -1,5 +1,4 @@
 -- `write` meets its contract, by the family. Assumes nothing.
-use borrow.Author.Rules.{rules}
 use Rattle.text_either.proofs.RoundTrip.{either_as-4, either_as-6}
 use Rattle.text_either.proofs.write.Goals as goal
 

@@ -1,9 +1,8 @@
 -- `write_line` meets its contract: its tests are those of `either_refusal`. Assumes nothing.
 -- what `to_network` grants is the network that came in, cleared, and its report
-use mathlib.Core.Path.{◌≡◌, refl, ap, sym, ◌∙◌}
+use mathlib.Core.Path.{◌≡◌, ap, sym, ◌∙◌}
 use native.Mathlib.Omega.{arith}
 use lib.ListN.{length}
-use borrow.Author.Rules.{rules}
 use Rattle.nets.proofs.Answers.{number-some}
 use Rattle.nets.specs.Networks.{refusal_of, cleared, has_bit_past, entered_as}
 use Rattle.nets.specs.Refusals.{number}

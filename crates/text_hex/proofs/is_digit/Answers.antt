@@ -1,7 +1,6 @@
 -- `is_digit` meets its contract, range by range. Assumes nothing.
-use borrow.Author.Rules.{rules}
 use mathlib.Core.Path.{sym, ◌∙◌}
-use Rattle.text_hex.specs.Hex.{within, is_hex_digit}
+use Rattle.text_hex.specs.Hex.{is_hex_digit}
 use Rattle.text_hex.proofs.is_digit.Goals as goal
 
 pub returns-then-within : goal.returns-then-within

@@ -1,10 +1,8 @@
 -- `value` meets its contract, range by range. Assumes nothing.
 -- what the three tests told
-use borrow.Author.Rules.{rules}
 use mathlib.Core.Path.{sym, ◌∙◌}
 use Prim.Native.Nat.{◌≤◌}
 use native.Mathlib.Omega.{arith}
-use Rattle.text_hex.specs.Hex.{within}
 use Rattle.text_hex.proofs.Digits.{within-is, hex_value-digit, hex_value-lower, hex_value-upper, hex_value-other}
 use Rattle.text_hex.proofs.value.Goals as goal
 

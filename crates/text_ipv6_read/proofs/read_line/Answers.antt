@@ -1,5 +1,4 @@
 -- `read_line` meets its contract: the network that a line reads as is taken in. Assumes nothing.
-use borrow.Author.Rules.{rules}
 use Rattle.text_ipv6_read.proofs.Answers.{entered_line6-network, entered_line6-refused}
 use Rattle.text_ipv6_read.proofs.read_line.Goals as goal
 

@@ -1,11 +1,7 @@
 -- `chain` meets its contract. The loop's invariant: what is still to be written completes the chain. Assumes nothing.
-use mathlib.Core.Path.{◌≡◌, refl, ◌∙◌}
-use Prim.Native.Nat.{◌+◌, ◌≤◌}
+use mathlib.Core.Path.{refl, ◌∙◌}
 use native.Mathlib.Omega.{arith}
 use borrow.Author.Rules.{rules}
-use lib.ListN.{length}
-use Rattle.nets.specs.Networks.{bits_left}
-use Rattle.nodes.specs.Words.{put, place, enc, chain}
 use Rattle.nets.proofs.Handing.{hands_end, Hands, hands}
 use Rattle.nodes.proofs.Chains.{bool_byte-le, chain-step, chain-end}
 use Rattle.trie_insert.proofs.chain.Goals as goal

@@ -1,13 +1,9 @@
 -- `chain` meets its contract. The loop's invariant: what is still to be written completes the chain. Assumes nothing.
-use mathlib.Core.Path.{◌≡◌, refl, ◌∙◌}
+use mathlib.Core.Path.{◌≡◌}
 use Prim.Native.Nat.{◌+◌, ◌≤◌}
-use native.Mathlib.Omega.{arith}
-use borrow.Author.Rules.{rules}
 use lib.ListN.{length}
 use Rattle.nets.specs.Networks.{bits_left}
 use Rattle.nodes.specs.Words.{put, place, enc, chain}
-use Rattle.nets.proofs.Handing.{hands_end, Hands, hands}
-use Rattle.nodes.proofs.Chains.{bool_byte-le, chain-step, chain-end}
 use Rattle.trie_insert.proofs.chain.Given as goal
 
 abbrev pub invariant-loop-w : goal.invariant-loop-w

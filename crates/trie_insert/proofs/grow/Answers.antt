@@ -2,7 +2,6 @@
 use mathlib.Core.Path.{sym, ap}
 use Prim.Native.Nat.{◌+◌}
 use native.Mathlib.Omega.{arith}
-use borrow.Author.Rules.{rules}
 use Rattle.nodes.proofs.Segments.{segment-fit}
 use Rattle.nets.proofs.Handing.{length-bits_left}
 use Rattle.trie_insert.proofs.Insertion.{room-none, inserted-none}

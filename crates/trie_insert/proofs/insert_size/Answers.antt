@@ -3,7 +3,6 @@ use mathlib.Core.Path.{sym, ◌∙◌}
 use mathlib.Core.Bool.{true, false}
 use Prim.Native.Nat.{◌≤◌}
 use native.Mathlib.Omega.{arith}
-use borrow.Author.Rules.{rules}
 use Rattle.nets.specs.Networks.{bits_left}
 use Rattle.nets.proofs.Handing.{length-bits_left, hands_end, Hands, hands, hands-bit}
 use Rattle.nodes.specs.Segments.{Views}

@@ -1,6 +1,5 @@
 -- `leaf` meets its contract: the words behind move to the leaf. Assumes nothing.
 use native.Mathlib.Omega.{arith}
-use borrow.Author.Rules.{rules}
 use Rattle.nodes.proofs.Segments.{segment-fit}
 use Rattle.trie_insert.proofs.Insertion.{room-end, inserted-end}
 use Rattle.trie_insert.proofs.leaf.Goals as goal

@@ -1,5 +1,4 @@
 -- `ahead` meets its contract, by its test. Assumes nothing.
-use borrow.Author.Rules.{rules}
 use Rattle.trie_lanes.proofs.ahead.Goals as goal
 
 pub returns-then-on : goal.returns-then-on

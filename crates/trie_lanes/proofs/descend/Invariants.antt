@@ -1,9 +1,6 @@
 -- `descend` meets its contract. The loop's invariant: the walks have gone on from where they began. Assumes nothing.
 use Prim.Native.Nat.{◌-◌}
-use native.Mathlib.Omega.{arith}
-use borrow.Author.Rules.{rules}
 use Rattle.trie_lanes.specs.Lanes.{AllGo, Live}
-use Rattle.trie_lanes.proofs.LaneRows.{all_stay, all-on, all-twice}
 use Rattle.trie_lanes.proofs.descend.Given as goal
 
 abbrev pub invariant-loop-t : goal.invariant-loop-t

@@ -1,5 +1,4 @@
 -- `leave` meets its contract: the row is as it was, or one entry shorter. Assumes nothing.
-use borrow.Author.Rules.{rules}
 use Rattle.trie_lanes.proofs.LaneRows.{live-leave}
 use Rattle.trie_lanes.proofs.leave.Goals as goal
 

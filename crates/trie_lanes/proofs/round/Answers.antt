@@ -3,8 +3,6 @@ use mathlib.Core.Bool.{Bool, true, false, cond}
 use mathlib.Core.Path.{◌≡◌}
 use Prim.Native.Nat.{ℕ, ◌+◌, ◌-◌, ◌<◌}
 use native.Mathlib.Omega.{arith}
-use borrow.Author.Rules.{rules}
-use Rattle.trie_lanes.specs.Lanes.{AllGo, Live}
 use Rattle.trie_lanes.proofs.LaneRows.{all_stay, all_moved}
 use Rattle.trie_lanes.proofs.round.Goals as goal
 

@@ -1,11 +1,6 @@
 -- `round` meets its contract. The loop's invariant: the walks have gone on, and the row names walks. Assumes nothing.
-use mathlib.Core.Bool.{Bool, true, false, cond}
-use mathlib.Core.Path.{◌≡◌}
-use Prim.Native.Nat.{ℕ, ◌+◌, ◌-◌, ◌<◌}
-use native.Mathlib.Omega.{arith}
-use borrow.Author.Rules.{rules}
+use Prim.Native.Nat.{◌-◌}
 use Rattle.trie_lanes.specs.Lanes.{AllGo, Live}
-use Rattle.trie_lanes.proofs.LaneRows.{all_stay, all_moved}
 use Rattle.trie_lanes.proofs.round.Given as goal
 
 abbrev pub invariant-loop-j : goal.invariant-loop-j

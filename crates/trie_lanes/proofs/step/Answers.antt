@@ -1,7 +1,6 @@
 -- `step` meets its contract: the walk stays, or it goes one node on. Assumes nothing.
 use mathlib.Core.Path.{refl, sym, ap, ◌∙◌}
 use native.Mathlib.Omega.{arith}
-use borrow.Author.Rules.{rules}
 use lib.ListN.{get_or}
 use Rattle.nets.specs.Networks.{next_as, next_of}
 use Rattle.trie_lanes.proofs.Going.{goes-stay, Steps, goes_step}

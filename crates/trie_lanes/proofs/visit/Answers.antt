@@ -1,5 +1,4 @@
 -- `visit` meets its contract: two steps, and the walk is written. Assumes nothing.
-use borrow.Author.Rules.{rules}
 use Rattle.trie_lanes.proofs.LaneRows.{moved}
 use Rattle.trie_lanes.proofs.visit.Goals as goal
 

@@ -1,9 +1,8 @@
 -- The proof of the cycle of calls {remove}. The measure is how many bits are left. Assumes nothing.
 use mathlib.Core.List.{List}
 use mathlib.Core.Path.{subst}
-use Prim.Native.Nat.{ℕ, ◌<◌}
+use Prim.Native.Nat.{ℕ}
 use native.Mathlib.Omega.{arith}
-use borrow.Author.Rules.{rules}
 use Rattle.nets.specs.Tries.{Trie}
 use Rattle.nodes.specs.Segments.{Segment, Spliced}
 use Rattle.nodes.proofs.Views.{behind}

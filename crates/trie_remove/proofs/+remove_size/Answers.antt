@@ -3,7 +3,6 @@ use mathlib.Core.Path.{◌∙◌}
 use mathlib.Core.List.{List}
 use Prim.Native.Nat.{ℕ, ◌+◌, ◌<◌}
 use native.Mathlib.Omega.{arith}
-use borrow.Author.Rules.{rules}
 use Rattle.nets.specs.Tries.{Trie}
 use Rattle.nodes.specs.Segments.{Segment}
 use Rattle.trie_remove.specs.Removal.{Inside}

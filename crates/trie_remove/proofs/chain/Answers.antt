@@ -1,10 +1,9 @@
 -- `removing::chain` meets its contract. The loop's invariant: what is still to be written completes the chain. Assumes nothing.
 use mathlib.Core.Path.{◌≡◌, refl, ap, sym, ◌∙◌}
 use native.Mathlib.Omega.{arith}
-use borrow.Author.Rules.{rules}
 use Rattle.nets.specs.Networks.{next_as, next_of}
 use Rattle.nets.specs.declared.NextBit.TheVariants.{Bit}
-use Rattle.trie_remove.proofs.Splices.{Chain, chain-turn, chain-less, chain-end, chain-room}
+use Rattle.trie_remove.proofs.Splices.{chain-turn, chain-less, chain-end, chain-room}
 use Rattle.trie_remove.proofs.chain.Goals as goal
 
 -- the bit that the iterator hands out

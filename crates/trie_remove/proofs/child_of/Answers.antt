@@ -1,5 +1,4 @@
 -- `removing::child_of` meets its contract, by its test. Assumes nothing.
-use borrow.Author.Rules.{rules}
 use Rattle.trie_remove.proofs.child_of.Goals as goal
 
 pub returns-then-bit : goal.returns-then-bit

@@ -1,6 +1,5 @@
 -- `removing::halve` meets its contract: one law for each side of the bit. Assumes nothing.
 use native.Mathlib.Omega.{arith}
-use borrow.Author.Rules.{rules}
 use Rattle.trie_remove.proofs.Splices.{halve-second, halve-first}
 use Rattle.trie_remove.proofs.halve.Goals as goal
 

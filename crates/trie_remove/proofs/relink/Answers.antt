@@ -1,6 +1,5 @@
 -- `removing::relink` meets its contract, by its test. Assumes nothing.
 use mathlib.Core.Path.{refl}
-use borrow.Author.Rules.{rules}
 use Rattle.trie_remove.proofs.relink.Goals as goal
 
 pub returns-then-bit : goal.returns-then-bit

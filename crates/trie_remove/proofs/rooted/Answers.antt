@@ -1,5 +1,4 @@
 -- `removing::rooted` meets its contract, by its test. Assumes nothing.
-use borrow.Author.Rules.{rules}
 use borrow.Author.Tests.{eq-eqb, ne_eqb}
 use Rattle.trie_remove.proofs.rooted.Goals as goal
 

@@ -1,6 +1,5 @@
 -- `removing::split` meets its contract: the words behind move, and the chain is written before them. Assumes nothing.
 use native.Mathlib.Omega.{arith}
-use borrow.Author.Rules.{rules}
 use Rattle.nodes.proofs.Segments.{segment-fit}
 use Rattle.trie_remove.proofs.Splices.{spliced-split}
 use Rattle.trie_remove.proofs.split.Goals as goal

@@ -1,7 +1,6 @@
 -- `step_down` meets its contract: one law for each answer. Assumes nothing.
 use mathlib.Core.Path.{ap, sym, ◌∙◌}
 use native.Mathlib.Omega.{arith}
-use borrow.Author.Rules.{rules}
 use Rattle.nets.specs.Networks.{next_as}
 use Rattle.nodes.proofs.Views.{view-inner, branch-fit}
 use Rattle.trie_remove.proofs.Descent.{nothing-more, nothing-here, full-here, inner-here}

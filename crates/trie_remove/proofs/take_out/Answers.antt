@@ -1,6 +1,5 @@
 -- `removing::take_out` meets its contract: what stands behind moves to where the nodes began, unless there are none. Assumes nothing.
 use native.Mathlib.Omega.{arith}
-use borrow.Author.Rules.{rules}
 use Rattle.nodes.proofs.Segments.{segment-fit}
 use Rattle.trie_remove.proofs.Splices.{take_none, take-some}
 use Rattle.trie_remove.proofs.take_out.Goals as goal

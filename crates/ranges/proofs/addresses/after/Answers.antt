@@ -1,5 +1,5 @@
 -- `addresses::after` meets its contract, by the words of each family. Assumes nothing.
-use Rattle.std.proofs.Common.{arith, rules}
+use Rattle.std.proofs.Common.{arith}
 use Rattle.ranges.proofs.Words.{after-4, after-6}
 use Rattle.ranges.proofs.addresses.after.Goals as goal
 

@@ -1,6 +1,6 @@
 -- `addresses::last_of` meets its contract: the bits that are set all stand in the low word, or are all of it and the rest in the high one. Assumes nothing.
 -- how many bits are set
-use Rattle.std.proofs.Common.{◌≡◌, ℕ, ◌+◌, ◌-◌, ◌^◌, ◌≤◌, length, ap, ◌∙◌, arith, rules}
+use Rattle.std.proofs.Common.{◌≡◌, ℕ, ◌+◌, ◌-◌, ◌^◌, ◌≤◌, length, ap, ◌∙◌, arith}
 use Rattle.nets.specs.Bits.{Bits}
 use Rattle.nets.specs.Networks.{width, net_from}
 use Rattle.nets.proofs.Numbers.{width-le}

@@ -1,5 +1,5 @@
 -- `addresses::ones` meets its contract: below 64 bits nothing is shifted out. Assumes nothing.
-use Rattle.std.proofs.Common.{◌≡◌, arith, pow_pos, rules}
+use Rattle.std.proofs.Common.{◌≡◌, arith, pow_pos}
 use Rattle.nets.proofs.TwoWords.{shl_one}
 use Rattle.ranges.proofs.addresses.ones.Goals as goal
 

@@ -1,8 +1,7 @@
 -- `entries::file_is_clear` meets its contract. The loop's invariant: the entries that are left settle the answer. Assumes nothing.
 use Prim.Native.Nat.{◌-◌}
 use native.Mathlib.Omega.{arith}
-use borrow.Author.Rules.{rules}
-use Rattle.setfile_clear.proofs.Clearing.{Going, file-header, going_start, going_end, going-there, going-out, going_on}
+use Rattle.setfile_clear.proofs.Clearing.{file-header, going_start, going_end, going-there, going-out, going_on}
 use Rattle.setfile_clear.proofs.entries.file_is_clear.Goals as goal
 
 pub number-n-requires : goal.number-n-requires

@@ -1,6 +1,5 @@
 -- `cleared::is_clean` meets its contract: its tests are those of the definition. Assumes nothing.
 use native.Mathlib.Omega.{arith}
-use borrow.Author.Rules.{rules}
 use borrow.Author.Tests.{le-leb, lt-leb}
 use Rattle.setfile_format.specs.Files.{is_clean}
 use Rattle.setfile_entries.proofs.cleared.is_clean.Goals as goal

@@ -1,6 +1,5 @@
 -- `reading::eight` meets its contract: two numbers of four bytes are one of eight. Assumes nothing.
 use native.Mathlib.Omega.{arith}
-use borrow.Author.Rules.{rules}
 use Rattle.setfile_entries.proofs.Numbers.{big_endian-eight}
 use Rattle.setfile_entries.proofs.reading.eight.Goals as goal
 

@@ -1,7 +1,6 @@
 -- `reading::file_bytes` meets its contract. Assumes nothing.
 use Prim.Native.Nat.{◌+◌, ◌*◌, ◌≤◌}
 use native.Mathlib.Omega.{arith}
-use borrow.Author.Rules.{rules}
 use Rattle.setfile_format.specs.Files.{file_bytes}
 use Rattle.setfile_format.proofs.Written.{file_bytes-few}
 use Rattle.setfile_entries.proofs.reading.file_bytes.Goals as goal

@@ -1,6 +1,5 @@
 -- `reading::four` meets its contract: its bytes are the first of those that are left from the place on. Assumes nothing.
 use mathlib.Core.Path.{◌∙◌}
-use borrow.Author.Rules.{rules}
 use Rattle.setfile_entries.proofs.Numbers.{big_endian-four}
 use Rattle.setfile_entries.proofs.reading.four.Goals as goal
 

@@ -3,10 +3,9 @@ use mathlib.Core.Path.{sym, ◌∙◌}
 use Prim.Native.Nat.{◌-◌}
 use native.Mathlib.Nat.{le_trans, pos_of_ne-zero}
 use native.Mathlib.Omega.{arith}
-use borrow.Author.Rules.{rules}
 use borrow.Author.Tests.{not-true, not-false}
 use Rattle.setfile_format.proofs.Written.{file_bytes-mono}
-use Rattle.setfile_entries.proofs.Ordered.{Going, ordered-none, ordered-unclean, ordered-start, going_end, going-unclean, going-unordered, going_on, entry-is, entry-pair}
+use Rattle.setfile_entries.proofs.Ordered.{ordered-none, ordered-unclean, ordered-start, going_end, going-unclean, going-unordered, going_on, entry-is, entry-pair}
 use Rattle.setfile_entries.proofs.reading.in_order.Goals as goal
 
 pub returns-then-n-eq0 : goal.returns-then-n-eq0

@@ -1,7 +1,6 @@
 -- `reading::is_header` meets its contract: it tests one rule after the other. Assumes nothing.
 use mathlib.Core.Path.{sym, ◌∙◌}
 use native.Mathlib.Omega.{arith}
-use borrow.Author.Rules.{rules}
 use borrow.Author.Tests.{not-true, not-false}
 use Rattle.nets.proofs.Numbers.{family-few}
 use Rattle.setfile_entries.proofs.Headers.{header-short, header-family, header-many, header-offset, header-length, header_is}

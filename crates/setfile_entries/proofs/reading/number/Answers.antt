@@ -1,7 +1,4 @@
 -- `reading::number` meets its contract. Assumes nothing.
-use mathlib.Core.Path.{sym}
-use native.Mathlib.Omega.{arith}
-use borrow.Author.Rules.{rules}
 use Rattle.setfile_format.specs.Files.{head_number}
 use Rattle.setfile_entries.proofs.reading.number.Goals as goal
 

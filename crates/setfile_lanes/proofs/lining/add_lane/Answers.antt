@@ -1,6 +1,5 @@
 -- `lining::add_lane` meets its contract. Assumes nothing.
 use native.Mathlib.Omega.{arith}
-use borrow.Author.Rules.{rules}
 use Rattle.setfile_lanes.specs.Lanes.{lanes_of}
 use Rattle.setfile_lanes.proofs.Lines.{begun-few, lined-begun}
 use Rattle.setfile_lanes.proofs.lining.add_lane.Goals as goal

@@ -1,9 +1,9 @@
 -- `lining::line_up` meets its contract. The loop's invariant: the first i entries are lined up. Assumes nothing.
 use mathlib.Core.Path.{◌≡◌, ap}
-use Prim.Native.Nat.{◌+◌, ◌-◌, ◌≤◌}
+use Prim.Native.Nat.{◌+◌, ◌-◌}
 use native.Mathlib.Omega.{arith}
 use Rattle.nets.specs.declared.Net.{Net}
-use Rattle.setfile_lanes.specs.Lanes.{Adds, Lined}
+use Rattle.setfile_lanes.specs.Lanes.{Adds}
 use Rattle.setfile_format.proofs.Written.{file_bytes-mono}
 use Rattle.setfile_lanes.proofs.Lines.{lined-none}
 use Rattle.setfile_lanes.proofs.lining.line_up.Goals as goal

@@ -2,10 +2,9 @@
 use mathlib.Core.Path.{refl, ap}
 use Prim.Native.Nat.{◌+◌, ◌-◌, ◌/◌}
 use native.Mathlib.Omega.{arith}
-use borrow.Author.Rules.{rules}
 use Rattle.nets.specs.declared.Net.{Net}
 use Rattle.setfile_format.proofs.Written.{file_bytes-mono}
-use Rattle.setfile_lanes.proofs.Halving.{Between, halved, alike_end}
+use Rattle.setfile_lanes.proofs.Halving.{halved, alike_end}
 use Rattle.setfile_lanes.proofs.lining.run_end.Goals as goal
 
 pub loop-low-init : goal.loop-low-init

@@ -1,11 +1,6 @@
 -- `lining::run_end` meets its contract. The loop's invariant: entry low has the length, and entry high, where there is one, has another. Assumes nothing.
-use mathlib.Core.Path.{refl, ap}
-use Prim.Native.Nat.{◌+◌, ◌-◌, ◌/◌}
-use native.Mathlib.Omega.{arith}
-use borrow.Author.Rules.{rules}
-use Rattle.nets.specs.declared.Net.{Net}
-use Rattle.setfile_format.proofs.Written.{file_bytes-mono}
-use Rattle.setfile_lanes.proofs.Halving.{Between, halved, alike_end}
+use Prim.Native.Nat.{◌-◌}
+use Rattle.setfile_lanes.proofs.Halving.{Between}
 use Rattle.setfile_lanes.proofs.lining.run_end.Given as goal
 
 abbrev pub invariant-loop-low : goal.invariant-loop-low

@@ -1,5 +1,4 @@
 -- `flowing::advance` meets its contract. Assumes nothing.
-use borrow.Author.Rules.{rules}
 use Rattle.setfile_order.proofs.First.{behind-head, stepped}
 use Rattle.setfile_order.proofs.flowing.advance.Goals as goal
 

@@ -1,7 +1,6 @@
 -- `flowing::open` meets its contract. Assumes nothing.
 use mathlib.Core.Path.{◌≡◌}
 use native.Mathlib.Omega.{arith}
-use borrow.Author.Rules.{rules}
 use Rattle.setfile_format.specs.Files.{head_number}
 use Rattle.setfile_order.proofs.Opening.{file-long, file-ordered, file-flat}
 use Rattle.setfile_order.proofs.flowing.open.Goals as goal

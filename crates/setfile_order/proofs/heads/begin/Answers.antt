@@ -1,5 +1,4 @@
 -- `heads::begin` meets its contract. Assumes nothing.
-use borrow.Author.Rules.{rules}
 use Rattle.setfile_order.proofs.Lined.{lined-full, behind-all}
 use Rattle.setfile_order.proofs.heads.begin.Goals as goal
 

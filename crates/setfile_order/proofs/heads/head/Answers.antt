@@ -1,6 +1,5 @@
 -- `heads::head` meets its contract. Assumes nothing.
 use native.Mathlib.Omega.{arith}
-use borrow.Author.Rules.{rules}
 use Rattle.setfile_lanes.specs.Lanes.{lanes_of}
 use Rattle.setfile_order.proofs.First.{head-none, finds, finds-small, finds-shares, finds-head}
 use Rattle.setfile_order.proofs.heads.head.Goals as goal

@@ -1,7 +1,6 @@
 -- `heads::move_on` meets its contract. Assumes nothing.
 -- the first lane, gone on
 use mathlib.Core.Path.{refl}
-use borrow.Author.Rules.{rules}
 use Rattle.setfile_lanes.specs.Lanes.{lane_at, lanes_of, Onward}
 use Rattle.setfile_order.proofs.Onwards.{here-asks, onward-sinks, flow-onward, dropped-asks, flow-dropped}
 use Rattle.setfile_order.proofs.heads.move_on.Goals as goal

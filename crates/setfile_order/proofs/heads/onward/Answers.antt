@@ -2,7 +2,6 @@
 use mathlib.Core.Path.{◌≡◌, refl, ap}
 use Prim.Native.Nat.{◌+◌}
 use native.Mathlib.Omega.{arith}
-use borrow.Author.Rules.{rules}
 use Rattle.nets.specs.declared.Net.{Net}
 use Rattle.setfile_format.specs.Files.{entry_net}
 use Rattle.setfile_format.proofs.Written.{file_bytes-mono}

@@ -1,6 +1,5 @@
 -- `writing::put_at` meets its contract: address and length are one write. Assumes nothing.
 use native.Mathlib.Omega.{arith}
-use borrow.Author.Rules.{rules}
 use Rattle.nodes.proofs.Put.{length-put}
 use Rattle.setfile_format.proofs.Written.{entry_bytes-4, entry_bytes-6}
 use Rattle.setfile_put.proofs.Stores.{low_fits, stores-4, stores-6, length-6}

@@ -1,5 +1,4 @@
 -- `writing::put_word` meets its contract: two halves. Assumes nothing.
-use borrow.Author.Rules.{rules}
 use Rattle.setfile_put.proofs.Stores.{word-stores}
 use Rattle.setfile_put.proofs.writing.put_word.Goals as goal
 

@@ -1,9 +1,6 @@
 -- `first::end` meets its contract. The loop's invariant: what was passed, with what is left, is the first line. Assumes nothing.
 use Prim.Native.Nat.{◌-◌}
-use native.Mathlib.Omega.{arith}
-use borrow.Author.Rules.{rules}
-use lib.ListN.{length}
-use Rattle.text_either.proofs.Firsts.{Passed, passed_start, passed-step, passed-feed, passed-end}
+use Rattle.text_either.proofs.Firsts.{passed_start, passed-step, passed-feed, passed-end}
 use Rattle.text_either.proofs.first.end.Goals as goal
 
 pub loop-at-init : goal.loop-at-init

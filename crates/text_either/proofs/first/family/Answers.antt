@@ -1,9 +1,6 @@
 -- `first::family` meets its contract. Assumes nothing.
 -- what was read is the first line
 use mathlib.Core.Path.{◌≡◌, ap, sym, ◌∙◌}
-use native.Mathlib.Omega.{arith}
-use borrow.Author.Rules.{rules}
-use lib.ListN.{length, take}
 use lib.Seq.{length-take-le}
 use Rattle.text_either.specs.Either.{entered_either}
 use Rattle.text_either.specs.First.{first_family, first_line}

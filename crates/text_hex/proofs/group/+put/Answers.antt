@@ -4,7 +4,6 @@ use mathlib.Core.Path.{◌≡◌, ap, ◌∙◌}
 use Prim.Native.Nat.{ℕ, ◌+◌, ◌/◌, ◌%◌, ◌≤◌, ◌<◌}
 use native.Mathlib.Omega.{arith}
 use lib.ListN.{length, length-append}
-use borrow.Author.Rules.{rules}
 use Rattle.text_decimal.proofs.Writing.{stored-append}
 use Rattle.text_hex.specs.Hex.{hex_byte_of, hex_digits_of}
 use Rattle.text_hex.proofs.Written.{hex_digits_of-one, hex_digits_of-last}

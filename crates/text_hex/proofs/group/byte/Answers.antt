@@ -1,5 +1,4 @@
 -- `group::byte` meets its contract, case by case. Assumes nothing.
-use borrow.Author.Rules.{rules}
 use mathlib.Core.Path.{sym}
 use Rattle.text_hex.proofs.Written.{hex_byte_of-digit, hex_byte_of-letter}
 use Rattle.text_hex.proofs.group.byte.Goals as goal

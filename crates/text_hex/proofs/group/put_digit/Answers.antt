@@ -1,6 +1,5 @@
 -- `group::put_digit` meets its contract. Assumes nothing.
 use mathlib.Core.Path.{refl, sym}
-use borrow.Author.Rules.{rules}
 use Rattle.text_hex.proofs.group.put_digit.Goals as goal
 
 pub returns : goal.returns

@@ -1,11 +1,10 @@
 -- `ipv6::read` meets its contract. Assumes nothing.
 -- the address is whole
-use mathlib.Core.Bool.{true, false}
+use mathlib.Core.Bool.{true}
 use mathlib.Core.Path.{◌≡◌, refl, ap, sym, ◌∙◌}
 use Prim.Native.Nat.{◌+◌}
 use native.Mathlib.Omega.{arith}
 use lib.ListN.{drop}
-use borrow.Author.Rules.{rules}
 use borrow.Author.Tests.{not-true, not-false}
 use Rattle.text_decimal.specs.Decimal.{parsed, read_number}
 use Rattle.text.specs.Ipv4.{slash}

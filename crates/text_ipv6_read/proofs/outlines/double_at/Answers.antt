@@ -2,7 +2,6 @@
 use mathlib.Core.Path.{refl, sym, ◌∙◌}
 use native.Mathlib.Omega.{arith}
 use lib.ListN.{drop}
-use borrow.Author.Rules.{rules}
 use Rattle.text_decimal.specs.Places.{starts_byte}
 use Rattle.text_decimal.proofs.Places.{starts-within}
 use Rattle.text_hex.specs.Hex.{colon}

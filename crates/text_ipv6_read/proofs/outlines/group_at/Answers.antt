@@ -1,6 +1,4 @@
 -- `outlines::group_at` meets its contract: the group stands before the zeros, is one of them, or stands behind. Assumes nothing.
-use native.Mathlib.Omega.{arith}
-use borrow.Author.Rules.{rules}
 use Rattle.text_ipv6_read.proofs.Laying.{group-front, group-zero, group-behind}
 use Rattle.text_ipv6_read.proofs.outlines.group_at.Goals as goal
 

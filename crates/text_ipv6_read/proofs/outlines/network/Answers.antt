@@ -1,6 +1,4 @@
 -- `outlines::network` meets its contract: its eight groups are those of the address. Assumes nothing.
-use borrow.Author.Rules.{rules}
-use mathlib.Core.List.{[], ◌∷◌}
 use Rattle.nets.specs.Networks.{big_endian}
 use Rattle.text_ipv6_read.specs.Reader.{laid}
 use Rattle.text_ipv6_read.specs.Places.{placed}

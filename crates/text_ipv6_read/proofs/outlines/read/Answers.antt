@@ -1,10 +1,9 @@
 -- `outlines::read` meets its contract: a run, and another behind a double colon. Assumes nothing.
 -- a double colon ends the first run
-use mathlib.Core.Bool.{true, false}
-use mathlib.Core.Path.{◌≡◌, refl, sym, ◌∙◌}
+use mathlib.Core.Bool.{true}
+use mathlib.Core.Path.{◌≡◌, sym, ◌∙◌}
 use native.Mathlib.Omega.{arith}
 use lib.ListN.{drop}
-use borrow.Author.Rules.{rules}
 use borrow.Author.Tests.{not-true, not-false}
 use Rattle.text_ipv6_read.specs.Reader.{starts_double}
 use Rattle.text_ipv6_runs.specs.Places.{ran_as}

@@ -1,7 +1,6 @@
 -- `pieces::digit_at` meets its contract. Assumes nothing.
-use mathlib.Core.Path.{refl, sym, ◌∙◌}
+use mathlib.Core.Path.{refl, sym}
 use lib.Seq.{drop-cons}
-use borrow.Author.Rules.{rules}
 use Rattle.text_decimal.specs.Spans.{starts_of}
 use Rattle.text_decimal.proofs.Places.{starts-past}
 use Rattle.text_hex.specs.Hex.{is_hex_digit}

@@ -4,7 +4,6 @@ use mathlib.Core.Path.{◌≡◌, ap, ◌∙◌}
 use Prim.Native.Nat.{◌^◌, ◌≤◌, ◌<◌}
 use native.Mathlib.Omega.{arith}
 use lib.ListN.{drop}
-use borrow.Author.Rules.{rules}
 use Rattle.text_decimal.specs.Decimal.{parsed, read_number}
 use Rattle.text.specs.Ipv4.{dot, read_next}
 use Rattle.text_decimal.specs.Places.{read_as, value_of}

@@ -1,7 +1,6 @@
 -- `pieces::dotted_in` meets its contract. Assumes nothing.
 use mathlib.Core.Path.{◌∙◌}
 use lib.ListN.{drop}
-use borrow.Author.Rules.{rules}
 use Rattle.text_ipv6_runs.specs.Runs.{read_dotted}
 use Rattle.text_ipv6_runs.proofs.Found.{room-two, room-none}
 use Rattle.text_ipv6_runs.proofs.pieces.dotted_in.Goals as goal

@@ -4,11 +4,10 @@ use mathlib.Core.Path.{◌≡◌, sym, ◌∙◌}
 use Prim.Native.Nat.{◌-◌, ◌<◌}
 use native.Mathlib.Omega.{arith}
 use lib.ListN.{length, drop}
-use borrow.Author.Rules.{rules}
 use Rattle.text_decimal.specs.Spans.{starts_of}
 use Rattle.text_decimal.proofs.Places.{starts_of-at}
 use Rattle.text_hex.specs.Hex.{is_hex_digit}
-use Rattle.text_ipv6_runs.proofs.Loop.{Reading, reading-start, reading_small, reading-over, reading-again, reading-none, reading-end}
+use Rattle.text_ipv6_runs.proofs.Loop.{reading-start, reading_small, reading-over, reading-again, reading-none, reading-end}
 use Rattle.text_ipv6_runs.proofs.pieces.group.Goals as goal
 
 -- a digit stands where a turn begins, and none where the loop ends

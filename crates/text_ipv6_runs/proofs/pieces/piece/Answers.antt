@@ -6,7 +6,6 @@ use Prim.Native.Nat.{◌-◌}
 use native.Mathlib.Omega.{arith}
 use lib.Dec.{leb}
 use lib.ListN.{drop}
-use borrow.Author.Rules.{rules}
 use Rattle.text_decimal.specs.Decimal.{parsed, nothing}
 use Rattle.text.proofs.Reading.{read_as-is}
 use Rattle.text_ipv6_runs.specs.Runs.{read_group, read_dotted}

@@ -1,8 +1,5 @@
 -- `runs::read` meets its contract. The loop's invariant: what is left of the run completes it. Assumes nothing.
-use mathlib.Core.Path.{◌≡◌, refl, sym, ◌∙◌}
-use native.Mathlib.Omega.{arith}
-use borrow.Author.Rules.{rules}
-use Rattle.text_ipv6_runs.specs.Places.{Fits, left_of, turns_of}
+use mathlib.Core.Path.{refl, sym, ◌∙◌}
 use Rattle.text_ipv6_runs.proofs.Turns.{left-start, left_end}
 use Rattle.text_ipv6_runs.proofs.runs.read.Goals as goal
 

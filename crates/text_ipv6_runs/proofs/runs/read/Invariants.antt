@@ -1,9 +1,6 @@
 -- `runs::read` meets its contract. The loop's invariant: what is left of the run completes it. Assumes nothing.
-use mathlib.Core.Path.{◌≡◌, refl, sym, ◌∙◌}
-use native.Mathlib.Omega.{arith}
-use borrow.Author.Rules.{rules}
+use mathlib.Core.Path.{◌≡◌}
 use Rattle.text_ipv6_runs.specs.Places.{Fits, left_of, turns_of}
-use Rattle.text_ipv6_runs.proofs.Turns.{left-start, left_end}
 use Rattle.text_ipv6_runs.proofs.runs.read.Given as goal
 
 abbrev pub invariant-loop-r : goal.invariant-loop-r

@@ -1,13 +1,10 @@
 -- `runs::step` meets its contract, by the piece that it finds. Assumes nothing.
 -- the piece that was found, once it is known which one it is
-use mathlib.Core.Path.{◌≡◌, refl, ap, sym, ◌∙◌}
-use Prim.Native.Nat.{◌-◌, ◌<◌}
+use mathlib.Core.Path.{◌≡◌, ap, sym, ◌∙◌}
+use Prim.Native.Nat.{◌-◌}
 use native.Mathlib.Omega.{arith}
 use lib.ListN.{drop}
-use borrow.Author.Rules.{rules}
-use Rattle.text_decimal.specs.Places.{starts_byte}
-use Rattle.text_decimal.proofs.Places.{starts-within}
-use Rattle.text_ipv6_runs.specs.Runs.{Piece, read_piece}
+use Rattle.text_ipv6_runs.specs.Runs.{read_piece}
 use Rattle.text_ipv6_runs.specs.Places.{piece_as}
 use Rattle.text_ipv6_runs.specs.declared.pieces.Found.{Found}
 use Rattle.text_ipv6_runs.proofs.Found.{goes_on-within}

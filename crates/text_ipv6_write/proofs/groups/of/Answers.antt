@@ -1,6 +1,5 @@
 -- `groups::of` meets its contract: the groups of an address are the four of each word. Assumes nothing.
 use native.Mathlib.Omega.{arith}
-use borrow.Author.Rules.{rules}
 use Rattle.text_ipv6_write.proofs.Words.{groups_of-words}
 use Rattle.text_ipv6_write.proofs.groups.of.Goals as goal
 

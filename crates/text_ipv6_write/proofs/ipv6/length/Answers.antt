@@ -1,7 +1,6 @@
 -- `ipv6::length` meets its contract. Assumes nothing.
 use mathlib.Core.Path.{ap}
 use native.Mathlib.Omega.{arith}
-use borrow.Author.Rules.{rules}
 use lib.ListN.{length}
 use Rattle.text_ipv6_write.specs.Ipv6.{text_of}
 use Rattle.text_ipv6_write.proofs.Texts.{length-line_as6}

@@ -2,7 +2,6 @@
 use mathlib.Core.Path.{◌≡◌, ap, sym, ◌∙◌}
 use Prim.Native.Nat.{◌+◌, ◌≤◌}
 use native.Mathlib.Omega.{arith}
-use borrow.Author.Rules.{rules}
 use lib.ListN.{length}
 use Rattle.text_ipv6_write.proofs.Texts.{within, whole, around, length-sides}
 use Rattle.text_ipv6_write.proofs.ipv6.text_length.Goals as goal

@@ -2,9 +2,8 @@
 use mathlib.Core.Path.{◌≡◌, refl, ap, sym}
 use Prim.Native.Nat.{◌+◌, ◌-◌}
 use native.Mathlib.Omega.{arith}
-use borrow.Author.Rules.{rules}
 use lib.ListN.{length}
-use Rattle.text_ipv6_write.proofs.Colons.{Counted, counted_start, counted_step, counted-all, joined-none}
+use Rattle.text_ipv6_write.proofs.Colons.{counted_start, counted_step, counted-all, joined-none}
 use Rattle.text_ipv6_write.proofs.joined.length.Goals as goal
 
 eight : (c : goal.Then-to-from) → length c.args.g ≡ 8

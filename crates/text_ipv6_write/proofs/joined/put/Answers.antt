@@ -8,7 +8,7 @@ use lib.Seq.{length-sets}
 use Rattle.text_decimal.proofs.Writing.{stored-append}
 use Rattle.text_hex.specs.Hex.{hex_digits_of, colon}
 use Rattle.text_ipv6_write.specs.Ipv6.{led}
-use Rattle.text_ipv6_write.proofs.Colons.{part, Put, put-start, put-room, put-length, put_step, put_all, joined-none, joined-cons}
+use Rattle.text_ipv6_write.proofs.Colons.{part, put-start, put-room, put-length, put_step, put_all, joined-none, joined-cons}
 use Rattle.text_ipv6_write.proofs.joined.put.Goals as goal
 
 eight : (c : goal.Then-to-from) → c.args.to ≤ length c.args.g

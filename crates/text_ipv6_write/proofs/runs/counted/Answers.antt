@@ -1,5 +1,4 @@
 -- `runs::counted` meets its contract. Assumes nothing.
-use borrow.Author.Rules.{rules}
 use borrow.Author.Tests.{eq-eqb, ne_eqb}
 use native.Mathlib.Numerals.{add-one}
 use Rattle.text_ipv6_write.proofs.runs.counted.Goals as goal

@@ -2,10 +2,9 @@
 use mathlib.Core.Path.{◌≡◌}
 use Prim.Native.Nat.{◌-◌}
 use native.Mathlib.Omega.{arith}
-use borrow.Author.Rules.{rules}
 use lib.ListN.{length}
 use Rattle.text_ipv6_write.specs.Runs.{run_of}
-use Rattle.text_ipv6_write.proofs.Longest.{Seen, seen_start, seen_step, seen_all}
+use Rattle.text_ipv6_write.proofs.Longest.{seen_start, seen_step, seen_all}
 use Rattle.text_ipv6_write.proofs.runs.longest.Goals as goal
 
 eight : (c : goal.Start) → length c.args.g ≡ 8

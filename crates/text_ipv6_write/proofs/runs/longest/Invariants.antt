@@ -1,11 +1,7 @@
 -- `runs::longest` meets its contract. The loop's invariant: the zeros and the longest run of the groups from k on are known. Assumes nothing.
-use mathlib.Core.Path.{◌≡◌}
 use Prim.Native.Nat.{◌-◌}
-use native.Mathlib.Omega.{arith}
-use borrow.Author.Rules.{rules}
-use lib.ListN.{length}
 use Rattle.text_ipv6_write.specs.Runs.{run_of}
-use Rattle.text_ipv6_write.proofs.Longest.{Seen, seen_start, seen_step, seen_all}
+use Rattle.text_ipv6_write.proofs.Longest.{Seen}
 use Rattle.text_ipv6_write.proofs.runs.longest.Given as goal
 
 abbrev pub invariant-loop-k : goal.invariant-loop-k

@@ -1,9 +1,6 @@
 -- `joining::next_join` meets its contract. The loop's invariant: nothing joins before node n. Assumes nothing.
 use Prim.Native.Nat.{◌-◌, ◌≤◌}
-use native.Mathlib.Omega.{arith}
-use borrow.Author.Rules.{rules}
 use Rattle.trie_blocks.specs.Joins.{Apart}
-use Rattle.trie_blocks.proofs.Plain.{apart_more, apart-end}
 use Rattle.trie_blocks.proofs.joining.next_join.Given as goal
 
 abbrev pub invariant-loop-n : goal.invariant-loop-n

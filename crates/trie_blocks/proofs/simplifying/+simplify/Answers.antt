@@ -1,7 +1,6 @@
 -- `simplifying::simplify` meets its contract, by the trie's levels. Assumes nothing.
 use native.Mathlib.Omega.{arith}
-use Prim.Native.Nat.{ℕ, ◌<◌}
-use borrow.Author.Rules.{rules}
+use Prim.Native.Nat.{ℕ}
 use Rattle.nets.specs.Tries.{Trie}
 use Rattle.nodes.specs.Segments.{Branch}
 use Rattle.trie_blocks.specs.Simplify.{Source}

@@ -1,7 +1,5 @@
 -- `simplifying::moved` meets its contract, by its tests. Assumes nothing.
-use mathlib.Core.Path.{◌∙◌}
 use native.Mathlib.Omega.{arith}
-use borrow.Author.Rules.{rules}
 use Rattle.trie_blocks.proofs.Blocks.{moved_none, moved-leaf, moved_same, moved-fits, moved-put}
 use Rattle.trie_blocks.proofs.simplifying.moved.Goals as goal
 

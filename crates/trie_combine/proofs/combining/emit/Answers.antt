@@ -1,7 +1,6 @@
 -- `combining::emit` meets its contract: the sources by where they end. Assumes nothing.
 use Prim.Native.Nat.{ℕ}
 use native.Mathlib.Omega.{arith}
-use borrow.Author.Rules.{rules}
 use Rattle.nets.specs.Tries.{Trie}
 use Rattle.trie_emit.specs.Combine.{op_on, Inputs, Gap}
 use Rattle.trie_spans.specs.Extents.{Extents, Writes}

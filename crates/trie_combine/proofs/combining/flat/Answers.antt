@@ -2,7 +2,6 @@
 use mathlib.Core.Path.{◌≡◌}
 use Prim.Native.Nat.{ℕ}
 use native.Mathlib.Omega.{arith}
-use borrow.Author.Rules.{rules}
 use Rattle.nets.specs.Tries.{Trie}
 use Rattle.nets.specs.TrieOps.{kind_of, verdict}
 use Rattle.trie_emit.specs.Answers.{Emits}

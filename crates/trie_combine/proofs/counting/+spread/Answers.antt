@@ -2,7 +2,7 @@
 use mathlib.Core.Bool.{true, false}
 use mathlib.Core.Path.{◌≡◌}
 use native.Mathlib.Omega.{arith}
-use Prim.Native.Nat.{ℕ, ◌+◌, ◌-◌, ◌<◌}
+use Prim.Native.Nat.{ℕ, ◌+◌, ◌-◌}
 use Rattle.nets.specs.Tries.{Trie, none, size}
 use Rattle.nets.specs.TrieOps.{half}
 use Rattle.trie_emit.specs.Combine.{op_on}

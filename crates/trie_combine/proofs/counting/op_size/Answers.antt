@@ -1,6 +1,5 @@
 -- `counting::op_size` meets its contract: the sources by where they end. Assumes nothing.
 use native.Mathlib.Omega.{arith}
-use borrow.Author.Rules.{rules}
 use Rattle.nets.specs.Tries.{Trie}
 use Rattle.trie_emit.specs.Combine.{Inputs}
 use Rattle.trie_spans.specs.Extents.{Extents}

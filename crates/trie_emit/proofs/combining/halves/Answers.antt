@@ -1,5 +1,4 @@
 -- `combining::halves` meets its contract. Assumes nothing.
-use borrow.Author.Rules.{rules}
 use Rattle.trie_emit.proofs.combining.halves.Goals as goal
 
 pub returns : goal.returns

@@ -1,7 +1,6 @@
 -- `combining::op_size` meets its contract: the end that is foreseen for a result that begins at 0. Assumes nothing.
 use mathlib.Core.Path.{◌∙◌}
 use native.Mathlib.Nat.{zero-add}
-use borrow.Author.Rules.{rules}
 use Rattle.trie_emit.proofs.Answers.{end_is}
 use Rattle.trie_emit.proofs.combining.op_size.Goals as goal
 

@@ -1,7 +1,6 @@
 -- `combining::piece` meets its contract, by its tests. Assumes nothing.
 use Prim.Native.Nat.{◌≤◌, ◌<◌}
 use native.Mathlib.Omega.{arith}
-use borrow.Author.Rules.{rules}
 use lib.ListN.{length}
 use Rattle.nodes.specs.Words.{place}
 use Rattle.trie_emit.proofs.Sources.{piece-none, piece-all, piece-fits, piece-absent, piece-child, side-le}

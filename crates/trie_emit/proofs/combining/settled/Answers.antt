@@ -1,5 +1,4 @@
 -- `combining::settled` meets its contract, by its tests. Assumes nothing.
-use borrow.Author.Rules.{rules}
 use Rattle.trie_emit.proofs.Sources.{settled-or, settled-and, settled-but}
 use Rattle.trie_emit.proofs.combining.settled.Goals as goal
 

@@ -1,5 +1,4 @@
 -- `emitting::end_of` meets its contract, by its arms. Assumes nothing.
-use borrow.Author.Rules.{rules}
 use Rattle.trie_emit.proofs.emitting.end_of.Goals as goal
 
 pub returns-in-Full : goal.returns-in-Full

@@ -1,7 +1,6 @@
 -- `emitting::finish` meets its contract, by the arms of the answer of its node. Assumes nothing.
 use mathlib.Core.Path.{sym, ◌∙◌}
 use native.Mathlib.Omega.{arith}
-use borrow.Author.Rules.{rules}
 use lib.ListN.{length}
 use Rattle.trie_emit.proofs.Answers.{Empty≢Node, Full≢Node, Numbers, numbers, finish-flat, finish-node}
 use Rattle.trie_emit.proofs.emitting.finish.Goals as goal

@@ -1,6 +1,5 @@
 -- `emitting::parent` meets its contract, by its tests. Assumes nothing.
 use native.Mathlib.Omega.{arith}
-use borrow.Author.Rules.{rules}
 use Rattle.trie_emit.proofs.Answers.{end_is, over_none, over-leaf, over-node}
 use Rattle.trie_emit.proofs.emitting.parent.Goals as goal
 

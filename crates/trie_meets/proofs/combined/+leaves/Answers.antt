@@ -1,6 +1,6 @@
 -- `combined::leaves` meets its contract, by the fuel. Assumes nothing.
 use mathlib.Core.Bool.{Bool, true, false}
-use Prim.Native.Nat.{ℕ, ◌-◌, ◌<◌}
+use Prim.Native.Nat.{ℕ, ◌-◌}
 use native.Mathlib.Omega.{arith}
 use Rattle.nets.specs.Tries.{Trie}
 use Rattle.nets.specs.TrieOps.{half}

@@ -1,7 +1,6 @@
 -- `combined::meets` meets its contract: the operation on the parts is the part of the operation. Assumes nothing.
 use mathlib.Core.Path.{sym}
 use Prim.Native.Nat.{◌-◌}
-use borrow.Author.Rules.{rules}
 use Rattle.nets.specs.Tries.{Trie}
 use Rattle.nets.specs.Networks.{bits_left}
 use Rattle.nets.proofs.Handing.{length-bits_left}

@@ -3,11 +3,7 @@
 use mathlib.Core.Path.{sym, ◌∙◌}
 use Prim.Native.Nat.{◌-◌}
 use native.Mathlib.Omega.{arith}
-use borrow.Author.Rules.{rules}
-use Rattle.nets.specs.Tries.{Trie, list_of}
-use Rattle.trie_emit.specs.Combine.{op_on, Inputs}
-use Rattle.inner_nets.specs.Inner.{overlaps_one}
-use Rattle.inner_nets.proofs.Numbered.{Left, left-start, left-done, left-found, left-next, is_public-found, is_public-none}
+use Rattle.inner_nets.proofs.Numbered.{left-start, left-done, left-found, left-next, is_public-found, is_public-none}
 use Rattle.trie_meets.proofs.Operation.{short}
 use Rattle.trie_meets.proofs.combined.op_is_clear.Goals as goal
 

@@ -1,6 +1,5 @@
 -- `following::from_length` meets its contract: the lengths passed have no members. Assumes nothing.
 use mathlib.Core.List.{[]}
-use borrow.Author.Rules.{rules}
 use Rattle.trie_paths.proofs.Paths.{located-root}
 use Rattle.trie_paths.proofs.Placing.{counts-are}
 use Rattle.trie_next.proofs.Resuming.{skips-none, skips-some}

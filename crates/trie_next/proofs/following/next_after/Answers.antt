@@ -2,7 +2,6 @@
 use mathlib.Core.List.{[]}
 use Prim.Native.Nat.{◌≤◌}
 use native.Mathlib.Omega.{arith}
-use borrow.Author.Rules.{rules}
 use Rattle.nets.specs.Networks.{bits_left}
 use Rattle.trie_paths.proofs.Paths.{located-root}
 use Rattle.nets.proofs.Handing.{length-bits_left}

@@ -1,5 +1,4 @@
 -- `answering::above_nodes` meets its contract, by its test. Assumes nothing.
-use borrow.Author.Rules.{rules}
 use Rattle.trie_spans.proofs.Answered.{above-nodes-none, above-nodes-some}
 use Rattle.trie_spans.proofs.answering.above_nodes.Goals as goal
 

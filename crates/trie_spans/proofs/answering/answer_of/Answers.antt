@@ -1,6 +1,5 @@
 -- `answering::answer_of` meets its contract, by its tests. Assumes nothing.
 use mathlib.Core.Path.{sym, ◌∙◌}
-use borrow.Author.Rules.{rules}
 use Rattle.trie_spans.proofs.Answered.{answer-none, answer-leaf, answer-more}
 use Rattle.trie_spans.proofs.answering.answer_of.Goals as goal
 

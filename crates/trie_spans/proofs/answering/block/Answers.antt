@@ -2,7 +2,6 @@
 use mathlib.Core.Path.{refl}
 use Prim.Native.Nat.{◌+◌, ◌-◌, ◌≤◌}
 use native.Mathlib.Omega.{arith}
-use borrow.Author.Rules.{rules}
 use lib.ListN.{length}
 use Rattle.nodes.specs.Words.{place}
 use Rattle.trie_spans.proofs.Answered.{writes-few, block-nodes, block-fits, block-put}

@@ -1,7 +1,6 @@
 -- `answering::leaf` meets its contract, by its test. Assumes nothing.
 use mathlib.Core.Path.{sym}
 use native.Mathlib.Omega.{arith}
-use borrow.Author.Rules.{rules}
 use borrow.Author.Tests.{eq-eqb, ne_eqb}
 use Rattle.nodes.proofs.Put.{put-nil}
 use Rattle.trie_spans.proofs.answering.leaf.Goals as goal

@@ -1,6 +1,5 @@
 -- `answering::nodes_of` meets its contract: the end of a trie less its beginning. Assumes nothing.
 use native.Mathlib.Omega.{arith}
-use borrow.Author.Rules.{rules}
 use Rattle.trie_emit.proofs.Answers.{end_is}
 use Rattle.trie_spans.proofs.answering.nodes_of.Goals as goal
 

@@ -3,7 +3,6 @@ use mathlib.Core.List.{List}
 use mathlib.Core.Path.{◌≡◌, refl}
 use Prim.Native.Nat.{ℕ}
 use native.Mathlib.Omega.{arith}
-use borrow.Author.Rules.{rules}
 use Rattle.nets.specs.Tries.{Trie, size, glue}
 use Rattle.trie_spans.specs.Extents.{Halves}
 use Rattle.trie_spans.proofs.Answered.{over-few, over-fits, over-put, over-stays, over-stays-two}

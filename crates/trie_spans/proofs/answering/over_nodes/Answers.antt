@@ -1,7 +1,6 @@
 -- `answering::over_nodes` meets its contract, by its tests. Assumes nothing.
 use mathlib.Core.Bool.{false≢true}
 use mathlib.Core.Path.{sym, ◌∙◌}
-use borrow.Author.Rules.{rules}
 use borrow.Author.Tests.{not-true, not-false}
 use Rattle.trie_spans.proofs.Answered.{over-nodes-none, over-nodes-leaf, over-nodes-some}
 use Rattle.trie_spans.proofs.answering.over_nodes.Goals as goal

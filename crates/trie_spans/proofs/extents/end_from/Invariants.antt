@@ -1,10 +1,8 @@
 -- `extents::end_from` meets its contract. The loop's invariant: the trie at node k ends where the whole does. Assumes nothing.
 use Prim.Native.Nat.{ℕ, ◌+◌, ◌-◌}
-use native.Mathlib.Omega.{arith}
-use borrow.Author.Rules.{rules}
 use Rattle.nets.specs.Tries.{Trie, size}
 use Rattle.trie_emit.specs.Combine.{Means}
-use Rattle.trie_spans.proofs.Spans.{Last, last-start, last_none, last_fits, last_leaf, last_on, ahead-some}
+use Rattle.trie_spans.proofs.Spans.{Last}
 use Rattle.trie_spans.proofs.extents.end_from.Given as goal
 
 abbrev pub invariant-loop-b : goal.invariant-loop-b

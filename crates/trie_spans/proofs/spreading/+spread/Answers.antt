@@ -2,8 +2,7 @@
 use mathlib.Core.Path.{◌≡◌}
 use native.Mathlib.Omega.{arith}
 use mathlib.Core.Bool.{true, false}
-use Prim.Native.Nat.{ℕ, ◌+◌, ◌-◌, ◌<◌}
-use borrow.Author.Rules.{rules}
+use Prim.Native.Nat.{ℕ, ◌+◌, ◌-◌}
 use Rattle.nets.specs.Tries.{Trie, none, size}
 use Rattle.nets.specs.TrieOps.{half}
 use Rattle.trie_emit.specs.Combine.{op_on, Gap}

@@ -1,5 +1,4 @@
 -- `spreading::alone` meets its contract, by its tests. Assumes nothing.
-use borrow.Author.Rules.{rules}
 use Rattle.trie_spans.proofs.Spread.{tidy-apart, tidy-joined, tidy-none, tidy-asks}
 use Rattle.trie_spans.proofs.spreading.alone.Goals as goal
 

@@ -1,5 +1,4 @@
 -- `spots::arrive` meets its contract, each return by the tests on the way to it. Assumes nothing.
-use borrow.Author.Rules.{rules}
 use Rattle.trie_spots.proofs.Onward.{arrive-network, arrive-end}
 use Rattle.trie_spots.proofs.spots.arrive.Goals as goal
 

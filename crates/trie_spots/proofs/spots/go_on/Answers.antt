@@ -1,5 +1,4 @@
 -- `spots::go_on` meets its contract. Assumes nothing.
-use borrow.Author.Rules.{rules}
 use Rattle.nets.specs.Tries.{list_of}
 use Rattle.trie_spots.proofs.Onward.{gone-on}
 use Rattle.trie_spots.proofs.spots.go_on.Goals as goal

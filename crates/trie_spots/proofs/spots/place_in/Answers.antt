@@ -1,5 +1,4 @@
 -- `spots::place_in` meets its contract, each return by the tests on the way to it. Assumes nothing.
-use borrow.Author.Rules.{rules}
 use borrow.Author.Tests.{not-true, not-false}
 use Rattle.trie_spots.proofs.Onward.{place-start, place-past, place-never}
 use Rattle.trie_spots.proofs.spots.place_in.Goals as goal
