@@ -80,7 +80,7 @@ first-x-requires τ c = part-under (here τ c)
 
 pub pass-h-requires : goal.pass-h-requires
 pass-h-requires τ c = let g = here-pass-arg-1 τ c in
-    (omega (arith, first-falls g _ c.first-x.ensures, (start n c).requires.0), (_, _, _, _, at_first g _ c.first-x.ensures))
+    (omega (arith, first-falls g _ c.first-x.ensures, c.decreases), (_, _, _, _, at_first g _ c.first-x.ensures))
 
 pub second-y-requires : goal.second-y-requires
 second-y-requires τ c = part-under (here-pass-h τ c)
@@ -89,7 +89,7 @@ pub pass-requires : goal.pass-requires
 pass-requires τ c = let g = here-pass-arg-2-1 τ c in
     let x = c.first-x.ensures in
     let k = c.pass-h.ensures _ _ _ _ (at_first g _ x) in
-    (omega (arith, second-falls g _ x.0 k _ c.second-y.ensures, (start n c).requires.0), (_, _, _, _, at_second g _ x.0 k _ c.second-y.ensures))
+    (omega (arith, second-falls g _ x.0 k _ c.second-y.ensures, c.decreases), (_, _, _, _, at_second g _ x.0 k _ c.second-y.ensures))
 
 pub returns : goal.returns
 returns τ c q p t ms s = let g = part-pass τ c q p t ms s in

@@ -5,4 +5,4 @@ use Rattle.setfile_below.proofs.Streams.{begins}
 use Rattle.setfile_below.proofs.begin.Goals as goal
 
 pub returns : goal.returns
-returns c = (refl, λ l h. begins _ _ l h _ (c.«open».ensures l h))
+returns c = (refl, λ l h. begins _ _ l h _ (c.open-head.ensures l h))

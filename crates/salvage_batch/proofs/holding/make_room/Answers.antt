@@ -26,7 +26,9 @@ entry-net-requires c = let o = c.requires.2 in
 
 pub returns : goal.returns
 returns c = let o = c.requires.2 in
-    record { kept = squeezed-kept o c.squeeze-n.ensures; count_lt_most = (
-        omega (arith, o.room.two),
-        λ S a p. holds-cut p c.squeeze-n.ensures (λ i. omega (arith, c.slice_known-2-1.given i)) (omega (arith, o.room.two)) (omega (arith, c.if-n-half.false)) _ refl refl c.entry-net.ensures.value,
-      ); holds =  }
+    record {
+      kept = squeezed-kept o c.squeeze-n.ensures;
+      count_lt_most = omega (arith, o.room.two);
+      holds = λ S a p. holds-cut p c.squeeze-n.ensures (λ i. omega (arith, c.slice_known-2-1.given i)) (omega (arith, o.room.two)) (omega (arith, c.if-n-half.false)) _ refl refl
+          c.entry-net.ensures.value;
+    }

@@ -4,4 +4,4 @@ use Rattle.setfile_sides.proofs.Opened.{begun-along}
 use Rattle.setfile_sides.proofs.sides.begin.Goals as goal
 
 pub returns : goal.returns
-returns c l e = begun-along e (c.«open».ensures l e) c.arrived.ensures
+returns c l e = begun-along e (c.open-head.ensures l e) c.arrived.ensures
