@@ -1,6 +1,6 @@
 -- The pass over the sets: `scan` is the loop, which judges set by set, and it finds what `survey_of` says of the decoded words, for which all the sets are read before
 -- they are judged: `finish` is what both come to. Assumes nothing.
-use mathlib.Core.Path.{◌≡◌, refl, sym, ◌∙◌}
+use mathlib.Core.Path.{◌≡◌, refl, sym, subst, ◌∙◌}
 use mathlib.Core.Bool.{Bool, true, false, cond}
 use mathlib.Core.List.{List, [], ◌∷◌}
 use Prim.Native.Nat.{ℕ, zero, suc, ◌+◌, ◌-◌, ◌≤◌, ◌<◌, max}
@@ -31,7 +31,8 @@ chosen-start j s i [] = rw (held_l-nil first)
 chosen-start zero s i (x ∷ xs) = rw (eq-eqb s (s + 0) (omega arith)) (chosen-past (s + 0) (s + 1) (i + held x) (i, held x) xs (omega arith))
 chosen-start (suc j) s i (x ∷ xs) =
     let e : s + suc j ≡ s + 1 + j = omega arith in
-    rw (ne_eqb s (s + suc j) (omega arith), e) (chosen-start j (s + 1) (i + held x) xs)
+    rw (ne_eqb s (s + suc j) (omega arith)) (subst (λ n. chosen n (s + 1) (i + held x) (0, 0) xs ≡ (first_node j (i + held x) xs, held (get_or xs j no_set))) (sym e)
+    (chosen-start j (s + 1) (i + held x) xs))
 
 -- what the code makes of its numbers at the end
 abbrev pub found : ℕ → ℕ → ℕ × ℕ → Survey
