@@ -1,13 +1,12 @@
 -- Walks in a row of numbers, three for each, and the row of those that go on. Assumes nothing.
-use mathlib.Core.Bool.{Bool, true, false}
 use mathlib.Core.List.{List}
-use mathlib.Core.Path.{◌≡◌, refl, ap, sym, ◌∙◌, subst}
-use Prim.Native.Nat.{ℕ, ◌+◌, ◌-◌, ◌*◌, ◌/◌, ◌≤◌, ◌<◌}
+use mathlib.Core.Path.{◌≡◌, ap, sym, ◌∙◌, subst}
+use Prim.Native.Nat.{ℕ, ◌+◌, ◌-◌, ◌*◌, ◌<◌}
 use native.Mathlib.Decide.{ℕ_discrete}
 use native.Mathlib.Omega.{arith}
 use lib.ListN.{length, get_or, set, length-set}
 use lib.Seq.{get_or-set_same, get_or-set_other}
-use Rattle.trie_lanes.specs.Lanes.{On, Goes, lane_at, keep_at, Wide, AllOn, AllGo, Moved, Live}
+use Rattle.trie_lanes.specs.Lanes.{Goes, lane_at, keep_at, Wide, AllOn, AllGo, Moved, Live}
 use Rattle.trie_lanes.specs.declared.Lane.{Lane}
 use Rattle.trie_lanes.proofs.Going.{goes-stay, goes_twice}
 

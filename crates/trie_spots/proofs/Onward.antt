@@ -23,7 +23,6 @@ use Rattle.nets.proofs.Lookups.{keep-start, next_l-step, next_l-end, next_l-foun
 use Rattle.nets.proofs.Numbers.{bits_left-start, start_of-few, net_bits-net_from, refusal_of-net_from}
 use Rattle.nets.proofs.Answers.{number-some, prefix-bits, prefix-refused}
 use Rattle.trie_next.specs.Following.{place_of, len_of, next_as}
-use Rattle.trie_next.specs.declared.following.Place.{Place}
 use Rattle.trie_next.specs.declared.following.Place.TheVariants.{Start, Past}
 use Rattle.trie_next.specs.declared.following.Next.{Next}
 use Rattle.trie_next.specs.declared.following.Next.TheVariants.{Network, End}

@@ -1,5 +1,4 @@
 -- `descend` meets its contract. The loop's invariant: the walks have gone on from where they began. Assumes nothing.
-use Prim.Native.Nat.{◌-◌}
 use native.Mathlib.Omega.{arith}
 use Rattle.trie_lanes.proofs.LaneRows.{all_stay, all-on, all-twice}
 use Rattle.trie_lanes.proofs.descend.Goals as goal

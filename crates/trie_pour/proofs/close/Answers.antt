@@ -1,5 +1,4 @@
 -- `close` meets its contract. Assumes nothing.
-use borrow.Author.Rules.{rules}
 use Rattle.trie_pour.proofs.Parts.{close-none, close-fits, close-node}
 use Rattle.trie_pour.proofs.close.Goals as goal
 

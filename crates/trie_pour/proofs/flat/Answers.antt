@@ -1,6 +1,5 @@
 -- `flat` meets its contract. Assumes nothing.
 use native.Mathlib.Omega.{arith}
-use borrow.Author.Rules.{rules}
 use Rattle.trie_pour.proofs.Parts.{flat-full, flat-none, flat-fits}
 use Rattle.trie_pour.proofs.flat.Goals as goal
 

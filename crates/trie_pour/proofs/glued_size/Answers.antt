@@ -1,5 +1,4 @@
 -- `glued_size` meets its contract. Assumes nothing.
-use borrow.Author.Rules.{rules}
 use Rattle.trie_pour.proofs.Parts.{over_none, over-some}
 use Rattle.trie_pour.proofs.glued_size.Goals as goal
 

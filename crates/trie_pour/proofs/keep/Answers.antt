@@ -1,6 +1,5 @@
 -- `keep` meets its contract. Assumes nothing.
 use native.Mathlib.Omega.{arith}
-use borrow.Author.Rules.{rules}
 use Rattle.trie_pour.proofs.Parts.{keep-room, keep-whole, keep-none, keep_same, keep-fits, keep-moved}
 use Rattle.trie_pour.proofs.keep.Goals as goal
 

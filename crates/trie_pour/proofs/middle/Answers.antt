@@ -1,6 +1,5 @@
 -- `middle` meets its contract. Assumes nothing.
 use mathlib.Core.List.{[]}
-use borrow.Author.Rules.{rules}
 use Rattle.trie_pour.proofs.Parts.{into-whole, into-none, into-leaf, into-inner}
 use Rattle.trie_pour.proofs.middle.Goals as goal
 

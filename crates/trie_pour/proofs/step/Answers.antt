@@ -1,7 +1,6 @@
 -- `step` meets its contract. Assumes nothing.
 use mathlib.Core.List.{[]}
 use native.Mathlib.Omega.{arith}
-use borrow.Author.Rules.{rules}
 use Rattle.trie_pour.proofs.Parts.{part-stands, says-whole, says-split, says-leaf, says-leaf-split, says_none, says-none-split, says-inner, stands-low}
 use Rattle.trie_pour.proofs.step.Goals as goal
 

@@ -1,5 +1,4 @@
 -- `joining::next_join` meets its contract. The loop's invariant: nothing joins before node n. Assumes nothing.
-use Prim.Native.Nat.{◌-◌}
 use native.Mathlib.Omega.{arith}
 use Rattle.trie_blocks.proofs.Plain.{apart_more, apart-end}
 use Rattle.trie_blocks.proofs.joining.next_join.Goals as goal

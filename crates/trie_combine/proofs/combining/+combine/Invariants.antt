@@ -1,5 +1,4 @@
 -- `combining::combine` meets its contract, by the fuel. Assumes nothing.
-use Prim.Native.Nat.{◌-◌}
 use Rattle.trie_combine.proofs.combining.+combine.Given as goal
 
 abbrev pub decreases-combine : goal.decreases-combine

@@ -1,5 +1,4 @@
 -- `counting::count` meets its contract, by the fuel. Assumes nothing.
-use Prim.Native.Nat.{◌-◌}
 use Rattle.trie_combine.proofs.counting.+count.Given as goal
 
 abbrev pub decreases-count : goal.decreases-count

@@ -1,5 +1,4 @@
 -- `counting::spread` meets its contract, by the fuel. Assumes nothing.
-use Prim.Native.Nat.{◌-◌}
 use Rattle.trie_combine.proofs.counting.+spread.Given as goal
 
 abbrev pub decreases-spread : goal.decreases-spread

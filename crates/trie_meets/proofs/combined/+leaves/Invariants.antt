@@ -1,5 +1,4 @@
 -- `combined::leaves` meets its contract, by the fuel. Assumes nothing.
-use Prim.Native.Nat.{◌-◌}
 use Rattle.trie_meets.proofs.combined.+leaves.Given as goal
 
 abbrev pub decreases-leaves : goal.decreases-leaves

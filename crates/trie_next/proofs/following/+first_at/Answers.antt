@@ -1,7 +1,7 @@
 -- `following::first_at` meets its contract. The measure is the number of nodes. Assumes nothing.
 use mathlib.Core.Bool.{true, false}
 use mathlib.Core.Path.{refl}
-use Prim.Native.Nat.{ℕ, ◌-◌}
+use Prim.Native.Nat.{ℕ}
 use native.Mathlib.Omega.{arith}
 use Rattle.nets.specs.Tries.{Trie}
 use Rattle.trie_paths.specs.Spans.{snoc, Spans}

@@ -1,7 +1,6 @@
 -- `rows::put_address` meets its contract: two stores are one write. Assumes nothing.
 use mathlib.Core.Path.{refl}
 use native.Mathlib.Omega.{arith}
-use borrow.Author.Rules.{rules}
 use lib.ListN.{length-set}
 use Rattle.trie_ranges.proofs.Steps.{set-address}
 use Rattle.trie_ranges.proofs.rows.put_address.Goals as goal

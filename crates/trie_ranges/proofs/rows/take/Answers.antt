@@ -2,7 +2,6 @@
 use mathlib.Core.Path.{refl, sym, ◌∙◌}
 use Prim.Native.Nat.{◌-◌, ◌*◌}
 use native.Mathlib.Omega.{arith}
-use borrow.Author.Rules.{rules}
 use Rattle.trie_ranges.proofs.Steps.{take-joins, take-opens}
 use Rattle.trie_ranges.proofs.rows.take.Goals as goal
 

@@ -1,16 +1,9 @@
 -- `rows::write_ranges` meets its contract. The loop's invariant: what is still to come completes the ranges. Assumes nothing.
-use mathlib.Core.Path.{◌≡◌, sym}
-use mathlib.Core.Bool.{false}
 use Prim.Native.Nat.{◌-◌}
-use native.Mathlib.Omega.{arith}
-use borrow.Author.Rules.{rules}
-use lib.Dec.{ltb}
-use Rattle.nets.specs.Bits.{Bits}
-use Rattle.nets.specs.Tries.{Trie, none, bare}
-use Rattle.nodes.specs.Words.{word}
+use Rattle.nets.specs.Tries.{Trie}
 use Rattle.trie_paths.specs.Spans.{Holds}
-use Rattle.trie_paths.proofs.Stacks.{Stack, more, bit_le, ahead-place}
-use Rattle.trie_ranges.proofs.Turns.{Ranging, ranging-start, reads-leaf, reads-inner, ranging-end, leaf-path, leaf-within, leaf-height, leaf-asks, leaf-taken, inner-path, inner-asks, inner-passed}
+use Rattle.trie_paths.proofs.Stacks.{Stack}
+use Rattle.trie_ranges.proofs.Turns.{Ranging}
 use Rattle.trie_ranges.proofs.rows.write_ranges.Given as goal
 
 abbrev pub invariant-loop-k : goal.invariant-loop-k

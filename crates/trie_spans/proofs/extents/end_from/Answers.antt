@@ -1,5 +1,5 @@
 -- `extents::end_from` meets its contract. The loop's invariant: the trie at node k ends where the whole does. Assumes nothing.
-use Prim.Native.Nat.{ℕ, ◌+◌, ◌-◌}
+use Prim.Native.Nat.{ℕ, ◌+◌}
 use native.Mathlib.Omega.{arith}
 use Rattle.nets.specs.Tries.{Trie, size}
 use Rattle.trie_emit.specs.Combine.{Means}

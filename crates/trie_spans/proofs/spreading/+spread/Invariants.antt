@@ -1,5 +1,4 @@
 -- `spreading::spread` meets its contract, by the fuel. Assumes nothing.
-use Prim.Native.Nat.{◌-◌}
 use Rattle.trie_spans.proofs.spreading.+spread.Given as goal
 
 abbrev pub decreases-spread : goal.decreases-spread
