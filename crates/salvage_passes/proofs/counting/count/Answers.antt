@@ -32,7 +32,7 @@ loop-t-smaller c = fewer _ c.loop-t-test.true c.loop-t.invariant.1 c.count_more-
 pub loop-t-preserved : goal.loop-t-preserved
 loop-t-preserved c = let e = c.count_more-t.ensures in
     let i = c.loop-t.invariant in
-    (e.0 ∙ i.0, e.1.1.next, kept_more e.1.1.least (kept_trans i.2 e.1.0.0), λ z. e.1.0.1 z ∙ i.3 z)
+    (e.local_len_unchanged ∙ i.0, e.onward.next, kept_more e.onward.least (kept_trans i.2 e.kept.0), λ z. e.kept.1 z ∙ i.3 z)
 
 pub shape_of-out : goal.shape_of-out
 shape_of-out c = c.loop-t.invariant.2.long

@@ -16,7 +16,7 @@ few c = omega (arith, c.requires.n_le_most_entries.0, length-in_range_in c.args.
 
 pub count_batch-requires : goal.count_batch-requires
 count_batch-requires c = let p = c.requires in
-    record { n_le_most_entries = (p.0.0, p.0.1, room_out p.1.0 refl (few c) c.if-c-gt-ROOM.true c.if-c-room.true p.0.3); sofar = p.1 }
+    record { n_le_most_entries = (p.n_le_most_entries.0, p.n_le_most_entries.1, room_out p.sofar.0 refl (few c) c.if-c-gt-ROOM.true c.if-c-room.true p.n_le_most_entries.3); sofar = p.sofar }
 
 pub returns-then-c-room : goal.returns-then-c-room
 returns-then-c-room c = let r = c.count_batch.ensures in
@@ -24,7 +24,7 @@ returns-then-c-room c = let r = c.count_batch.ensures in
 
 pub count_batch-requires-2 : goal.count_batch-requires-2
 count_batch-requires-2 c = let p = c.requires in
-    record { n_le_most_entries = (p.0.0, p.0.1, p.0.2); sofar = p.1 }
+    record { n_le_most_entries = (p.n_le_most_entries.0, p.n_le_most_entries.1, p.n_le_most_entries.2); sofar = p.sofar }
 
 pub returns : goal.returns
 returns c = let r = c.count_batch-2.ensures in

@@ -30,8 +30,8 @@ slice_bounds-gather-start c = omega (arith, at-fits c.requires.by_index.2 (place
 
 pub gather-b-requires : goal.gather-b-requires
 gather-b-requires c = let p = c.requires in
-    (p.0.0, p.0.1, c.last-after.ensures.0, part_room p.1.2 (place-gather-arg-1 c) p.0.2)
+    (p.n_le_most_entries.0, p.n_le_most_entries.1, c.last-after.ensures.0, part_room p.by_index.2 (place-gather-arg-1 c) p.n_le_most_entries.2)
 
 pub returns : goal.returns
 returns c = let p = c.requires in
-    (part-some p.1.2 (place-struct_known-1 c) c.gather-b.ensures c.last-after.ensures.1 (omega (arith, p.0.2)), λ v T o. part_filled o (place-struct_known-1 c) c.gather-b.ensures c.last-after.ensures.1 (omega (arith, p.0.2)))
+    (part-some p.by_index.2 (place-struct_known-1 c) c.gather-b.ensures c.last-after.ensures.1 (omega (arith, p.n_le_most_entries.2)), λ v T o. part_filled o (place-struct_known-1 c) c.gather-b.ensures c.last-after.ensures.1 (omega (arith, p.n_le_most_entries.2)))

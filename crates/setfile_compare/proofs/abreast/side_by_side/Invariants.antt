@@ -13,7 +13,7 @@ use Rattle.setfile_compare.proofs.Going.{Going, rest_of, going-begin, going-shor
 use Rattle.setfile_compare.proofs.abreast.side_by_side.Given as goal
 
 abbrev pub invariant-loop-holder : goal.invariant-loop-holder
-invariant-loop-holder l = (l m : List Bits) → read_file l.first ≡ file l.family l → read_file l.second ≡ file l.family m → Going l.first l.second l.family l.c l.d l.a l.b l m
+invariant-loop-holder s = (l m : List Bits) → read_file s.first ≡ file s.family l → read_file s.second ≡ file s.family m → Going s.first s.second s.family s.c s.d s.a s.b l m
 
 abbrev pub decreases-loop-holder : goal.decreases-loop-holder
 decreases-loop-holder l = rest_of l.family l.a

@@ -91,48 +91,48 @@ pub is_whole-requires : goal.is_whole-requires
 is_whole-requires τ c = tt
 
 pub step-x-requires : goal.step-x-requires
-step-x-requires τ c = let (q, p, u, ms, t, g) = (start n c).requires.1 in (t, g.part)
+step-x-requires τ c = let (q, p, u, ms, t, g) = c.requires in (t, g.part)
 
 pub flat_size-nodes-requires : goal.flat_size-nodes-requires
 flat_size-nodes-requires τ c = tt
 
 pub pass-behind-requires : goal.pass-behind-requires
-pass-behind-requires τ c = let (q, p, u, ms, t, g) = (start n c).pre.1 in (q, p, u, ms, g.at)
+pass-behind-requires τ c = let (q, p, u, ms, t, g) = c.requires in (q, p, u, ms, g.at)
 
 pub first-f-requires : goal.first-f-requires
 first-f-requires τ c = part-under (here τ c).part
 
 pub count-l-requires : goal.count-l-requires
-count-l-requires τ c = let k = start n c in
+count-l-requires τ c =
     let o = here-count-arg-1 τ c in
     let f = c.first-f.ensures in
-    (omega (arith, first-falls o.part _ f, k.pre.0), (_, _, _, _, _, count_left o k.pre.1.5.few _ f))
+    (omega (arith, first-falls o.part _ f, c.decreases), (_, _, _, _, _, count_left o c.requires.5.few _ f))
 
 pub second-g-requires : goal.second-g-requires
 second-g-requires τ c = part-under (here-h-1 τ c).part
 
 pub count-r-requires : goal.count-r-requires
-count-r-requires τ c = let k = start n c in
+count-r-requires τ c =
     let o = here-count-arg-in-halves-1 τ c in
     let f = c.first-f.ensures in
-    let few = k.pre.1.5.few in
+    let few = c.requires.5.few in
     let l = (c.count-l.ensures _ _ _ _ _ (count_left o few _ f)).1 in
     let y = c.second-g.ensures in
-    (omega (arith, second-falls o.part _ f.0 l _ y, k.pre.0), (_, _, _, _, _, count-right o few _ f.0 l _ y))
+    (omega (arith, second-falls o.part _ f.0 l _ y, c.decreases), (_, _, _, _, _, count-right o few _ f.0 l _ y))
 
 pub overflow_add-l : goal.overflow_add-l
-overflow_add-l τ c = let k = start n c in
+overflow_add-l τ c =
     let o = here-struct_known-in-halves-2-1 τ c in
-    let few = k.pre.1.5.few in
+    let few = c.requires.5.few in
     let f = c.first-f.ensures in
     let x = c.count-l.ensures _ _ _ _ _ (count_left o few _ f) in
     let y = c.count-r.ensures _ _ _ _ _ (count-right o few _ f.0 x.1 _ c.second-g.ensures) in
     omega (arith, x.0, y.0, count-sum o few)
 
 pub glued_size-nodes-requires : goal.glued_size-nodes-requires
-glued_size-nodes-requires τ c = let k = start n c in
+glued_size-nodes-requires τ c =
     let o = here-struct_known-in-halves-2-1 τ c in
-    let few = k.pre.1.5.few in
+    let few = c.requires.5.few in
     let f = c.first-f.ensures in
     let x = c.count-l.ensures _ _ _ _ _ (count_left o few _ f) in
     let y = c.count-r.ensures _ _ _ _ _ (count-right o few _ f.0 x.1 _ c.second-g.ensures) in
@@ -149,4 +149,4 @@ returns-in-Halves τ c q p u ms t g = let o = inside-glued_size-nodes τ c q p u
     let x = c.count-l.ensures _ _ _ _ _ (count_left o g.few _ f) in
     let e = c.second-g.ensures in
     let y = c.count-r.ensures _ _ _ _ _ (count-right o g.few _ f.0 x.1 _ e) in
-    (c.glued_size-nodes.ensures (one o) (two o) (rw (x.0, y.0)) ∙ rw (opened-pour o), pass-both o.part _ e.0 y.1)
+    (c.glued_size-nodes.ensures (one o) (two o) (cc (x.0, y.0)) ∙ rw (opened-pour o), pass-both o.part _ e.0 y.1)

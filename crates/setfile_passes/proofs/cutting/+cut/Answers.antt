@@ -105,7 +105,7 @@ pub middle-m-requires : goal.middle-m-requires
 middle-m-requires τ c = let (q, p, u, ms, t, g) = c.requires in (t, g.here)
 
 pub shade-requires : goal.shade-requires
-shade-requires τ c = (start n c).pre.1
+shade-requires τ c = c.requires
 
 pub returns-then-m-eq0 : goal.returns-then-m-eq0
 returns-then-m-eq0 τ c q p u ms t g = let h = not-false _ c.if-not-s.false in
@@ -123,7 +123,7 @@ first-requires τ c = part-under (here-cut-arg-2-1 τ c).part
 
 pub cut-l-requires : goal.cut-l-requires
 cut-l-requires τ c = let k = here-first τ c in
-    (omega (arith, first-falls k.part _ c.first.ensures, (start n c).pre.0), (_, _, _, _, _, cut_left k _ c.first.ensures))
+    (omega (arith, first-falls k.part _ c.first.ensures, c.decreases), (_, _, _, _, _, cut_left k _ c.first.ensures))
 
 pub second-requires : goal.second-requires
 second-requires τ c = part-under (here-cut-arg-4-1 τ c).part
@@ -132,7 +132,7 @@ pub cut-r-requires : goal.cut-r-requires
 cut-r-requires τ c = let k = here-second τ c in
     let f = c.first.ensures in
     let l = c.cut-l.ensures _ _ _ _ _ (cut_left k _ f) in (
-      omega (arith, second-falls k.part _ f.0 l.1 _ c.second.ensures, (start n c).pre.0),
+      omega (arith, second-falls k.part _ f.0 l.1 _ c.second.ensures, c.decreases),
       (_, _, _, _, _, cut_right k _ l.0 _ f.0 l.1 _ c.second.ensures),
     )
 

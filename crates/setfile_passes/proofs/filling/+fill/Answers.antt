@@ -122,16 +122,16 @@ pub is_whole-requires : goal.is_whole-requires
 is_whole-requires τ c = tt
 
 pub step-x-requires : goal.step-x-requires
-step-x-requires τ c = let (q, p, u, ms, t, g, f) = (start n c).requires.1 in (t, f.part)
+step-x-requires τ c = let (q, p, u, ms, t, g, f) = c.requires in (t, f.part)
 
 pub flat-end-requires : goal.flat-end-requires
-flat-end-requires τ c = let (q, p, u, ms, t, g, f) = (start n c).requires.1 in
+flat-end-requires τ c = let (q, p, u, ms, t, g, f) = c.requires in
     let h = not-false _ c.if-not-s.false in
     let v = rw c.in-Settled.is at (c.step-x.ensures t f.part) in
     fill-room f (settled g h _ (c.is_whole.ensures q p u ms g.under (at_some g h)) _ t v)
 
 pub pass-behind-requires : goal.pass-behind-requires
-pass-behind-requires τ c = let (q, p, u, ms, t, g, f) = (start n c).pre.1 in (q, p, u, ms, g)
+pass-behind-requires τ c = let (q, p, u, ms, t, g, f) = c.requires in (q, p, u, ms, g)
 
 pub overflow_add-o : goal.overflow_add-o
 overflow_add-o τ c = omega (arith, fill-low (fills τ c) (here τ c))
@@ -141,27 +141,24 @@ first-requires τ c = part-under (here-fill-arg-in-halves-1 τ c).part
 
 pub fill-l-requires : goal.fill-l-requires
 fill-l-requires τ c = let o = here-first τ c in
-    let k = start n c in
-    (omega (arith, first-falls o.part _ c.first.ensures, k.pre.0), (_, _, _, _, _, at_first o.part _ c.first.ensures, fill-left (fills-first τ c) o))
+    (omega (arith, first-falls o.part _ c.first.ensures, c.decreases), (_, _, _, _, _, at_first o.part _ c.first.ensures, fill-left (fills-first τ c) o))
 
 pub second-requires : goal.second-requires
 second-requires τ c = part-under (here-fill-arg-in-halves-3-1 τ c).part
 
 pub fill-r-requires : goal.fill-r-requires
 fill-r-requires τ c = let o = here-second τ c in
-    let k = start n c in
     let f = c.first.ensures in
     let l = c.fill-l.ensures _ _ _ _ _ (at_first o.part _ f) (fill-left (fills-second τ c) o) in (
-      omega (arith, second-falls o.part _ f.0 l.1 _ c.second.ensures, k.pre.0),
-      (_, _, _, _, _, at_second o.part _ f.0 l.1 _ c.second.ensures, fill-right (fills-second τ c) o (at-short k.pre.1.5) l.0),
+      omega (arith, second-falls o.part _ f.0 l.1 _ c.second.ensures, c.decreases),
+      (_, _, _, _, _, at_second o.part _ f.0 l.1 _ c.second.ensures, fill-right (fills-second τ c) o (at-short c.requires.5) l.0),
     )
 
 pub close-end-requires : goal.close-end-requires
 close-end-requires τ c = let o = here-close-arg-1 τ c in
-    let k = start n c in
     let f = c.first.ensures in
     let l = c.fill-l.ensures _ _ _ _ _ (at_first o.part _ f) (fill-left (fills-close-arg-1 τ c) o) in
-    let e = at-short k.pre.1.5 in
+    let e = at-short c.requires.5 in
     let r = c.fill-r.ensures _ _ _ _ _ (at_second o.part _ f.0 l.1 _ c.second.ensures) (fill-right (fills-close-arg-1 τ c) o e l.0) in
     (_, _, _, fill-closing (fills-close-arg-1 τ c) o e l.0 r.0)
 
