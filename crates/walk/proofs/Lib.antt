@@ -1,5 +1,4 @@
--- The laws of the walk: where it begins, one step, and the list that it comes past; going to a place of the list, and the calls on the way; the outcomes.
+-- The laws of the walk: where it begins, one step, and the list that it comes past; going to a place of the list; the outcomes.
 pub mod Steps
 pub mod Reached
-pub mod Calling
 pub mod Outcomes

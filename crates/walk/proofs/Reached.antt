@@ -6,7 +6,7 @@ use mathlib.Core.Logic.{inl, inr}
 use Prim.Native.Nat.{ℕ, zero, suc, ◌-◌, ◌≤◌, ◌<◌}
 use native.Mathlib.Omega.{arith}
 use denote.Ref.{Bor}
-use lib.Dec.{leb}
+use lib.Dec.{eqb, leb}
 use lib.ListN.{length}
 use borrow.Author.Tests.{ne_eqb}
 use Rattle.nets.specs.Bits.{Bits}
@@ -65,6 +65,18 @@ after-stays : (n : ℕ) (l : List Bits) (s : Spot) → (gone_on l s).more ≡ fa
 unfolding spot_after
 after-stays zero l s m = refl
 after-stays (suc n) l s m = ap (spot_after n l) (gone-stays l s m) ∙ after-stays n l s m
+
+-- how many turns are left at most, as a turn says
+abbrev pub to_go : Turn → ℕ
+to_go t = cond t.more (suc t.left) 0
+
+pub nearer : (s : Spot) (t : Turn) → t.more ≡ true → to_go (turn_after s t) < to_go t
+nearer s t m = rw m (go s.more t.left)
+  where
+    go : (b : Bool) (n : ℕ) → to_go (cond b (cond (eqb n 0) (idle t) (first_turn (n - 1))) (idle t)) < suc n
+    go false n = omega arith
+    go true zero = omega arith
+    go true (suc n) = rw (ne_eqb (suc n) 0 (λ e. omega arith)) (omega arith)
 
 -- The turns of `reach`, where the walk is w: j turns are left at most, and z is the spot that is reached.
 module _ (z : Spot) where

@@ -15,9 +15,8 @@ pub bounds-pool-1 : goal.bounds-pool-1
 bounds-pool-1 c = omega (arith, figures c.requires.surveyed.0)
 
 pub op_is_clear-requires : goal.op_is_clear-requires
-op_is_clear-requires c = let p = c.requires in
-    let (t, u, h) = p.1 in
-    record { family_bound = p.0.1; inputs = (t, u, h.inputs) }
+op_is_clear-requires c = let (t, u, h) = c.requires.reads in
+    record { family_bound = c.requires.surveyed.1; inputs = (t, u, h.inputs) }
 
 pub returns : goal.returns
 returns c S t u d r = admits-clear S _ (c.is_public.ensures S d) _ c.if-not-is_public.false-raw (decode-header _ S d).family (c.op_is_clear.ensures t u r.inputs)

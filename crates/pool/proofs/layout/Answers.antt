@@ -57,7 +57,7 @@ pub header-requires : goal.header-requires
 header-requires c = omega (arith, kept-header-arg-1 c)
 
 pub records-requires : goal.records-requires
-records-requires c = let whole = omega (arith, kept-records-arg-1 c) in record { shares_len = whole.0; shares_in_bounds = whole.1 }
+records-requires c = record { shares_len = omega (arith, kept-records-arg-1 c); shares_in_bounds = omega (arith, kept-records-arg-1 c) }
 
 pub indexes-requires : goal.indexes-requires
 indexes-requires c = let k = kept-least_words-2 c in
