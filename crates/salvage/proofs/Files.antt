@@ -1,34 +1,31 @@
 -- The file at the end: entries sorted in the order of a list, behind a header. Assumes nothing.
-use mathlib.Core.Bool.{Bool, true, false, ◌||◌, false≢true, true≢false}
+use mathlib.Core.Bool.{Bool, true, false}
 use mathlib.Core.List.{List, [], ◌∷◌, ◌++◌}
-use mathlib.Core.Logic.{◌⊎◌, inl, inr}
 use mathlib.Core.Path.{◌≡◌, refl, ap, sym, ◌∙◌}
-use Prim.Native.Nat.{ℕ, zero, suc, ◌+◌, ◌-◌, ◌*◌, ◌/◌, ◌%◌, ◌^◌, ◌≤◌, ◌<◌}
-use native.Mathlib.Nat.{add-mul, one-mul, suc-mul, mul-le-mul_right, zero-add, mul-lt-mul_of_pos_right}
-use native.Mathlib.Decide.{dec_lt, dec_le}
+use Prim.Native.Nat.{ℕ, zero, suc, ◌+◌, ◌-◌, ◌*◌, ◌^◌, ◌≤◌, ◌<◌}
+use native.Mathlib.Nat.{suc-mul, mul-le-mul_right, zero-add, mul-lt-mul_of_pos_right}
+use native.Mathlib.Decide.{dec_lt}
 use native.Mathlib.Omega.{arith}
-use lib.Dec.{ltb}
 use lib.ListN.{length, get_or, take, drop, length-append, get_or-append}
-use lib.Pow.{split, pow_pos}
+use lib.Pow.{pow_pos}
 use lib.Seq.{ext_get_or, get_or-take, get_or-drop, get_or-append-add, length-take-le}
 use borrow.Author.Tests.{lt-ltb}
 use Rattle.nets.specs.Bits.{Bits, equal, digit, val}
 use Rattle.nets.specs.Lists.{member, in_order}
-use Rattle.nets.specs.Networks.{is_family, width}
+use Rattle.nets.specs.Networks.{width}
 use Rattle.nets.proofs.Strings.{equal-refl, equal_is}
 use Rattle.nets.proofs.Order.{key, From, key_one, key-shorter, unique, from-in_order, member-in_order}
 use Rattle.address_order.proofs.AddressOrder.{number, earlier-self}
-use Rattle.address_order.proofs.Rising.{Rise, member-cons, member-first, member-later}
+use Rattle.address_order.proofs.Rising.{Rise, member-first}
 use Rattle.nodes.specs.Words.{put}
-use Rattle.nodes.proofs.Put.{length-put, get_or-put-in, get_or-put-behind, get_or-put-out}
-use Rattle.setfile_format.specs.Files.{header_bytes, entry_bytes, file_bytes, entry_at, entry_net, entries_of, header_of, file_of, are_clean, networks_in}
+use Rattle.nodes.proofs.Put.{length-put, get_or-put-in, get_or-put-behind}
+use Rattle.setfile_format.specs.Files.{header_bytes, file_bytes, entry_at, entry_net, entries_of, header_of, file_of, are_clean, networks_in}
 use Rattle.setfile_format.proofs.Bytes.{Bytes}
-use Rattle.setfile_format.proofs.Written.{length-header_of, length-entries_of, length-file_of}
+use Rattle.setfile_format.proofs.Written.{length-header_of, length-entries_of}
 use Rattle.setfile_format.proofs.RoundTrip.{length-networks_in, entries-written}
 use Rattle.setfile_format.proofs.FileOrder.{network_at, network_at-within}
 use Rattle.setfile_sort.specs.Sorting.{entry_number, key_of, Sorts}
 use Rattle.salvage_lists.specs.Salvaging.{outermost}
-use Rattle.salvage_lists.specs.Ahead.{Chain, Whole}
 use Rattle.salvage_lists.proofs.Chains.{no as clash, chain-rise}
 use Rattle.salvage_lists.proofs.Left.{whole-outermost}
 use Rattle.salvage_batch.specs.Buffers.{Kept}

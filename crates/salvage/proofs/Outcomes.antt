@@ -3,7 +3,7 @@
 use mathlib.Core.Bool.{true}
 use mathlib.Core.List.{List}
 use mathlib.Core.Path.{◌≡◌, refl, ap, sym, ◌∙◌}
-use Prim.Native.Nat.{ℕ, ◌+◌, ◌-◌, ◌*◌, ◌/◌, ◌≤◌, ◌<◌}
+use Prim.Native.Nat.{ℕ, ◌+◌, ◌-◌, ◌*◌, ◌≤◌}
 use native.Mathlib.Nat.{mul_comm, mul-div_left}
 use native.Mathlib.Omega.{arith}
 use lib.ListN.{length, get_or}
@@ -12,15 +12,15 @@ use Rattle.nets.specs.Lists.{covers, is_list}
 use Rattle.nets.specs.Networks.{is_family, width}
 use Rattle.nets.proofs.Answers.{number-one, number-some}
 use Rattle.nodes.specs.Words.{put}
-use Rattle.nodes.proofs.Put.{length-put, get_or-put-behind}
+use Rattle.nodes.proofs.Put.{get_or-put-behind}
 use Rattle.setfile_format.specs.Files.{header_bytes, entry_bytes, file_bytes, most_entries, file_of, file, read_file}
 use Rattle.setfile_format.proofs.Bytes.{Bytes}
 use Rattle.setfile_format.proofs.Written.{length-file_of, read_file-file_of}
 use Rattle.setfile_format.proofs.RoundTrip.{IsFile, read_file-is, read_file-only}
-use Rattle.salvage_lists.specs.Salvaging.{whole_entries, in_range_in, long_in, trimmed_in, covered_in, outermost}
+use Rattle.salvage_lists.specs.Salvaging.{whole_entries, outermost}
 use Rattle.salvage_lists.proofs.Left.{covers-outermost, is_list-outermost, outermost-list}
 use Rattle.salvage_lists.proofs.Counts.{covered-outermost, covered-list, length-in_range_in, within-in_range_in, clean-in_range_in}
-use Rattle.salvage.specs.Calls.{family_of, read_of, entries_of, left_of, saved_of, salvage_rules, counts_as, counts_of, no_counts, salvaged_as, salvage_rule, salvage_left, Salvages}
+use Rattle.salvage.specs.Calls.{family_of, read_of, entries_of, left_of, saved_of, counts_as, counts_of, salvaged_as, salvage_rule, salvage_left, Salvages}
 use Rattle.salvage.specs.declared.Salvaged.{Salvaged}
 use Rattle.salvage.specs.declared.Salvaged.TheVariants as salvaged
 use Rattle.salvage.proofs.Returns.{entry-some, no_none}

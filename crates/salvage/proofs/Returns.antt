@@ -1,12 +1,11 @@
 -- A law for each return of a salvage, by the tests on the way to it. Assumes nothing.
-use mathlib.Core.Bool.{Bool, true, false, not, cond}
-use mathlib.Core.List.{List, [], ◌∷◌}
-use mathlib.Core.Path.{◌≡◌, refl, ap, sym, ◌∙◌}
-use Prim.Native.Nat.{ℕ, suc, ◌+◌, ◌-◌, ◌*◌, ◌/◌, ◌≤◌, ◌<◌}
+use mathlib.Core.Bool.{true, false}
+use mathlib.Core.List.{List}
+use mathlib.Core.Path.{◌≡◌, ap, sym, ◌∙◌}
+use Prim.Native.Nat.{ℕ, ◌+◌, ◌-◌, ◌/◌, ◌≤◌, ◌<◌}
 use native.Mathlib.Nat.{mul_comm, div-mul-le_self}
 use native.Mathlib.Decide.{dec_le}
 use native.Mathlib.Omega.{arith}
-use lib.Dec.{eqb, ltb}
 use lib.ListN.{length}
 use borrow.Author.Tests.{lt-ltb, le-ltb, ne_eqb}
 use Rattle.nets.specs.Bits.{Bits}
@@ -22,14 +21,13 @@ use Rattle.address_order.proofs.Rising.{rise_one}
 use Rattle.address_order.proofs.Sorted.{rise-order, member-order, length-order}
 use Rattle.salvage_lists.proofs.Chains.{chain-rise}
 use Rattle.nodes.specs.Words.{put}
-use Rattle.setfile_format.specs.Files.{header_bytes, entry_bytes, file_bytes, most_entries, head_number, file_of}
+use Rattle.setfile_format.specs.Files.{header_bytes, entry_bytes, file_bytes, most_entries, file_of}
 use Rattle.setfile_format.proofs.Written.{length-file_of, file_bytes-mono, file_bytes-few}
 use Rattle.salvage_lists.specs.Salvaging.{whole_entries, in_range_in, long_in, trimmed_in, covered_in, outermost}
 use Rattle.salvage_lists.specs.Ahead.{Whole}
 use Rattle.salvage_lists.proofs.Left.{whole-few, whole-outermost}
 use Rattle.salvage_lists.proofs.Counts.{length-in_range_in, covered-outermost}
-use Rattle.salvage_batch.specs.Buffers.{Kept}
-use Rattle.salvage.specs.Calls.{family_of, read_of, entries_of, left_of, saved_of, salvage_rules, counts_as, counts_of, no_counts, salvaged_as, salvage_rule, salvage_left, Salvages}
+use Rattle.salvage.specs.Calls.{family_of, read_of, entries_of, left_of, saved_of, salvage_rules, counts_as, counts_of, salvage_rule, salvage_left, Salvages}
 use Rattle.salvage_passes.specs.Parts.{Counted, Filling}
 use Rattle.salvage.specs.Parts.{Readable}
 use Rattle.salvage.specs.declared.Counts.{Counts}

@@ -1,7 +1,6 @@
 -- `salvage` meets its contract: one rule after the other is tested. Assumes nothing.
 use mathlib.Core.Path.{◌≡◌, sym, ◌∙◌}
 use native.Mathlib.Omega.{arith}
-use borrow.Author.Rules.{rules}
 use borrow.Author.Tests.{not-true, not-false}
 use mathlib.Core.Bool.{true}
 use Rattle.nets.specs.Networks.{is_family}

@@ -1,5 +1,4 @@
 -- `put_asides` meets its contract: one behind the other. Assumes nothing.
-use borrow.Author.Rules.{rules}
 use Rattle.setfile_range.proofs.Laying.{first-of, second-of, both_of}
 use Rattle.setfile_range.proofs.put_asides.Goals as goal
 

@@ -1,12 +1,11 @@
 -- `put_between` meets its contract. The loop's invariant: the networks of as many bits as are done, and fewer, are laid. Assumes nothing.
-use mathlib.Core.Bool.{Bool, not, cond, ◌||◌}
-use mathlib.Core.List.{List, [], ◌∷◌}
-use mathlib.Core.Path.{◌≡◌, refl}
-use Prim.Native.Nat.{ℕ}
+use mathlib.Core.Bool.{Bool}
+use mathlib.Core.List.{[], ◌∷◌}
+use mathlib.Core.Path.{refl}
 use lib.ListN.{length}
 use Rattle.nets.specs.Bits.{Bits}
 use Rattle.trie_paths.specs.Spans.{snoc}
-use Rattle.setfile_range.specs.Edges.{opened, Lays, Edges}
+use Rattle.setfile_range.specs.Edges.{opened, Edges}
 use Rattle.setfile_range.proofs.Laying.{Going, lays-length, shorter, going_start, whole-fits, going_end, going_on, going-both, going-fits, going_next}
 use Rattle.setfile_range.proofs.put_between.Goals as goal
 

@@ -1,13 +1,12 @@
 -- `put_between` meets its contract. The loop's invariant: the networks of as many bits as are done, and fewer, are laid. Assumes nothing.
-use mathlib.Core.Bool.{Bool, not, cond, ◌||◌}
+use mathlib.Core.Bool.{not, cond, ◌||◌}
 use mathlib.Core.List.{List, [], ◌∷◌}
-use mathlib.Core.Path.{◌≡◌, refl}
+use mathlib.Core.Path.{◌≡◌}
 use Prim.Native.Nat.{ℕ}
 use lib.ListN.{length}
 use Rattle.nets.specs.Bits.{Bits}
-use Rattle.trie_paths.specs.Spans.{snoc}
 use Rattle.setfile_range.specs.Edges.{opened, Lays, Edges}
-use Rattle.setfile_range.proofs.Laying.{Going, lays-length, shorter, going_start, whole-fits, going_end, going_on, going-both, going-fits, going_next}
+use Rattle.setfile_range.proofs.Laying.{Going}
 use Rattle.setfile_range.proofs.put_between.Given as goal
 
 abbrev pub invariant-loop-l : goal.invariant-loop-l

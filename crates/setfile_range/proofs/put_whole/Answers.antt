@@ -1,7 +1,6 @@
 -- `put_whole` meets its contract. Assumes nothing.
 use mathlib.Core.List.{[]}
 use native.Mathlib.Omega.{arith}
-use borrow.Author.Rules.{rules}
 use Rattle.setfile_range.proofs.Laying.{lays-none, lays_one, whole_room}
 use Rattle.setfile_range.proofs.put_whole.Goals as goal
 

@@ -1,6 +1,5 @@
 -- `tallying::stray` meets its contract, by its tests. Assumes nothing.
 use native.Mathlib.Omega.{arith}
-use borrow.Author.Rules.{rules}
 use Rattle.salvage.proofs.Tallies.{stray-long, stray-trimmed, stray-none}
 use Rattle.salvage.proofs.tallying.stray.Goals as goal
 

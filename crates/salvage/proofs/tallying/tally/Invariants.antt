@@ -1,12 +1,7 @@
 -- `tallying::tally` meets its contract. The loop's invariant: the counts are those of the entries read. Assumes nothing.
-use mathlib.Core.Path.{◌≡◌, refl}
-use Prim.Native.Nat.{◌+◌, ◌-◌, ◌≤◌}
-use native.Mathlib.Nat.{le_trans}
-use native.Mathlib.Omega.{arith}
-use borrow.Author.Rules.{rules}
-use Rattle.setfile_format.proofs.Written.{file_bytes-mono}
+use mathlib.Core.Path.{◌≡◌}
+use Prim.Native.Nat.{◌-◌, ◌≤◌}
 use Rattle.salvage_lists.specs.Salvaging.{long_in, trimmed_in}
-use Rattle.salvage.proofs.Tallies.{trimmed-next, long-next, trimmed-few, long-few}
 use Rattle.salvage.proofs.tallying.tally.Given as goal
 
 abbrev pub invariant-loop-i : goal.invariant-loop-i

@@ -1,9 +1,8 @@
 -- `writing::write` meets its contract, each return by the tests on the way to it. Assumes nothing.
 -- those in range, and those that are not
-use mathlib.Core.Path.{◌≡◌, refl}
+use mathlib.Core.Path.{◌≡◌}
 use Prim.Native.Nat.{◌+◌, ◌-◌}
 use native.Mathlib.Omega.{arith}
-use borrow.Author.Rules.{rules}
 use Rattle.salvage_lists.specs.Salvaging.{long_in}
 use Rattle.salvage.proofs.Tallies.{long-few}
 use Rattle.salvage.proofs.Returns.{counted-few, size_few, counted-least, returns-short, returns-filling, returns-file, sure-fits}

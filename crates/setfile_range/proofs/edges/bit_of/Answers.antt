@@ -1,5 +1,4 @@
 -- `edges::bit_of` meets its contract. Assumes nothing.
-use borrow.Author.Rules.{rules}
 use Rattle.setfile_range.proofs.Walking.{bit-none, bit_is}
 use Rattle.setfile_range.proofs.edges.bit_of.Goals as goal
 

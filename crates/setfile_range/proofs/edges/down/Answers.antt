@@ -1,5 +1,4 @@
 -- `edges::down` meets its contract, by the half that the bit names. Assumes nothing.
-use borrow.Author.Rules.{rules}
 use mathlib.Core.Path.{sym, ap, ◌∙◌}
 use Rattle.nets.specs.Networks.{net_from}
 use Rattle.trie_paths.specs.Spans.{snoc}

@@ -1,5 +1,4 @@
 -- `edges::edge_at` meets its contract: an address of the family has its bits. Assumes nothing.
-use borrow.Author.Rules.{rules}
 use mathlib.Core.Path.{refl}
 use Rattle.setfile_range.proofs.Walking.{edge-refused, edge-starts}
 use Rattle.setfile_range.proofs.edges.edge_at.Goals as goal

@@ -1,6 +1,5 @@
 -- `edges::in_front` meets its contract: one less, by the word that has to give. Assumes nothing.
 use native.Mathlib.Omega.{arith}
-use borrow.Author.Rules.{rules}
 use Rattle.setfile_range.proofs.Walking.{before-low, before-high, before-none}
 use Rattle.setfile_range.proofs.edges.in_front.Goals as goal
 

@@ -1,6 +1,5 @@
 -- `edges::left_edge` meets its contract. Assumes nothing.
 use mathlib.Core.Path.{◌∙◌}
-use borrow.Author.Rules.{rules}
 use Rattle.setfile_range.proofs.Walking.{front_low, told-address}
 use Rattle.setfile_range.proofs.edges.left_edge.Goals as goal
 

@@ -1,5 +1,4 @@
 -- `edges::onward` meets its contract: the next bit goes from what is to come to what is done. Assumes nothing.
-use borrow.Author.Rules.{rules}
 use mathlib.Core.Path.{refl}
 use Rattle.setfile_range.proofs.Walking.{goes_on, bit-none, edge-onward}
 use Rattle.setfile_range.proofs.edges.onward.Goals as goal
