@@ -9,4 +9,4 @@ use Rattle.calls_kinds.proofs.asks_of.Goals as goal
 
 pub returns : goal.returns
 returns c = let b = c.args.c.b in
-    record { value = c.asks_by.ensures ∙ ap (λ x. asks_by x b) c.kind_of.ensures; bytes_bound = (omega (arith, ap (λ (x : Asks). x.bytes) c.asks_by.ensures, asks_by-most c.kind_of.result b),) }
+    record { value = c.asks_by.ensures ∙ ap (λ x. asks_by x b) c.kind_of.ensures; bytes_bound = omega (arith, ap (λ (x : Asks). x.bytes) c.asks_by.ensures, asks_by-most c.kind_of.result b) }
