@@ -1,7 +1,7 @@
 -- `grow` meets its contract, by the depth that is left. The loop's invariant: from what was written before it, it has gone on to what is written now. Assumes
 -- nothing.
 use mathlib.Core.List.{List}
-use Prim.Native.Nat.{ℕ, ◌-◌, ◌<◌}
+use Prim.Native.Nat.{ℕ, ◌-◌}
 use native.Mathlib.Omega.{arith}
 use Rattle.nets.specs.Bits.{Bits}
 use Rattle.nets.specs.Tries.{Trie}
@@ -90,7 +90,7 @@ loop-h-init τ c v q p t ms s = s
 pub grow-r-requires : goal.grow-r-requires
 grow-r-requires τ c = let g = here τ c in
     let k = going-turn g c.loop-h-test.true in
-    (omega (arith, turn-falls g k, (start n c).pre.0), (_, _, _, _, turn-grows g k))
+    (omega (arith, turn-falls g k, c.decreases), (_, _, _, _, turn-grows g k))
 
 pub overflow_sub-i : goal.overflow_sub-i
 overflow_sub-i τ c = let g = here-struct_known-in-loop-h-1 τ c in

@@ -1,13 +1,10 @@
 -- `grow` meets its contract, by the depth that is left. The loop's invariant: from what was written before it, it has gone on to what is written now. Assumes
 -- nothing.
 use mathlib.Core.List.{List}
-use Prim.Native.Nat.{ℕ, ◌-◌, ◌<◌}
-use native.Mathlib.Omega.{arith}
+use Prim.Native.Nat.{ℕ, ◌-◌}
 use Rattle.nets.specs.Bits.{Bits}
 use Rattle.nets.specs.Tries.{Trie}
-use Rattle.kept_build.specs.Building.{Grows}
-use Rattle.kept_build.proofs.Growing.{Going, first, first_one, first-writable, first-going, going-long}
-use Rattle.kept_build.proofs.Growing.{branch_leaves, going-turn, going_end, turn-grows, turn-falls, turn-start, turn-branch, turn-again}
+use Rattle.kept_build.proofs.Growing.{Going}
 use Rattle.kept_build.proofs.+grow.Given as goal
 
 abbrev pub invariant-loop-h : goal.invariant-loop-h

@@ -1,5 +1,4 @@
 -- `build` meets its contract: nothing is written of an empty list, and else what `grow` writes. Assumes nothing.
-use borrow.Author.Rules.{rules}
 use borrow.Author.Tests.{not-true, not-false}
 use Rattle.kept_build.proofs.Filling.{filled, fill_none, fill-grows}
 use Rattle.kept_build.proofs.build.Goals as goal

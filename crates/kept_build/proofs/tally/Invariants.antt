@@ -1,11 +1,9 @@
 -- `tally` meets its contract. The loop's invariant: from what was passed before it, it has gone on to what is passed now. Assumes nothing.
 use mathlib.Core.List.{List}
 use Prim.Native.Nat.{◌-◌}
-use native.Mathlib.Omega.{arith}
 use Rattle.nets.specs.Bits.{Bits}
 use Rattle.nets.specs.Tries.{Trie}
-use Rattle.kept_build.specs.Building.{Runs, few}
-use Rattle.kept_build.proofs.Tallying.{Passing, first, first-passing, passing-next, passing-few, passing-again, passing-end}
+use Rattle.kept_build.proofs.Tallying.{Passing}
 use Rattle.kept_build.proofs.tally.Given as goal
 
 abbrev pub invariant-loop-h : goal.invariant-loop-h

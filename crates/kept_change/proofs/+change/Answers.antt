@@ -1,9 +1,8 @@
 -- `change` meets its contract, by the bits that are left. Assumes nothing.
 use mathlib.Core.List.{List, ◌++◌}
 use mathlib.Core.Path.{◌≡◌, sym, subst}
-use Prim.Native.Nat.{ℕ, ◌-◌, ◌<◌}
+use Prim.Native.Nat.{ℕ, ◌-◌}
 use native.Mathlib.Omega.{arith}
-use borrow.Author.Rules.{rules}
 use Rattle.nets.specs.Bits.{Bits}
 use Rattle.nets.specs.Networks.{net_from}
 use Rattle.nets.specs.Tries.{Trie, side}
@@ -157,43 +156,41 @@ pub plan_for-x-requires : goal.plan_for-x-requires
 plan_for-x-requires τ c = let (p, r, t, rest, is, g) = c.requires in (_, p, r, t, rest, g.here, g.way, sym (path-is _ _ p is).0)
 
 pub flat-requires : goal.flat-requires
-flat-requires τ c = let (p, r, t, rest, is, g) = (start k c).requires.1 in
+flat-requires τ c = let (p, r, t, rest, is, g) = c.requires in
     (_, p, p ++ r, t, rest, g.way.net, flat-acts g (planned τ c p r t rest is g c.in-Flat.is))
 
 pub halve-requires : goal.halve-requires
-halve-requires τ c = let (p, r, t, rest, is, g) = (start k c).requires.1 in
+halve-requires τ c = let (p, r, t, rest, is, g) = c.requires in
     let d = planned-halve-arg-1 τ c p r t rest is g c.in-Halve.is in
     (_, p, r, p ++ r, t, rest, is, g.way, d.2, halve-acts g d)
 
 pub fork-requires : goal.fork-requires
-fork-requires τ c = let (p, r, t, rest, is, g) = (start k c).requires.1 in
+fork-requires τ c = let (p, r, t, rest, is, g) = c.requires in
     let d = planned-fork-arg-1 τ c p r t rest is g c.in-Fork.is in
     (_, p, p ++ r, t, rest, is, g.way.net, fork-acts g d)
 
 pub drop_half-requires : goal.drop_half-requires
-drop_half-requires τ c = let (p, r, t, rest, is, g) = (start k c).requires.1 in
+drop_half-requires τ c = let (p, r, t, rest, is, g) = c.requires in
     let d = planned-drop_half-arg-1 τ c p r t rest is g c.in-Drop.is in
     (_, p, _, _, rest, drop-halves g d)
 
 pub child-requires : goal.child-requires
-child-requires τ c = let (p, r, t, rest, is, g) = (start k (seen k c)).pre.1 in
+child-requires τ c = let (p, r, t, rest, is, g) = c.requires in
     (_, p, is, down-short g.here (downs τ c p r t rest is g) g.way)
 
 pub change-z-requires : goal.change-z-requires
-change-z-requires τ c = let s = start k (seen k c) in
-    let (p, r, t, rest, is, g) = s.pre.1 in
+change-z-requires τ c = let (p, r, t, rest, is, g) = c.requires in
     let d = downs-child τ c p r t rest is g in
     let h = c.half_of-h.ensures in
     let y = c.child.ensures _ p is in
     let f = down-falls g.here d g.way _ (sym (path-is _ _ p is).0) in (
-      omega (arith, s.pre.0, f, (path-is _ _ (snoc p _) y).0, (path-is _ _ p is).0, length-snoc p c.in-Down.bit),
+      omega (arith, c.decreases, f, (path-is _ _ (snoc p _) y).0, (path-is _ _ p is).0, length-snoc p c.in-Down.bit),
       (_, _, _, _, y, changes-at h.0 h.1 (down-changes g d)),
     )
 
 pub relink-requires : goal.relink-requires
-relink-requires τ c = let i = inward k c in
-    let (p, r, t, rest, is, g) = (start k (seen k i)).pre.1 in
-    down-relinks g (downs-relink-arg-1 τ i p r t rest is g) (called τ c p r t rest is g)
+relink-requires τ c = let (p, r, t, rest, is, g) = c.requires in
+    down-relinks g (downs-relink-arg-1 τ c p r t rest is g) (called τ c p r t rest is g)
 
 pub returns-in-Stay : goal.returns-in-Stay
 returns-in-Stay τ c p r t rest is g = stay-spliced g (planned-in-stay τ c p r t rest is g c.in-Stay.is)
@@ -215,6 +212,5 @@ returns-in-Drop τ c p r t rest is g = let d = planned-slice_known-in-drop-1 τ 
     drop-spliced g d (c.drop_half.ensures _ p _ _ rest (drop-halves g d))
 
 pub returns-in-Down : goal.returns-in-Down
-returns-in-Down τ c p r t rest is g = let i = inward k c in
-    let q = c.relink.ensures in
-    down-done g (downs-slice_known-in-down-2-1 τ i p r t rest is g) (called-slice_known-in-down-2-1 τ c p r t rest is g) q.0 (q.1 p is (way-path g.way))
+returns-in-Down τ c p r t rest is g = let q = c.relink.ensures in
+    down-done g (downs-slice_known-in-down-2-1 τ c p r t rest is g) (called-slice_known-in-down-2-1 τ c p r t rest is g) q.0 (q.1 p is (way-path g.way))

@@ -3,10 +3,9 @@ use mathlib.Core.List.{List}
 use mathlib.Core.Path.{◌≡◌, sym, ap, subst, ◌∙◌}
 use Prim.Native.Nat.{ℕ, ◌+◌, ◌-◌, ◌≤◌, ◌<◌}
 use native.Mathlib.Omega.{arith}
-use borrow.Author.Rules.{rules}
 use lib.ListN.{length}
 use Rattle.nets.specs.Bits.{Bits}
-use Rattle.nets.specs.Tries.{Trie, side}
+use Rattle.nets.specs.Tries.{Trie}
 use Rattle.trie_paths.proofs.Paths.{length-snoc}
 use Rattle.branch_points.specs.KeptTries.{kept_size}
 use Rattle.kept_steps.specs.Segments.{KeptSegment}
@@ -135,7 +134,7 @@ pub plan_for-x-requires : goal.plan_for-x-requires
 plan_for-x-requires τ c = c.requires
 
 pub overflow_sub-result : goal.overflow_sub-result
-overflow_sub-result τ c = let (u, p, r, t, rest, g, h, d) = (start k c).pre.1 in omega (arith, g.end)
+overflow_sub-result τ c = let (u, p, r, t, rest, g, h, d) = c.requires in omega (arith, g.end)
 
 pub overflow_sub-result-in-Halve : goal.overflow_sub-result-in-Halve
 overflow_sub-result-in-Halve τ c = omega (arith, halves τ c c.in-Halve.is)
@@ -150,47 +149,44 @@ pub overflow_sub-result-in-Halve-2 : goal.overflow_sub-result-in-Halve-2
 overflow_sub-result-in-Halve-2 τ c = omega (arith, halves τ c c.in-Halve.is)
 
 pub overflow_sub-result-in-Fork : goal.overflow_sub-result-in-Fork
-overflow_sub-result-in-Fork τ c = let (u, p, r, t, rest, g, h, d) = (start k c).pre.1 in omega (arith, g.end)
+overflow_sub-result-in-Fork τ c = let (u, p, r, t, rest, g, h, d) = c.requires in omega (arith, g.end)
 
 pub overflow_add-result : goal.overflow_add-result
-overflow_add-result τ c = let (u, p, r, t, rest, g, h, d) = (start k c).pre.1 in omega (arith, g.end, g.tail, g.last, g.room.few)
+overflow_add-result τ c = let (u, p, r, t, rest, g, h, d) = c.requires in omega (arith, g.end, g.tail, g.last, g.room.few)
 
 pub other_size-requires : goal.other_size-requires
-other_size-requires τ c = let (u, p, r, t, rest, g, h, d) = (start k c).requires.1 in
+other_size-requires τ c = let (u, p, r, t, rest, g, h, d) = c.requires in
     let x = planned-in-drop τ c u p r t rest g h d c.in-Drop.is in
     drop-fits g x.1
 
 pub overflow_add-d : goal.overflow_add-d
-overflow_add-d τ c = let (u, p, r, t, rest, g, h, d) = (start k (seen k c)).pre.1 in
+overflow_add-d τ c = let (u, p, r, t, rest, g, h, d) = c.requires in
     omega (arith, down-falls g (downs τ c u p r t rest g h d) h _ d)
 
 pub change_size-k-requires : goal.change_size-k-requires
-change_size-k-requires τ c = let s = start k (seen k c) in
-    let (u, p, r, t, rest, g, h, d) = s.pre.1 in
+change_size-k-requires τ c = let (u, p, r, t, rest, g, h, d) = c.requires in
     let o = downs τ c u p r t rest g h d in
     let e = c.half_of-h.ensures in (
-      omega (arith, s.pre.0, down-falls g o h _ d),
+      omega (arith, c.decreases, down-falls g o h _ d),
       (u, _, _, _, _, segment-at e.0 e.1 (half-here g o), down-path g o h, length-snoc p _ ∙ ap (λ (z : ℕ). z + 1) d),
     )
 
 pub overflow_sub-result-in-Down : goal.overflow_sub-result-in-Down
-overflow_sub-result-in-Down τ c = let (u, p, r, t, rest, g, h, d) = (start k (seen k (inward k c))).pre.1 in omega (arith, g.end)
+overflow_sub-result-in-Down τ c = let (u, p, r, t, rest, g, h, d) = c.requires in omega (arith, g.end)
 
 pub overflow_add-result-in-Down : goal.overflow_add-result-in-Down
-overflow_add-result-in-Down τ c = let i = inward k c in
-    let (u, p, r, t, rest, g, h, d) = (start k (seen k i)).pre.1 in
-    omega (arith, called τ c u p r t rest g h d, made-few g h (downs-change_size-k τ i u p r t rest g h d), down-half g (downs-change_size-k τ i u p r t rest g h d), g.room.few)
+overflow_add-result-in-Down τ c = let (u, p, r, t, rest, g, h, d) = c.requires in
+    omega (arith, called τ c u p r t rest g h d, made-few g h (downs-change_size-k τ c u p r t rest g h d), down-half g (downs-change_size-k τ c u p r t rest g h d), g.room.few)
 
 pub overflow_sub-result-in-Down-2 : goal.overflow_sub-result-in-Down-2
-overflow_sub-result-in-Down-2 τ c = let (u, p, r, t, rest, g, h, d) = (start k (seen k (inward k c))).pre.1 in omega (arith, called-struct_known-in-down-1 τ c u p r t rest g h d)
+overflow_sub-result-in-Down-2 τ c = let (u, p, r, t, rest, g, h, d) = c.requires in omega (arith, called-struct_known-in-down-1 τ c u p r t rest g h d)
 
 pub overflow_sub-result-in-Down-3 : goal.overflow_sub-result-in-Down-3
-overflow_sub-result-in-Down-3 τ c = let i = inward k c in
-    let (u, p, r, t, rest, g, h, d) = (start k (seen k i)).pre.1 in
-    omega (arith, called-struct_known-in-down-1 τ c u p r t rest g h d, down-half g (downs-struct_known-in-down-1 τ i u p r t rest g h d))
+overflow_sub-result-in-Down-3 τ c = let (u, p, r, t, rest, g, h, d) = c.requires in
+    omega (arith, called-struct_known-in-down-1 τ c u p r t rest g h d, down-half g (downs-struct_known-in-down-1 τ c u p r t rest g h d))
 
 pub returns-in-Stay : goal.returns-in-Stay
-returns-in-Stay τ c u p r t rest g h d = size-stay (start k c).args.into r g (planned-in-stay τ c u p r t rest g h d c.in-Stay.is)
+returns-in-Stay τ c u p r t rest g h d = size-stay c.args.into r g (planned-in-stay τ c u p r t rest g h d c.in-Stay.is)
 
 pub returns-in-Flat : goal.returns-in-Flat
 returns-in-Flat τ c u p r t rest g h d = let x = planned-flat_size τ c u p r t rest g h d c.in-Flat.is in
@@ -209,6 +205,5 @@ returns-in-Drop τ c u p r t rest g h d = let x = planned-other_size τ c u p r 
     c.other_size.ensures ∙ rw x.0 (size-drop g x.1)
 
 pub returns-in-Down : goal.returns-in-Down
-returns-in-Down τ c u p r t rest g h d = let i = inward k c in
-    let y = called-struct_known-in-down-1 τ c u p r t rest g h d in
-    size-down g (downs-struct_known-in-down-1 τ i u p r t rest g h d) _ _ y.0 y.1
+returns-in-Down τ c u p r t rest g h d = let y = called-struct_known-in-down-1 τ c u p r t rest g h d in
+    size-down g (downs-struct_known-in-down-1 τ c u p r t rest g h d) _ _ y.0 y.1

@@ -1,5 +1,4 @@
 -- `other_size` meets its contract, by the side. Assumes nothing.
-use borrow.Author.Rules.{rules}
 use Rattle.kept_change.proofs.other_size.Goals as goal
 
 pub returns-then-bit : goal.returns-then-bit

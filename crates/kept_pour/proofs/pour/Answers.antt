@@ -1,5 +1,4 @@
 -- `pour` meets its contract: what is left after cutting is written over wholly. Assumes nothing.
-use borrow.Author.Rules.{rules}
 use Rattle.kept_pour.proofs.Poured.{pour-refills, poured}
 use Rattle.kept_pour.proofs.pour.Goals as goal
 

@@ -1,6 +1,5 @@
 -- `refill` meets its contract. Assumes nothing.
 use mathlib.Core.List.{[]}
-use borrow.Author.Rules.{rules}
 use Rattle.kept_pour.proofs.Fills.{path-of}
 use Rattle.kept_pour.proofs.Pouring.{fill_start, filled}
 use Rattle.kept_pour.proofs.refill.Goals as goal

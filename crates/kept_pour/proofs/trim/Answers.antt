@@ -1,5 +1,4 @@
 -- `trim` meets its contract. Assumes nothing.
-use borrow.Author.Rules.{rules}
 use Rattle.kept_pour.proofs.Pouring.{cut-start}
 use Rattle.kept_pour.proofs.Poured.{spliced}
 use Rattle.kept_pour.proofs.trim.Goals as goal

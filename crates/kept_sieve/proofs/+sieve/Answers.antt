@@ -1,8 +1,7 @@
 -- `sieve` meets its contract, by the nodes that are left. Assumes nothing.
 use mathlib.Core.Path.{◌≡◌, ap}
-use Prim.Native.Nat.{ℕ, ◌+◌, ◌-◌, ◌/◌, ◌<◌}
+use Prim.Native.Nat.{ℕ, ◌+◌, ◌-◌, ◌/◌}
 use native.Mathlib.Omega.{arith}
-use borrow.Author.Rules.{rules}
 use Rattle.nets.specs.Bits.{Bits}
 use Rattle.nets.specs.Tries.{Trie}
 use Rattle.kept_nodes.specs.Parse.{head_at}
@@ -132,61 +131,59 @@ returns-then-x-lt256 τ c p t s g = done-member g
     (rw c.head-x.ensures at c.if-x-lt256.true) c.move_nodes.ensures
 
 pub overflow_add-m : goal.overflow_add-m
-overflow_add-m τ c = let (p, t, s, g) = (start k c).requires.1 in omega (arith, middle g (inside τ c p t s g) (mid τ c) (mid-is τ c))
+overflow_add-m τ c = let (p, t, s, g) = c.requires in omega (arith, middle g (inside τ c p t s g) (mid τ c) (mid-is τ c))
 
 pub overflow_cast-i-2 : goal.overflow_cast-i-2
-overflow_cast-i-2 τ c = let (p, t, s, g) = (start k c).pre.1 in omega (arith, place g, g.room.few)
+overflow_cast-i-2 τ c = let (p, t, s, g) = c.requires in omega (arith, place g, g.room.few)
 
 pub net_at-s-requires : goal.net_at-s-requires
-net_at-s-requires τ c = let (p, t, s, g) = (start k c).pre.1 in
+net_at-s-requires τ c = let (p, t, s, g) = c.requires in
     let x = place g in
     record { kept_room = g.room; le_i = (x.0, x.1) }
 
 pub overflow_add-i : goal.overflow_add-i
-overflow_add-i τ c = let (p, t, s, g) = (start k c).pre.1 in omega (arith, place g, g.room.few)
+overflow_add-i τ c = let (p, t, s, g) = c.requires in omega (arith, place g, g.room.few)
 
 pub own_size-requires : goal.own_size-requires
-own_size-requires τ c = let (p, t, s, g) = (start k c).requires.1 in
+own_size-requires τ c = let (p, t, s, g) = c.requires in
     let d = middle g (inside-net_at-s τ c p t s g) (mid-net_at-s τ c) (mid-is-net_at-s τ c) in
     (g.room, omega arith, omega (arith, d), omega (arith, d), omega (arith, d))
 
 pub overflow_add-from : goal.overflow_add-from
-overflow_add-from τ c = let (p, t, s, g) = (start k c).requires.1 in
+overflow_add-from τ c = let (p, t, s, g) = c.requires in
     let h = inside-own_size τ c p t s g in
     omega (arith, from_le g h (mid-own_size τ c) (mid-is-own_size τ c) (from_is g h (mid-own_size τ c) (mid-is-own_size τ c) c.own_size.ensures), place g, g.room.few)
 
 pub overflow_add-i-2 : goal.overflow_add-i-2
-overflow_add-i-2 τ c = let (p, t, s, g) = (start k c).pre.1 in omega (arith, place g, g.room.few)
+overflow_add-i-2 τ c = let (p, t, s, g) = c.requires in omega (arith, place g, g.room.few)
 
 pub sieve-k-requires : goal.sieve-k-requires
-sieve-k-requires τ c = let (p, t, s, g) = (start k c).requires.1 in
+sieve-k-requires τ c = let (p, t, s, g) = c.requires in
     let h = inside-sieve-arg-1 τ c p t s g in (
-      omega (arith, middle g h (mid-sieve-arg-1 τ c) (mid-is-sieve-arg-1 τ c), (start k c).requires.0),
+      omega (arith, middle g h (mid-sieve-arg-1 τ c) (mid-is-sieve-arg-1 τ c), c.decreases),
       (_, _, _, go-second g h (mid-sieve-arg-1 τ c) (mid-is-sieve-arg-1 τ c) (from_is g h (mid-sieve-arg-1 τ c) (mid-is-sieve-arg-1 τ c) c.own_size.ensures)),
     )
 
 pub link-requires : goal.link-requires
-link-requires τ c = let (p, t, s, g) = (start k c).requires.1 in
+link-requires τ c = let (p, t, s, g) = c.requires in
     let h = inside-link-arg-1 τ c p t s g in
     let e = from_is g h (mid-link-arg-1 τ c) (mid-is-link-arg-1 τ c) c.own_size.ensures in
     link-asks g h (mid-link-arg-1 τ c) (mid-is-link-arg-1 τ c) e (c.sieve-k.ensures _ _ _ (go-second g h (mid-link-arg-1 τ c) (mid-is-link-arg-1 τ c) e))
 
 pub sieve-requires : goal.sieve-requires
-sieve-requires τ c = let i = opened k c in
-    let (p, t, s, g) = (start k i).pre.1 in
-    let h = inside-sieve-arg-2-1 τ i p t s g in
-    let e = from_is g h (mid-sieve-arg-2-1 τ i) (mid-is-sieve-arg-2-1 τ i) (halved k c).before.before.own-size.ensures in
-    let d = (halved k c).sieve.ensures _ _ _ (go-second g h (mid-sieve-arg-2-1 τ i) (mid-is-sieve-arg-2-1 τ i) e) in
-    let x = string-is g h (mid-sieve-arg-2-1 τ i) (mid-is-sieve-arg-2-1 τ i) e d _ (halved k c).before.before.before.before.net-at.ensures in (
-      omega (arith, middle g h (mid-sieve-arg-2-1 τ i) (mid-is-sieve-arg-2-1 τ i), (start k i).pre.0),
-      (_, _, _, go-first g h (mid-sieve-arg-2-1 τ i) (mid-is-sieve-arg-2-1 τ i) e d (c.link.ensures h.q x.0 x.1)),
+sieve-requires τ c = let (p, t, s, g) = c.requires in
+    let h = inside-sieve-arg-2-1 τ c p t s g in
+    let e = from_is g h (mid-sieve-arg-2-1 τ c) (mid-is-sieve-arg-2-1 τ c) c.own_size.ensures in
+    let d = c.sieve-k.ensures _ _ _ (go-second g h (mid-sieve-arg-2-1 τ c) (mid-is-sieve-arg-2-1 τ c) e) in
+    let x = string-is g h (mid-sieve-arg-2-1 τ c) (mid-is-sieve-arg-2-1 τ c) e d _ c.net_at-s.ensures in (
+      omega (arith, middle g h (mid-sieve-arg-2-1 τ c) (mid-is-sieve-arg-2-1 τ c), c.decreases),
+      (_, _, _, go-first g h (mid-sieve-arg-2-1 τ c) (mid-is-sieve-arg-2-1 τ c) e d (c.link.ensures h.q x.0 x.1)),
     )
 
 pub returns : goal.returns
-returns τ c p t s g = let i = opened k c in
-    let h = inside-slice_known-4-1 τ i p t s g in
-    let e = from_is g h (mid-slice_known-4-1 τ i) (mid-is-slice_known-4-1 τ i) (halved k c).before.before.own-size.ensures in
-    let d = (halved k c).sieve.ensures _ _ _ (go-second g h (mid-slice_known-4-1 τ i) (mid-is-slice_known-4-1 τ i) e) in
-    let x = string-is g h (mid-slice_known-4-1 τ i) (mid-is-slice_known-4-1 τ i) e d _ (halved k c).before.before.before.before.net-at.ensures in
+returns τ c p t s g = let h = inside-slice_known-4-1 τ c p t s g in
+    let e = from_is g h (mid-slice_known-4-1 τ c) (mid-is-slice_known-4-1 τ c) c.own_size.ensures in
+    let d = c.sieve-k.ensures _ _ _ (go-second g h (mid-slice_known-4-1 τ c) (mid-is-slice_known-4-1 τ c) e) in
+    let x = string-is g h (mid-slice_known-4-1 τ c) (mid-is-slice_known-4-1 τ c) e d _ c.net_at-s.ensures in
     let l = c.link.ensures h.q x.0 x.1 in
-    done-inner g h (mid-slice_known-4-1 τ i) (mid-is-slice_known-4-1 τ i) e d l (c.sieve.ensures _ _ _ (go-first g h (mid-slice_known-4-1 τ i) (mid-is-slice_known-4-1 τ i) e d l))
+    done-inner g h (mid-slice_known-4-1 τ c) (mid-is-slice_known-4-1 τ c) e d l (c.sieve.ensures _ _ _ (go-first g h (mid-slice_known-4-1 τ c) (mid-is-slice_known-4-1 τ c) e d l))

@@ -1,5 +1,4 @@
 -- `clear_mark` meets its contract. Assumes nothing.
-use borrow.Author.Rules.{rules}
 use Rattle.kept_sieve.proofs.clear_mark.Goals as goal
 
 pub returns : goal.returns

@@ -1,5 +1,4 @@
 -- `link` meets its contract, by its test. Assumes nothing.
-use borrow.Author.Rules.{rules}
 use Rattle.kept_sieve.proofs.Marked.{link-none, link-some}
 use Rattle.kept_sieve.proofs.link.Goals as goal
 

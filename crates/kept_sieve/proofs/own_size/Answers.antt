@@ -1,5 +1,4 @@
 -- `own_size` meets its contract, by its tests. Assumes nothing.
-use borrow.Author.Rules.{rules}
 use Rattle.kept_sieve.proofs.Marked.{own-second, own_first, own-both}
 use Rattle.kept_sieve.proofs.own_size.Goals as goal
 

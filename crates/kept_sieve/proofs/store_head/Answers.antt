@@ -1,5 +1,4 @@
 -- `store_head` meets its contract, by the family. Assumes nothing.
-use borrow.Author.Rules.{rules}
 use native.Mathlib.Omega.{arith}
 use Rattle.kept_reading.proofs.Found.{room-4, room-6}
 use Rattle.kept_sieve.proofs.Marked.{stored-4, stored-6}

@@ -1,6 +1,5 @@
 -- `branches::branch` meets its contract: the branch point's string is the head's, up to where it leaves the network before it. Assumes nothing.
 use native.Mathlib.Omega.{arith}
-use borrow.Author.Rules.{rules}
 use Rattle.kept_build.proofs.Leading.{begins-few, begins-within}
 use Rattle.kept_build.proofs.branches.branch.Goals as goal
 

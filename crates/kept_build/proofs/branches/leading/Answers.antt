@@ -1,5 +1,4 @@
 -- `branches::leading` meets its contract. Assumes nothing.
-use borrow.Author.Rules.{rules}
 use Rattle.kept_build.proofs.Leading.{begins-taken, begins-refused}
 use Rattle.kept_build.proofs.branches.leading.Goals as goal
 

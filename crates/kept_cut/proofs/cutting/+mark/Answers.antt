@@ -2,9 +2,8 @@
 use mathlib.Core.Bool.{true}
 use mathlib.Core.List.{List}
 use mathlib.Core.Path.{◌≡◌, subst}
-use Prim.Native.Nat.{ℕ, ◌-◌, ◌<◌}
+use Prim.Native.Nat.{ℕ, ◌-◌}
 use native.Mathlib.Omega.{arith}
-use borrow.Author.Rules.{rules}
 use borrow.Author.Tests.{not-true, not-false}
 use Rattle.nets.specs.Bits.{Bits}
 use Rattle.nets.specs.Tries.{Trie}
@@ -153,11 +152,11 @@ sight-v-requires τ c = let (q, p, u, ms, t, g) = c.requires in
     (q, p, u, ms, t, g.here, g.at.under, at_some g.at (not-false _ c.if-not-s.false))
 
 pub away-requires : goal.away-requires
-away-requires τ c = (start n c).pre.1
+away-requires τ c = c.requires
 
 pub member-requires : goal.member-requires
-member-requires τ c = let (q, p, u, ms, t, g) = (start n c).requires.1 in
-    let z = subst (λ z. Sighted (start n c).args.i u t z) c.in-Leaf.is (sighted τ c q p u ms t g) in
+member-requires τ c = let (q, p, u, ms, t, g) = c.requires in
+    let z = subst (λ z. Sighted c.args.i u t z) c.in-Leaf.is (sighted τ c q p u ms t g) in
     (q, p, u, ms, as_member g z)
 
 pub first-requires : goal.first-requires
@@ -165,7 +164,7 @@ first-requires τ c = part-under (here τ c).part
 
 pub mark-l-requires : goal.mark-l-requires
 mark-l-requires τ c = let k = here-first τ c in
-    (omega (arith, first-falls k.part _ c.first.ensures, (start n (seen n c)).pre.0), (_, _, _, _, _, first-cuts k _ c.first.ensures))
+    (omega (arith, first-falls k.part _ c.first.ensures, c.decreases), (_, _, _, _, _, first-cuts k _ c.first.ensures))
 
 pub second-requires : goal.second-requires
 second-requires τ c = part-under (here-mark-arg-in-inner-3-1 τ c).part
@@ -174,7 +173,7 @@ pub mark-r-requires : goal.mark-r-requires
 mark-r-requires τ c = let k = here-second τ c in
     let f = c.first.ensures in
     let l = c.mark-l.ensures _ _ _ _ _ (first-cuts k _ f) in (
-      omega (arith, second-falls k.part _ f.0 l.1 _ c.second.ensures, (start n (seen n c)).pre.0),
+      omega (arith, second-falls k.part _ f.0 l.1 _ c.second.ensures, c.decreases),
       (_, _, _, _, _, second-cuts k _ f.0 l.0 l.1 _ c.second.ensures),
     )
 
@@ -188,10 +187,10 @@ settle-rest-requires τ c = let k = here-settle-arg-1 τ c in
 
 pub returns-in-Nothing : goal.returns-in-Nothing
 returns-in-Nothing τ c q p u ms t g = let k = c.away.ensures q p u ms t g in
-    (away-left g (some-slice_known-in-nothing-1 τ c) (subst (λ c. Sighted (start n c).args.i u t c) c.in-Nothing.is (sighted-slice_known-in-nothing-1 τ c q p u ms t g)) _ k.0, k.1)
+    (away-left g (some-slice_known-in-nothing-1 τ c) (subst (λ c. Sighted c.args.i u t c) c.in-Nothing.is (sighted-slice_known-in-nothing-1 τ c q p u ms t g)) _ k.0, k.1)
 
 pub returns-in-Leaf : goal.returns-in-Leaf
-returns-in-Leaf τ c q p u ms t g = let h = subst (λ c. Sighted (start n c).args.i u t c) c.in-Leaf.is (sighted-slice_known-in-leaf-1 τ c q p u ms t g) in
+returns-in-Leaf τ c q p u ms t g = let h = subst (λ c. Sighted c.args.i u t c) c.in-Leaf.is (sighted-slice_known-in-leaf-1 τ c q p u ms t g) in
     let k = c.member.ensures q p u ms (as_member g h) in
     (member-left g h (some-slice_known-in-leaf-1 τ c) _ k.0, k.1)
 

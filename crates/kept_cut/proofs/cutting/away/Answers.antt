@@ -1,5 +1,4 @@
 -- `cutting::away` meets its contract. Assumes nothing.
-use borrow.Author.Rules.{rules}
 use mathlib.Core.Path.{refl}
 use Rattle.kept_cut.proofs.cutting.away.Goals as goal
 

@@ -1,5 +1,4 @@
 -- `cutting::cut` meets its contract. Assumes nothing.
-use borrow.Author.Rules.{rules}
 use Rattle.kept_cut.proofs.Forks.{empty-spliced, sieve-asks, sieved-spliced}
 use Rattle.kept_cut.proofs.cutting.cut.Goals as goal
 

@@ -1,5 +1,4 @@
 -- `cutting::member` meets its contract. Assumes nothing.
-use borrow.Author.Rules.{rules}
 use Rattle.nets.specs.Tries.{leaf}
 use Rattle.kept_cut.proofs.Steps.{member-counts, member-gone, member-stays}
 use Rattle.kept_cut.proofs.cutting.member.Goals as goal

@@ -1,5 +1,4 @@
 -- `marks::drop_all` meets its contract. Assumes nothing.
-use borrow.Author.Rules.{rules}
 use Rattle.kept_cut.proofs.Closed.{none-at, some_at, mark-asks, mark-done, mark-none}
 use Rattle.kept_cut.proofs.marks.drop_all.Goals as goal
 

@@ -1,5 +1,4 @@
 -- `marks::lift` meets its contract. Assumes nothing.
-use borrow.Author.Rules.{rules}
 use Rattle.kept_cut.proofs.Closed.{clear_second, clear_first, set-whole, lifted}
 use Rattle.kept_cut.proofs.marks.lift.Goals as goal
 

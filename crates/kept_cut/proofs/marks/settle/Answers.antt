@@ -1,5 +1,4 @@
 -- `marks::settle` meets its contract, by its tests. Assumes nothing.
-use borrow.Author.Rules.{rules}
 use Rattle.kept_cut.proofs.Closed.{settle-first, settle-second, both-gone, lone-done, settle-gone}
 use Rattle.kept_cut.proofs.marks.settle.Goals as goal
 

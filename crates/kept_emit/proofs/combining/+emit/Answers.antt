@@ -1,14 +1,13 @@
 -- `combining::emit` meets its contract, by the fuel. Assumes nothing.
-use mathlib.Core.Path.{◌≡◌, refl, sym, ap, ◌∙◌}
+use mathlib.Core.Path.{◌≡◌, ◌∙◌}
 use mathlib.Core.Bool.{true, false}
 use native.Mathlib.Omega.{arith}
-use Prim.Native.Nat.{ℕ, ◌+◌, ◌<◌}
-use borrow.Author.Rules.{rules}
+use Prim.Native.Nat.{ℕ}
 use Rattle.nets.specs.Bits.{Bits}
 use Rattle.nets.specs.Tries.{Trie}
 use Rattle.nets.specs.Networks.{net_from}
 use Rattle.trie_paths.specs.Spans.{snoc}
-use Rattle.kept_emit.specs.Combine.{Inputs, KeptGap}
+use Rattle.kept_emit.specs.Combine.{Inputs}
 use Rattle.kept_emit.proofs.Answered.{len_of}
 use Rattle.kept_emit.proofs.Steps.{op-none, op-full, op-mixed, Halving, inside, left-inputs, left-gap, rest-inputs, rest-gap, pending, emitted}
 use Rattle.kept_emit.proofs.combining.+emit.Goals as goal
@@ -115,29 +114,29 @@ halves-q-requires τ c = let (o, p, t, u, is, s, g) = c.requires in
     (s.hold, (o, _, p, t, u, len_of _ p is, s.first, s.second))
 
 pub child-first-requires : goal.child-first-requires
-child-first-requires τ c = let (o, p, t, u, is, s, g) = (start n c).requires.1 in (_, p, is, inside (split τ c o p t u is s))
+child-first-requires τ c = let (o, p, t, u, is, s, g) = c.requires in (_, p, is, inside (split τ c o p t u is s))
 
 pub overflow_sub-fuel : goal.overflow_sub-fuel
-overflow_sub-fuel τ c = let s = (start n c).pre.1.5 in omega arith
+overflow_sub-fuel τ c = let s = c.requires.5 in omega arith
 
 pub emit-l-requires : goal.emit-l-requires
-emit-l-requires τ c = let (o, p, t, u, is, s, g) = (start n c).requires.1 in
+emit-l-requires τ c = let (o, p, t, u, is, s, g) = c.requires in
     let d = split-emit-arg-1 τ c o p t u is s in
-    (omega (arith, (start n c).requires.0, s.turn), (o, snoc p false, _, _, c.child-first.ensures _ p is, left-inputs d, left-gap d g))
+    (omega (arith, c.decreases, s.turn), (o, snoc p false, _, _, c.child-first.ensures _ p is, left-inputs d, left-gap d g))
 
 pub child-second-requires : goal.child-second-requires
-child-second-requires τ c = let (o, p, t, u, is, s, g) = (start n c).requires.1 in
+child-second-requires τ c = let (o, p, t, u, is, s, g) = c.requires in
     (_, p, is, inside (split-beginning_before-m τ c o p t u is s))
 
 pub overflow_sub-fuel-2 : goal.overflow_sub-fuel-2
-overflow_sub-fuel-2 τ c = let s = (start n c).pre.1.5 in omega arith
+overflow_sub-fuel-2 τ c = let s = c.requires.5 in omega arith
 
 pub emit-r-requires : goal.emit-r-requires
-emit-r-requires τ c = let (o, p, t, u, is, s, g) = (start n c).requires.1 in
+emit-r-requires τ c = let (o, p, t, u, is, s, g) = c.requires in
     let d = split-emit-arg-2-1 τ c o p t u is s in
     let y = c.emit-l.ensures o (snoc p false) _ _
     (c.child-first.ensures _ p is) (left-inputs d) (left-gap d g) in (
-      omega (arith, (start n c).requires.0, s.turn),
+      omega (arith, c.decreases, s.turn),
       (
         o,
         snoc p true,
@@ -151,7 +150,7 @@ emit-r-requires τ c = let (o, p, t, u, is, s, g) = (start n c).requires.1 in
     )
 
 pub finish-requires : goal.finish-requires
-finish-requires τ c = let (o, p, t, u, is, s, g) = (start n c).requires.1 in
+finish-requires τ c = let (o, p, t, u, is, s, g) = c.requires in
     let d = split-finish-arg-1 τ c o p t u is s in
     let y = c.emit-l.ensures o (snoc p false) _ _
     (c.child-first.ensures _ p is) (left-inputs d) (left-gap d g) in

@@ -2,7 +2,7 @@
 use mathlib.Core.Path.{◌≡◌, ap, ◌∙◌}
 use mathlib.Core.Bool.{true, false}
 use native.Mathlib.Omega.{arith}
-use Prim.Native.Nat.{ℕ, ◌+◌, ◌<◌}
+use Prim.Native.Nat.{ℕ, ◌+◌}
 use lib.ListN.{length}
 use Rattle.nets.specs.Bits.{Bits}
 use Rattle.nets.specs.Tries.{Trie}
@@ -85,29 +85,28 @@ pub halves-q-requires : goal.halves-q-requires
 halves-q-requires τ c = let (o, e, p, t, u, q, s) = c.requires in (s.hold, (o, e, p, t, u, q, s.first, s.second))
 
 pub overflow_add-d : goal.overflow_add-d
-overflow_add-d τ c = let (o, e, p, t, u, q, s) = (start n c).requires.1 in omega (arith, inside (split τ c o e p t u q s), width-le (start n c).args.family)
+overflow_add-d τ c = let (o, e, p, t, u, q, s) = c.requires in omega (arith, inside (split τ c o e p t u q s), width-le c.args.family)
 
 pub overflow_sub-fuel : goal.overflow_sub-fuel
-overflow_sub-fuel τ c = let s = (start n c).requires.1.6 in omega arith
+overflow_sub-fuel τ c = let s = c.requires.6 in omega arith
 
 pub foresee-l-requires : goal.foresee-l-requires
-foresee-l-requires τ c = let (o, e, p, t, u, q, s) = (start n c).requires.1 in
-    (omega (arith, (start n c).requires.0, s.turn), (o, e, snoc p false, _, _, length-snoc p false ∙ ap (λ (k : ℕ). k + 1) q, left-inputs (split τ c o e p t u q s)))
+foresee-l-requires τ c = let (o, e, p, t, u, q, s) = c.requires in
+    (omega (arith, c.decreases, s.turn), (o, e, snoc p false, _, _, length-snoc p false ∙ ap (λ (k : ℕ). k + 1) q, left-inputs (split τ c o e p t u q s)))
 
 pub overflow_add-d-2 : goal.overflow_add-d-2
-overflow_add-d-2 τ c = let (o, e, p, t, u, q, s) = (start n c).pre.1 in omega (
+overflow_add-d-2 τ c = let (o, e, p, t, u, q, s) = c.requires in omega (
   arith,
   inside (split-foresee-l τ c o e p t u q s),
-  width-le (start n
-      c).args.family,
+  width-le c.args.family,
 )
 
 pub overflow_sub-fuel-2 : goal.overflow_sub-fuel-2
-overflow_sub-fuel-2 τ c = let s = (start n c).pre.1.6 in omega arith
+overflow_sub-fuel-2 τ c = let s = c.requires.6 in omega arith
 
 pub foresee-r-requires : goal.foresee-r-requires
-foresee-r-requires τ c = let (o, e, p, t, u, q, s) = (start n c).pre.1 in (
-  omega (arith, (start n c).pre.0, s.turn),
+foresee-r-requires τ c = let (o, e, p, t, u, q, s) = c.requires in (
+  omega (arith, c.decreases, s.turn),
   (
     o,
     e,
@@ -121,7 +120,7 @@ foresee-r-requires τ c = let (o, e, p, t, u, q, s) = (start n c).pre.1 in (
 )
 
 pub answer_over-requires : goal.answer_over-requires
-answer_over-requires τ c = let (o, e, p, t, u, q, s) = (start n c).pre.1 in (
+answer_over-requires τ c = let (o, e, p, t, u, q, s) = c.requires in (
   _,
   _,
   foreseen-both (split-foresee-r τ c o e p t u q s) _ _

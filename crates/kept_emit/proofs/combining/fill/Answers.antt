@@ -1,7 +1,6 @@
 -- `combining::fill` meets its contract: what emission leaves to write is a leaf of all addresses. Assumes nothing.
 use mathlib.Core.List.{[]}
 use native.Mathlib.Omega.{arith}
-use borrow.Author.Rules.{rules}
 use Rattle.nets.specs.Tries.{Trie}
 use Rattle.trie_emit.specs.Combine.{op_on}
 use Rattle.kept_emit.specs.Answers.{Emits}

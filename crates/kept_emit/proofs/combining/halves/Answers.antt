@@ -1,5 +1,4 @@
 -- `combining::halves` meets its contract. Assumes nothing.
-use borrow.Author.Rules.{rules}
 use Rattle.kept_emit.proofs.combining.halves.Goals as goal
 
 pub piece-requires : goal.piece-requires

@@ -1,5 +1,4 @@
 -- `combining::op_size` meets its contract. Assumes nothing.
-use borrow.Author.Rules.{rules}
 use mathlib.Core.List.{[]}
 use mathlib.Core.Path.{refl, ◌∙◌}
 use Rattle.kept_emit.proofs.Answered.{size_is}

@@ -1,6 +1,5 @@
 -- `combining::outcome` meets its contract. Assumes nothing.
 use native.Mathlib.Omega.{arith}
-use borrow.Author.Rules.{rules}
 use Rattle.nets.specs.TrieOps.{kind_of}
 use Rattle.trie_emit.proofs.Sources.{rank-le}
 use Rattle.kept_emit.proofs.combining.outcome.Goals as goal

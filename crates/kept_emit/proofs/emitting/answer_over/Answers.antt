@@ -1,5 +1,4 @@
 -- `emitting::answer_over` meets its contract, by its tests. Assumes nothing.
-use borrow.Author.Rules.{rules}
 use native.Mathlib.Omega.{arith}
 use Prim.Native.Nat.{◌+◌, ◌<◌, ◌^◌}
 use Rattle.kept_emit.proofs.Answered.{sizes, over_none, over-leaf, over-second, over_first, over-both}

@@ -1,5 +1,4 @@
 -- `emitting::finish` meets its contract, by the arms of the answer of its node. Assumes nothing.
-use borrow.Author.Rules.{rules}
 use native.Mathlib.Omega.{arith}
 use mathlib.Core.Path.{sym, ◌∙◌}
 use lib.ListN.{length}

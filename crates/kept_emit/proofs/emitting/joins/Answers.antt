@@ -1,5 +1,4 @@
 -- `emitting::joins` meets its contract, by its tests. Assumes nothing.
-use borrow.Author.Rules.{rules}
 use borrow.Author.Tests.{not-true, not-false}
 use Rattle.kept_emit.proofs.emitting.joins.Goals as goal
 

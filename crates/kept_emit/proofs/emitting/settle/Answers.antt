@@ -1,7 +1,6 @@
 -- `emitting::settle` meets its contract, by its arms. Assumes nothing.
-use borrow.Author.Rules.{rules}
 use native.Mathlib.Omega.{arith}
-use mathlib.Core.Path.{sym, ◌∙◌}
+use mathlib.Core.Path.{sym}
 use Rattle.nodes.proofs.Put.{put-nil}
 use Rattle.kept_emit.proofs.emitting.settle.Goals as goal
 

@@ -1,7 +1,6 @@
 -- `emitting::top` meets its contract, by its tests. Assumes nothing.
-use borrow.Author.Rules.{rules}
 use native.Mathlib.Omega.{arith}
-use mathlib.Core.Path.{sym, ◌∙◌}
+use mathlib.Core.Path.{sym}
 use Rattle.nodes.proofs.Put.{put-nil}
 use Rattle.kept_emit.proofs.Answered.{top-low, top-high, top-both}
 use Rattle.kept_emit.proofs.emitting.top.Goals as goal

@@ -1,7 +1,7 @@
 -- `combined::leaves` meets its contract, by the fuel. Assumes nothing.
 use mathlib.Core.Path.{◌≡◌, ap, ◌∙◌}
 use mathlib.Core.Bool.{Bool, true, false}
-use Prim.Native.Nat.{ℕ, ◌+◌, ◌<◌}
+use Prim.Native.Nat.{ℕ, ◌+◌}
 use native.Mathlib.Omega.{arith}
 use lib.ListN.{length}
 use Rattle.nets.specs.Bits.{Bits}
@@ -99,29 +99,29 @@ pub halves-q-requires : goal.halves-q-requires
 halves-q-requires τ c = let (p, t, u, q, s) = c.requires in (s.hold, (0, 0, p, t, u, q, s.first, s.second))
 
 pub overflow_add-d : goal.overflow_add-d
-overflow_add-d τ c = let (p, t, u, q, s) = (start n c).requires.1 in omega (arith, inside (split τ c p t u q s), width-le (start n c).args.family)
+overflow_add-d τ c = let (p, t, u, q, s) = c.requires in omega (arith, inside (split τ c p t u q s), width-le c.args.family)
 
 pub overflow_sub-fuel : goal.overflow_sub-fuel
-overflow_sub-fuel τ c = let s = (start n c).requires.1.4 in omega arith
+overflow_sub-fuel τ c = let s = c.requires.4 in omega arith
 
 pub leaves-requires : goal.leaves-requires
-leaves-requires τ c = let (p, t, u, q, s) = (start n c).requires.1 in
-    (omega (arith, (start n c).requires.0, s.turn), (snoc p false, _, _, deeper τ c p q false, left-inputs (split τ c p t u q s)))
+leaves-requires τ c = let (p, t, u, q, s) = c.requires in
+    (omega (arith, c.decreases, s.turn), (snoc p false, _, _, deeper τ c p q false, left-inputs (split τ c p t u q s)))
 
 pub returns-then-leaves : goal.returns-then-leaves
 returns-then-leaves τ c p t u q s = let d = split-then-leaves τ c p t u q s in
     step-first _ _ t u s.turn d.mixes _ (c.leaves.ensures _ _ _ (deeper-then-leaves τ c p q false) (left-inputs d)) c.if-leaves.true
 
 pub overflow_add-d-2 : goal.overflow_add-d-2
-overflow_add-d-2 τ c = let (p, t, u, q, s) = (start n c).requires.1 in
-    omega (arith, inside (split-else-leaves τ c p t u q s), width-le (start n c).args.family)
+overflow_add-d-2 τ c = let (p, t, u, q, s) = c.requires in
+    omega (arith, inside (split-else-leaves τ c p t u q s), width-le c.args.family)
 
 pub overflow_sub-fuel-2 : goal.overflow_sub-fuel-2
-overflow_sub-fuel-2 τ c = let s = (start n c).pre.1.4 in omega arith
+overflow_sub-fuel-2 τ c = let s = c.requires.4 in omega arith
 
 pub leaves-requires-2 : goal.leaves-requires-2
-leaves-requires-2 τ c = let (p, t, u, q, s) = (start n c).requires.1 in
-    (omega (arith, (start n c).requires.0, s.turn), (snoc p true, _, _, deeper-else-leaves τ c p q true, right-inputs (split-else-leaves τ c p t u q s)))
+leaves-requires-2 τ c = let (p, t, u, q, s) = c.requires in
+    (omega (arith, c.decreases, s.turn), (snoc p true, _, _, deeper-else-leaves τ c p q true, right-inputs (split-else-leaves τ c p t u q s)))
 
 pub returns : goal.returns
 returns τ c p t u q s = let d = split-leaves-2 τ c p t u q s in

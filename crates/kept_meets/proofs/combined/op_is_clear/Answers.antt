@@ -1,15 +1,9 @@
 -- `combined::op_is_clear` meets its contract. The loop's invariant: an inner network that the result overlaps is among those from number k on. Assumes
 -- nothing.
-use mathlib.Core.List.{[]}
 use mathlib.Core.Path.{sym, ◌∙◌}
 use Prim.Native.Nat.{◌-◌}
 use native.Mathlib.Omega.{arith}
-use borrow.Author.Rules.{rules}
-use Rattle.nets.specs.Tries.{Trie, list_of}
-use Rattle.trie_emit.specs.Combine.{op_on}
-use Rattle.kept_emit.specs.Combine.{Inputs}
-use Rattle.inner_nets.specs.Inner.{overlaps_one}
-use Rattle.inner_nets.proofs.Numbered.{Left, left-start, left-done, left-found, left-next, is_public-found, is_public-none}
+use Rattle.inner_nets.proofs.Numbered.{left-start, left-done, left-found, left-next, is_public-found, is_public-none}
 use Rattle.trie_meets.proofs.Operation.{short}
 use Rattle.kept_meets.proofs.combined.op_is_clear.Goals as goal
 

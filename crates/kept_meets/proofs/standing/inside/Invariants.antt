@@ -1,11 +1,8 @@
 -- `standing::inside` meets its contract. The loop's invariant: the part of what `at` means, inside what is left of the bits, is the part that is asked for.
 -- Assumes nothing.
 use Prim.Native.Nat.{◌-◌, ◌≤◌}
-use native.Mathlib.Omega.{arith}
-use borrow.Author.Rules.{rules}
 use Rattle.nets.specs.Networks.{bits_left}
-use Rattle.nets.proofs.Handing.{Hands, hands, hands_end}
-use Rattle.kept_meets.proofs.Inside.{Way, way-start, way-some, way-nothing, way_end, way_on}
+use Rattle.kept_meets.proofs.Inside.{Way}
 use Rattle.kept_meets.proofs.standing.inside.Given as goal
 
 abbrev pub invariant-loop-at : goal.invariant-loop-at

@@ -1,13 +1,8 @@
 -- `standing::is_public` meets its contract. The loop's invariant: an inner network that is overlapped is among those from number k on. Assumes nothing.
-use mathlib.Core.List.{[]}
-use Prim.Native.Nat.{ℕ, ◌-◌}
+use Prim.Native.Nat.{◌-◌}
 use native.Mathlib.Omega.{arith}
-use borrow.Author.Rules.{rules}
 use Rattle.nets.specs.Networks.{bits_left}
-use Rattle.nets.specs.Tries.{Trie, list_of}
-use Rattle.kept_sources.specs.Sources.{KeptMeans}
-use Rattle.inner_nets.specs.Inner.{overlaps_one}
-use Rattle.inner_nets.proofs.Numbered.{Left, left-start, left-done, left-found, left-next, is_public-found, is_public-none}
+use Rattle.inner_nets.proofs.Numbered.{left-start, left-done, left-found, left-next, is_public-found, is_public-none}
 use Rattle.kept_meets.proofs.Inside.{part_none, part-some}
 use Rattle.kept_meets.proofs.standing.is_public.Goals as goal
 

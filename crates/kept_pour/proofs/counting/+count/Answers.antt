@@ -2,9 +2,8 @@
 use mathlib.Core.List.{List}
 use mathlib.Core.Bool.{true}
 use mathlib.Core.Path.{◌≡◌, sym, ap, ◌∙◌}
-use Prim.Native.Nat.{ℕ, ◌-◌, ◌<◌}
+use Prim.Native.Nat.{ℕ, ◌-◌}
 use native.Mathlib.Omega.{arith}
-use borrow.Author.Rules.{rules}
 use borrow.Author.Tests.{not-true, not-false}
 use Rattle.nets.specs.Bits.{Bits}
 use Rattle.nets.specs.Tries.{Trie}
@@ -170,44 +169,42 @@ pub is_whole-requires : goal.is_whole-requires
 is_whole-requires τ c = tt
 
 pub step-x-requires : goal.step-x-requires
-step-x-requires τ c = let (q, p, u, ms, t, g) = (start n c).requires.1 in (p, t, g.part, sym g.at.under.depth)
+step-x-requires τ c = let (q, p, u, ms, t, g) = c.requires in (p, t, g.part, sym g.at.under.depth)
 
 pub flat_size-nodes-requires : goal.flat_size-nodes-requires
 flat_size-nodes-requires τ c = tt
 
 pub tally-r-requires : goal.tally-r-requires
-tally-r-requires τ c = let (q, p, u, ms, t, g) = (start n c).requires.1 in
+tally-r-requires τ c = let (q, p, u, ms, t, g) = c.requires in
     (q, p, u, ms, at-runs g.at (some τ c), g.file)
 
 pub tally-requires : goal.tally-requires
-tally-requires τ c = let (q, p, u, ms, t, g) = (start n c).requires.1 in
+tally-requires τ c = let (q, p, u, ms, t, g) = c.requires in
     (q, p, u, ms, at-runs g.at (some-tally-arg-in-fresh-1 τ c), g.file)
 
 pub first-f-requires : goal.first-f-requires
 first-f-requires τ c = part-under (here τ c).part
 
 pub count-l-requires : goal.count-l-requires
-count-l-requires τ c = let k = start n c in
-    let o = here-count-arg-1 τ c in
-    let y = k.pre.1.5 in
+count-l-requires τ c = let o = here-count-arg-1 τ c in
+    let y = c.requires.5 in
     let f = c.first-f.ensures in
-    (omega (arith, first-falls o.part _ f, k.pre.0), (_, _, _, _, _, count-first o y.file y.all _ f))
+    (omega (arith, first-falls o.part _ f, c.decreases), (_, _, _, _, _, count-first o y.file y.all _ f))
 
 pub second-g-requires : goal.second-g-requires
 second-g-requires τ c = part-under (here-h-1 τ c).part
 
 pub count-r-requires : goal.count-r-requires
-count-r-requires τ c = let k = start n c in
-    let o = here-count-arg-in-halves-1 τ c in
-    let y = k.pre.1.5 in
+count-r-requires τ c = let o = here-count-arg-in-halves-1 τ c in
+    let y = c.requires.5 in
     let f = c.first-f.ensures in
     let l = (c.count-l.ensures _ _ _ _ _ (count-first o y.file y.all _ f)).1 in
     let z = c.second-g.ensures in
-    (omega (arith, second-falls o.part _ f.0 l _ z, k.pre.0), (_, _, _, _, _, count-second o y.file y.all _ f.0 l _ z))
+    (omega (arith, second-falls o.part _ f.0 l _ z, c.decreases), (_, _, _, _, _, count-second o y.file y.all _ f.0 l _ z))
 
 pub nodes_over-nodes-requires : goal.nodes_over-nodes-requires
 nodes_over-nodes-requires τ c = let o = here-behind-in-halves-1 τ c in
-    let y = (start n c).pre.1.5 in
+    let y = c.requires.5 in
     let f = c.first-f.ensures in
     let l = c.count-l.ensures _ _ _ _ _ (count-first o y.file y.all _ f) in
     let r = c.count-r.ensures _ _ _ _ _ (count-second o y.file y.all _ f.0 l.1 _ c.second-g.ensures) in

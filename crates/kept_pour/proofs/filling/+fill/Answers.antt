@@ -2,9 +2,8 @@
 use mathlib.Core.Bool.{true, false}
 use mathlib.Core.List.{List}
 use mathlib.Core.Path.{◌≡◌, sym}
-use Prim.Native.Nat.{ℕ, ◌-◌, ◌<◌}
+use Prim.Native.Nat.{ℕ, ◌-◌}
 use native.Mathlib.Omega.{arith}
-use borrow.Author.Rules.{rules}
 use borrow.Author.Tests.{not-true, not-false}
 use Rattle.nets.specs.Bits.{Bits}
 use Rattle.nets.specs.Tries.{Trie}
@@ -235,19 +234,19 @@ pub is_whole-requires : goal.is_whole-requires
 is_whole-requires τ c = tt
 
 pub step-x-requires : goal.step-x-requires
-step-x-requires τ c = let (q, p, u, ms, t, is, g, f) = (start n c).requires.1 in (p, t, f.part, sym g.under.depth)
+step-x-requires τ c = let (q, p, u, ms, t, is, g, f) = c.requires in (p, t, f.part, sym g.under.depth)
 
 pub flat-start-requires : goal.flat-start-requires
-flat-start-requires τ c = let (q, p, u, ms, t, is, g, f) = (start n c).requires.1 in
+flat-start-requires τ c = let (q, p, u, ms, t, is, g, f) = c.requires in
     let v = rw c.in-Settled.is at (said τ c q p u ms t (g, f)) in
     fill-room f (settled g (some τ c) _ (c.is_whole.ensures q p u ms g.under (at_some g (some τ c))) _ t v)
 
 pub tally-r-requires : goal.tally-r-requires
-tally-r-requires τ c = let (q, p, u, ms, t, is, g, f) = (start n c).requires.1 in
+tally-r-requires τ c = let (q, p, u, ms, t, is, g, f) = c.requires in
     (q, p, u, ms, at-runs g (some-tally-arg-1 τ c), f.file)
 
 pub grow-requires : goal.grow-requires
-grow-requires τ c = let (q, p, u, ms, t, is, g, f) = (start n c).pre.1 in
+grow-requires τ c = let (q, p, u, ms, t, is, g, f) = c.requires in
     let v = rw c.in-Fresh.is at (said-grow-arg-in-fresh-1 τ c q p u ms t (g, f)) in
     (q, p, u, ms, fill-grows f (fresh u (v.1, v.2)) g (some-grow-arg-in-fresh-1 τ c))
 
@@ -255,14 +254,14 @@ pub first-s0-requires : goal.first-s0-requires
 first-s0-requires τ c = part-under (here τ c).part
 
 pub child-p0-requires : goal.child-p0-requires
-child-p0-requires τ c = let (q, p, u, ms, t, is, g, f) = (start n c).pre.1 in
+child-p0-requires τ c = let (q, p, u, ms, t, is, g, f) = c.requires in
     (_, p, is, opened-short (here-first-s0 τ c))
 
 pub fill-l-requires : goal.fill-l-requires
-fill-l-requires τ c = let (q, p, u, ms, t, is, g, v) = (start n c).pre.1 in
+fill-l-requires τ c = let (q, p, u, ms, t, is, g, v) = c.requires in
     let o = here-fill-arg-in-halves-1 τ c in
     let f = c.first-s0.ensures in (
-      omega (arith, first-falls o.part _ f, (start n c).pre.0),
+      omega (arith, first-falls o.part _ f, c.decreases),
       (_, _, _, _, _, path-of (snoc p false) f.0 (c.child-p0.ensures _ p is), at_first o.part _ f, fill-first v o _ f.0),
     )
 
@@ -270,11 +269,11 @@ pub second-s1-requires : goal.second-s1-requires
 second-s1-requires τ c = part-under (here-second-arg-1 τ c).part
 
 pub child-p1-requires : goal.child-p1-requires
-child-p1-requires τ c = let (q, p, u, ms, t, is, g, f) = (start n c).pre.1 in
+child-p1-requires τ c = let (q, p, u, ms, t, is, g, f) = c.requires in
     (_, p, is, opened-short (here-second-s1 τ c))
 
 pub fill-r-requires : goal.fill-r-requires
-fill-r-requires τ c = let (q, p, u, ms, t, is, g, v) = (start n c).pre.1 in
+fill-r-requires τ c = let (q, p, u, ms, t, is, g, v) = c.requires in
     let o = here-fill-arg-in-halves-3-1 τ c in
     let f = c.first-s0.ensures in
     let p0 = path-of (snoc p false) f.0 (c.child-p0.ensures _ p is) in
@@ -282,12 +281,12 @@ fill-r-requires τ c = let (q, p, u, ms, t, is, g, v) = (start n c).pre.1 in
     let s = c.second-s1.ensures in
     let p1 = path-of (snoc p true) s.0 (c.child-p1.ensures _ p is) in
     let k = of-family f.0 l.0 in (
-      omega (arith, second-falls o.part _ f.0 l.1 _ s, (start n c).pre.0),
+      omega (arith, second-falls o.part _ f.0 l.1 _ s, c.decreases),
       (_, _, _, _, _, p1, at_second o.part _ f.0 l.1 _ s, fill-second v o k _ s.0),
     )
 
 pub close-start-requires : goal.close-start-requires
-close-start-requires τ c = let (q, p, u, ms, t, is, g, v) = (start n c).pre.1 in
+close-start-requires τ c = let (q, p, u, ms, t, is, g, v) = c.requires in
     let o = here-close-arg-1 τ c in
     let f = c.first-s0.ensures in
     let p0 = path-of (snoc p false) f.0 (c.child-p0.ensures _ p is) in

@@ -1,6 +1,5 @@
 -- `parts::close` meets its contract. Assumes nothing.
 use native.Mathlib.Omega.{arith}
-use borrow.Author.Rules.{rules}
 use Rattle.kept_pour.proofs.Found.{close-first, close-second, close-two, close-writable, close-both}
 use Rattle.kept_pour.proofs.parts.close.Goals as goal
 

@@ -1,5 +1,4 @@
 -- `parts::flat` meets its contract. Assumes nothing.
-use borrow.Author.Rules.{rules}
 use Rattle.kept_pour.proofs.Found.{flat-full, flat-none, flat-writable}
 use Rattle.kept_pour.proofs.parts.flat.Goals as goal
 

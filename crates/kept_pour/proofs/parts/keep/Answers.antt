@@ -1,6 +1,5 @@
 -- `parts::keep` meets its contract. Assumes nothing.
 use native.Mathlib.Omega.{arith}
-use borrow.Author.Rules.{rules}
 use Rattle.kept_pour.proofs.Found.{keep-room, keep-whole, keep-fits, keep_same, keep-movable, keep-moved}
 use Rattle.kept_pour.proofs.parts.keep.Goals as goal
 

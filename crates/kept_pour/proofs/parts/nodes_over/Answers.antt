@@ -1,6 +1,5 @@
 -- `parts::nodes_over` meets its contract. Assumes nothing.
 use native.Mathlib.Omega.{arith}
-use borrow.Author.Rules.{rules}
 use Rattle.kept_pour.proofs.Sizes.{glue-first, glue-second, glue-both}
 use Rattle.kept_pour.proofs.parts.nodes_over.Goals as goal
 

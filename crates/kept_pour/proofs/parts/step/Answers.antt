@@ -1,6 +1,5 @@
 -- `parts::step` meets its contract. Assumes nothing.
 use native.Mathlib.Omega.{arith}
-use borrow.Author.Rules.{rules}
 use Rattle.kept_pour.proofs.Found.{part-stands, stands-short, says-whole, says-split, says-leaf, says-leaf-split, says_none, says-fresh, says-inner}
 use Rattle.kept_pour.proofs.parts.step.Goals as goal
 

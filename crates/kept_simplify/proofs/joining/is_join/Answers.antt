@@ -1,5 +1,4 @@
 -- `joining::is_join` meets its contract, by its tests. Assumes nothing.
-use borrow.Author.Rules.{rules}
 use Rattle.kept_simplify.proofs.Plain.{join-far, join-second, join_first}
 use Rattle.kept_simplify.proofs.joining.is_join.Goals as goal
 

@@ -1,8 +1,6 @@
 -- `joining::next_join` meets its contract. The loop's invariant: nothing joins before node j. Assumes nothing.
-use Prim.Native.Nat.{suc, ◌-◌, ◌≤◌}
+use Prim.Native.Nat.{◌-◌}
 use native.Mathlib.Omega.{arith}
-use borrow.Author.Rules.{rules}
-use Rattle.kept_simplify.specs.Joins.{Apart}
 use Rattle.kept_simplify.proofs.Plain.{apart_more, apart-end}
 use Rattle.kept_simplify.proofs.joining.next_join.Goals as goal
 
@@ -14,8 +12,7 @@ overflow_add-j c = omega (arith, c.loop-j.invariant.1, c.requires.kept_room.few)
 
 pub is_join-requires : goal.is_join-requires
 is_join-requires c = let h = c.loop-j.invariant in
-    let p = c.requires in
-    record { kept_room = p.0; le_j = (h.0, omega (arith, c.loop-j-test.true, p.1.2)) }
+    record { kept_room = c.requires.kept_room; le_j = (h.0, omega (arith, c.loop-j-test.true, c.requires.le_k.2)) }
 
 pub returns-then-is_join : goal.returns-then-is_join
 returns-then-is_join c = c.loop-j.invariant.2

@@ -1,9 +1,6 @@
 -- `joining::next_join` meets its contract. The loop's invariant: nothing joins before node j. Assumes nothing.
 use Prim.Native.Nat.{suc, ◌-◌, ◌≤◌}
-use native.Mathlib.Omega.{arith}
-use borrow.Author.Rules.{rules}
 use Rattle.kept_simplify.specs.Joins.{Apart}
-use Rattle.kept_simplify.proofs.Plain.{apart_more, apart-end}
 use Rattle.kept_simplify.proofs.joining.next_join.Given as goal
 
 abbrev pub invariant-loop-j : goal.invariant-loop-j

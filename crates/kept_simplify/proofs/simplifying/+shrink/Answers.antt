@@ -1,7 +1,6 @@
 -- `simplifying::shrink` meets its contract, by the nodes that it reads. Assumes nothing.
 use native.Mathlib.Omega.{arith}
-use Prim.Native.Nat.{ℕ, ◌-◌, ◌<◌}
-use borrow.Author.Rules.{rules}
+use Prim.Native.Nat.{ℕ, ◌-◌}
 use Rattle.nets.specs.Bits.{Bits}
 use Rattle.nets.specs.Tries.{Trie}
 use Rattle.kept_simplify.specs.Shrinks.{Source}
@@ -67,51 +66,51 @@ pub fork_at-h-requires : goal.fork_at-h-requires
 fork_at-h-requires τ c = let (p, t, s) = c.requires.0 in (s.room, (source_fits s).0, fork-fits s c.if-k-eq1.false)
 
 pub overflow_add-i : goal.overflow_add-i
-overflow_add-i τ c = let (p, t, s) = (start n c).pre.1.0 in omega (arith, source_fits s)
+overflow_add-i τ c = let (p, t, s) = c.requires.0 in omega (arith, source_fits s)
 
 pub overflow_add-o : goal.overflow_add-o
-overflow_add-o τ c = let (p, t, s) = (start n c).pre.1.0 in omega (arith, source_fits s)
+overflow_add-o τ c = let (p, t, s) = c.requires.0 in omega (arith, source_fits s)
 
 pub shrink-r-requires : goal.shrink-r-requires
-shrink-r-requires τ c = let (p, t, s) = (start n c).requires.1.0 in
+shrink-r-requires τ c = let (p, t, s) = c.requires.0 in
     let d = split τ c p t s in
-    (omega (arith, fork-numbers d, (start n c).requires.0), ((_, _, second-source d), second-apart d (start n c).requires.1.1))
+    (omega (arith, fork-numbers d, c.decreases), ((_, _, second-source d), second-apart d c.requires.1))
 
 pub overflow_cast-h : goal.overflow_cast-h
-overflow_cast-h τ c = let (p, t, s) = (start n c).requires.1.0 in
+overflow_cast-h τ c = let (p, t, s) = c.requires.0 in
     omega (arith, fork-numbers (split-struct_known-1 τ c p t s))
 
 pub net_at-first-requires : goal.net_at-first-requires
-net_at-first-requires τ c = let (p, t, s) = (start n c).requires.1.0 in
+net_at-first-requires τ c = let (p, t, s) = c.requires.0 in
     let d = split-struct_known-1 τ c p t s in
     let g = fork-numbers d in
     record { kept_room = rest-room d _ _ (c.shrink-r.ensures _ _ (second-source d)); le_i = (omega arith, omega arith) }
 
 pub join_from-after-requires : goal.join_from-after-requires
-join_from-after-requires τ c = let (p, t, s) = (start n c).requires.1.0 in
+join_from-after-requires τ c = let (p, t, s) = c.requires.0 in
     let d = split-net_at-first τ c p t s in
     let g = fork-numbers d in
     let h = c.shrink-r.ensures _ _ (second-source d) in
-    record { kept_room = rest-room d _ _ h; le_m = (omega arith, omega arith, g.2); apart = rest-apart d _ _ h (start n c).requires.1.1 }
+    record { kept_room = rest-room d _ _ h; le_m = (omega arith, omega arith, g.2); apart = rest-apart d _ _ h c.requires.1 }
 
 pub overflow_add-o-2 : goal.overflow_add-o-2
-overflow_add-o-2 τ c = let (p, t, s) = (start n c).requires.1.0 in
+overflow_add-o-2 τ c = let (p, t, s) = c.requires.0 in
     omega (arith, source_fits s)
 
 pub overflow_add-o-3 : goal.overflow_add-o-3
-overflow_add-o-3 τ c = let (p, t, s) = (start n c).requires.1.0 in
+overflow_add-o-3 τ c = let (p, t, s) = c.requires.0 in
     let d = split-shrink-arg-2-1 τ c p t s in
     omega (arith, fork-numbers d, ends d _ _ (c.shrink-r.ensures _ _ (second-source d)))
 
 pub shrink-l-requires : goal.shrink-l-requires
-shrink-l-requires τ c = let (p, t, s) = (start n c).requires.1.0 in
+shrink-l-requires τ c = let (p, t, s) = c.requires.0 in
     let d = split-shrink-arg-2-1 τ c p t s in (
-      omega (arith, fork-numbers d, (start n c).requires.0),
+      omega (arith, fork-numbers d, c.decreases),
       ((_, _, rest-source d _ _ (c.shrink-r.ensures _ _ (second-source d))), c.join_from-after.ensures),
     )
 
 pub write_over-requires : goal.write_over-requires
-write_over-requires τ c = let (p, t, s) = (start n c).requires.1.0 in
+write_over-requires τ c = let (p, t, s) = c.requires.0 in
     let d = split-write_over-arg-3-1 τ c p t s in
     let h = c.shrink-r.ensures _ _ (second-source d) in
     (_, _, _, _, pending d _ _ h _ _ _ c.net_at-first.ensures (c.shrink-l.ensures _ _ (rest-source d _ _ h)))

@@ -1,6 +1,5 @@
 -- `simplifying::block` meets its contract. Assumes nothing.
 use mathlib.Core.Path.{sym, ap, ◌∙◌}
-use borrow.Author.Rules.{rules}
 use Rattle.nodes.specs.Words.{put}
 use Rattle.nodes.proofs.Has.{has-seg, has_same}
 use Rattle.kept_simplify.proofs.simplifying.block.Goals as goal

@@ -1,5 +1,4 @@
 -- `simplifying::is_full` meets its contract, by its tests. Assumes nothing.
-use borrow.Author.Rules.{rules}
 use borrow.Author.Tests.{eq-eqb, ne_eqb}
 use Rattle.kept_simplify.proofs.simplifying.is_full.Goals as goal
 

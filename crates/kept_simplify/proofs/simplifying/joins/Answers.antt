@@ -1,5 +1,4 @@
 -- `simplifying::joins` meets its contract, by its tests. Assumes nothing.
-use borrow.Author.Rules.{rules}
 use borrow.Author.Tests.{not-true, not-false}
 use Rattle.kept_simplify.proofs.simplifying.joins.Goals as goal
 

@@ -1,7 +1,6 @@
 -- `simplifying::settle` meets its contract, by its test. Assumes nothing.
 use mathlib.Core.Path.{sym}
 use native.Mathlib.Omega.{arith}
-use borrow.Author.Rules.{rules}
 use Rattle.nodes.proofs.Put.{put-nil}
 use Rattle.kept_simplify.proofs.Written.{rest-one, rest_more}
 use Rattle.kept_simplify.proofs.simplifying.settle.Goals as goal

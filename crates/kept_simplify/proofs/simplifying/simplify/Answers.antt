@@ -1,5 +1,4 @@
 -- `simplifying::simplify` meets its contract: what shrink writes, and the node that it left where all joined. Assumes nothing.
-use borrow.Author.Rules.{rules}
 use Rattle.kept_simplify.proofs.Shrinking.{whole-none, whole-source, whole-fits, whole-shrunk}
 use Rattle.kept_simplify.proofs.simplifying.simplify.Goals as goal
 

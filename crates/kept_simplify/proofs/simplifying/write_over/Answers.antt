@@ -1,6 +1,5 @@
 -- `simplifying::write_over` meets its contract: nothing is written where the halves join, and else what they left and the branch point. Assumes nothing.
 use native.Mathlib.Omega.{arith}
-use borrow.Author.Rules.{rules}
 use Rattle.kept_simplify.proofs.Written.{fits_after, second-left, first-left, over-short, over-fits, over-joined, over-apart}
 use Rattle.kept_simplify.proofs.simplifying.write_over.Goals as goal
 
