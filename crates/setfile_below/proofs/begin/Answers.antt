@@ -1,6 +1,5 @@
 -- `begin` meets its contract. Assumes nothing.
 use mathlib.Core.Path.{refl}
-use borrow.Author.Rules.{rules}
 use Rattle.setfile_below.proofs.Streams.{begins}
 use Rattle.setfile_below.proofs.begin.Goals as goal
 

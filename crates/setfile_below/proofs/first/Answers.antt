@@ -1,7 +1,6 @@
 -- `first` meets its contract. Assumes nothing.
 use mathlib.Core.Path.{refl}
 use native.Mathlib.Omega.{arith}
-use borrow.Author.Rules.{rules}
 use Rattle.setfile_below.proofs.Streams.{turn-room, first_under}
 use Rattle.setfile_below.proofs.first.Goals as goal
 

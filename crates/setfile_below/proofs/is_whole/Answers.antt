@@ -1,5 +1,4 @@
 -- `is_whole` meets its contract. Assumes nothing.
-use borrow.Author.Rules.{rules}
 use Rattle.setfile_below.proofs.Streams.{whole_is}
 use Rattle.setfile_below.proofs.is_whole.Goals as goal
 

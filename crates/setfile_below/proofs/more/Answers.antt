@@ -1,6 +1,5 @@
 -- `more` meets its contract. Assumes nothing.
 use mathlib.Core.Path.{sym, ◌∙◌}
-use borrow.Author.Rules.{rules}
 use Rattle.setfile_below.proofs.Streams.{more-turned, more-is}
 use Rattle.setfile_below.proofs.more.Goals as goal
 

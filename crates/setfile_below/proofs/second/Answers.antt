@@ -1,7 +1,6 @@
 -- `second` meets its contract. Assumes nothing.
 use mathlib.Core.Path.{refl}
 use native.Mathlib.Omega.{arith}
-use borrow.Author.Rules.{rules}
 use Rattle.setfile_below.proofs.Streams.{turn-room, second-under}
 use Rattle.setfile_below.proofs.second.Goals as goal
 

@@ -1,5 +1,4 @@
 -- `cutting::shade` meets its contract. Assumes nothing.
-use borrow.Author.Rules.{rules}
 use Rattle.trie_pour.specs.Pour.{pour_t}
 use Rattle.setfile_passes.proofs.Cuts.{cut-counts, shade-room, shade-done}
 use Rattle.setfile_passes.proofs.cutting.shade.Goals as goal
