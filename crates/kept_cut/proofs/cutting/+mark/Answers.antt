@@ -187,10 +187,10 @@ settle-rest-requires τ c = let k = here-settle-arg-1 τ c in
 
 pub returns-in-Nothing : goal.returns-in-Nothing
 returns-in-Nothing τ c q p u ms t g = let k = c.away.ensures q p u ms t g in
-    (away-left g (some-slice_known-in-nothing-1 τ c) (subst (λ c. Sighted c.args.i u t c) c.in-Nothing.is (sighted-slice_known-in-nothing-1 τ c q p u ms t g)) _ k.0, k.1)
+    (away-left g (some-slice_known-in-nothing-1 τ c) (subst (λ z. Sighted c.args.i u t z) c.in-Nothing.is (sighted-slice_known-in-nothing-1 τ c q p u ms t g)) _ k.0, k.1)
 
 pub returns-in-Leaf : goal.returns-in-Leaf
-returns-in-Leaf τ c q p u ms t g = let h = subst (λ c. Sighted c.args.i u t c) c.in-Leaf.is (sighted-slice_known-in-leaf-1 τ c q p u ms t g) in
+returns-in-Leaf τ c q p u ms t g = let h = subst (λ z. Sighted c.args.i u t z) c.in-Leaf.is (sighted-slice_known-in-leaf-1 τ c q p u ms t g) in
     let k = c.member.ensures q p u ms (as_member g h) in
     (member-left g h (some-slice_known-in-leaf-1 τ c) _ k.0, k.1)
 

@@ -13,7 +13,7 @@ loop-k-init c t u s = left-start _ _
 pub meets-requires : goal.meets-requires
 meets-requires c = let p = c.requires in
     let e = c.inner_bits-s.ensures in
-    record { len_bound = (e.0, short _ _ _ _ e.0 e.1 p.0); inputs = p.1 }
+    record { len_bound = (e.0, short _ _ _ _ e.0 e.1 p.family_bound); inputs = p.inputs }
 
 pub returns-then-meets : goal.returns-then-meets
 returns-then-meets c t u s = is_public-found _ _
