@@ -17,12 +17,12 @@ copying-slice_known-then-is_copy-1 : (c : goal.After-slice_known-then-is_copy-1)
 copying-slice_known-then-is_copy-1 c = sym c.is_copy.ensures ∙ c.if-is_copy.true
 
 emitted : (c : goal.After-settle-arg-1) (t u : Trie) → let a = c.args in ResultFits a.pool.now a.op a.s a.v a.n t u
-    → Emits c.shift_behind.last.0 c.emit-x.new.w a.s.base a.v.at c.emit-x.result (op_on a.op a.s.levels t u)
+    → Emits c.shift_behind.new.w c.emit-x.new.w a.s.base a.v.at c.emit-x.result (op_on a.op a.s.levels t u)
 emitted c t u h = let e = c.shift_behind.ensures in
     c.emit-x.ensures _ t u (write-inputs h e c.moved-a.ensures c.moved-c.ensures) (write-free h e)
 
 emitted-slice_known-4-1 : (c : goal.After-slice_known-4-1) (t u : Trie) → let a = c.args in ResultFits a.pool.now a.op a.s a.v a.n t u
-    → Emits c.shift_behind.last.0 c.emit-x.new.w a.s.base a.v.at c.emit-x.result (op_on a.op a.s.levels t u)
+    → Emits c.shift_behind.new.w c.emit-x.new.w a.s.base a.v.at c.emit-x.result (op_on a.op a.s.levels t u)
 emitted-slice_known-4-1 c t u h = let e = c.shift_behind.ensures in
     c.emit-x.ensures _ t u (write-inputs h e c.moved-a.ensures c.moved-c.ensures) (write-free h e)
 
