@@ -11,4 +11,4 @@ returns-then-took-ne0 c = let a = c.args in ended-refused a.pool.now a.g.reader 
 
 pub returns : goal.returns
 returns c = let a = c.args in
-    ended-added a.pool.now a.g.reader c.take_kept-took.ensures c.if-took-ne0.false c.wrapping_add_u64.ensures c.one_if.ensures c.wrapping_add_u64-2.ensures
+    ended-added a.pool.now a.g.reader c.take_kept-took.ensures c.if-took-ne0.false c.wrapping_add_u64.ensures.value c.one_if.ensures c.wrapping_add_u64-2.ensures.value
