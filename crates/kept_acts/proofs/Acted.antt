@@ -8,7 +8,7 @@ use native.Mathlib.Omega.{arith}
 use borrow.Author.Tests.{eq-eqb, ne_eqb}
 use lib.ListN.{length, take, drop, length-append}
 use Rattle.nets.specs.Bits.{Bits}
-use Rattle.nets.specs.Tries.{Trie, node, side}
+use Rattle.nets.specs.Tries.{Trie, side}
 use Rattle.nodes.specs.Words.{put, Has}
 use Rattle.nodes.proofs.Put.{put-before-at, put-behind-at}
 use Rattle.nodes.proofs.Has.{has-front, has-back, has-at, has-seg, has-put}

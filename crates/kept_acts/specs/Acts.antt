@@ -3,7 +3,7 @@
 --   Acts f w b n i e u p s t rest m    the trie t stands from node i up to node e, with rest behind it up to node u, and there is room for m nodes in its place
 --   Halves                             the same of a branch point with the halves l and r, of which the first begins at node m
 --   Became f w v b i r ws m rest       v is w with the words ws of m nodes from node i on, and rest behind them
-use Rattle.std.specs.Prelude.{Bool, true, false, cond, ◌&&◌, not, List, [], ◌++◌, ◌≡◌, ℕ, suc, ◌+◌, ◌-◌, ◌≤◌, ◌<◌, eqb, length}
+use Rattle.std.specs.Prelude.{Bool, true, false, cond, ◌&&◌, not, List, ◌++◌, ◌≡◌, ℕ, suc, ◌+◌, ◌-◌, ◌≤◌, ◌<◌, eqb, length}
 use Rattle.nets.specs.Bits.{Bits}
 use Rattle.nets.specs.Networks.{width}
 use Rattle.nets.specs.Tries.{Trie, none, node, side}
@@ -11,7 +11,6 @@ use Rattle.nodes.specs.Words.{put}
 use Rattle.trie_paths.specs.Spans.{snoc}
 use Rattle.branch_points.specs.KeptTries.{kept_size}
 use Rattle.kept_nodes.specs.Words.{node_words, kept_enc, spot, stride}
-use Rattle.kept_nodes.specs.Parse.{KeptRoom}
 use Rattle.kept_steps.specs.Segments.{KeptSegment}
 
 abbrev pub flat_size : Bool → ℕ

@@ -1,6 +1,6 @@
 -- What is left of a member without a network inside it, block by block. Assumes nothing.
 use mathlib.Core.Bool.{Bool, true, false, not}
-use mathlib.Core.List.{List, [], ◌∷◌, ◌++◌, append_assoc, append-nil}
+use mathlib.Core.List.{List, [], ◌∷◌, ◌++◌, append_assoc}
 use mathlib.Core.Path.{◌≡◌, refl, sym, ap, ◌∙◌}
 use Prim.Native.Nat.{ℕ, suc, ◌+◌, ◌-◌, ◌*◌, ◌≤◌, ◌<◌}
 use native.Mathlib.Omega.{arith}
@@ -8,11 +8,11 @@ use lib.ListN.{length, get_or, length-append, take, drop}
 use Rattle.nets.specs.Bits.{Bits}
 use Rattle.nets.specs.Networks.{width, net_from, net_bits}
 use Rattle.nets.specs.declared.Net.{Net}
-use Rattle.nets.specs.Tries.{Trie, none, node, leaf, fork}
+use Rattle.nets.specs.Tries.{Trie, none, leaf, fork}
 use Rattle.nets.specs.TrieOps.{remove_t}
 use Rattle.nets.proofs.Numbers.{width-le}
 use Rattle.nodes.specs.Words.{put}
-use Rattle.nodes.proofs.Put.{put-behind-at, put-before-at, put-swap, length-put}
+use Rattle.nodes.proofs.Put.{put-behind-at, put-before-at, put-swap}
 use Rattle.nodes.proofs.Tries.{some}
 use Rattle.trie_remove.proofs.Remains.{remove_t-end, remove_t-leaf}
 use Rattle.trie_paths.specs.Spans.{snoc}

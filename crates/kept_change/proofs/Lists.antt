@@ -1,7 +1,6 @@
 -- What a change makes of the list of a trie, and how many nodes that takes: add and remove. Assumes nothing.
 use mathlib.Core.Bool.{Bool, true, false, cond}
 use mathlib.Core.Path.{◌≡◌, sym, ap, ◌∙◌}
-use Prim.Native.Nat.{ℕ}
 use Rattle.nets.specs.Bits.{Bits}
 use Rattle.nets.specs.Lists.{add_l, remove_l}
 use Rattle.nets.specs.Tries.{Trie, list_of}

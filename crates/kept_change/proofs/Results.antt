@@ -1,32 +1,28 @@
 -- What each plan makes of the trie: its words and how many nodes it has, and the whole with one half changed. Assumes nothing.
-use mathlib.Core.Bool.{Bool, true, false, cond, not, ◌&&◌}
-use mathlib.Core.List.{List, [], ◌∷◌, ◌++◌, append_assoc, append-nil}
+use mathlib.Core.Bool.{Bool, true, false, not}
+use mathlib.Core.List.{List, [], ◌∷◌, ◌++◌, append_assoc}
 use mathlib.Core.Path.{◌≡◌, refl, sym, ap, ◌∙◌}
-use Prim.Native.Nat.{ℕ, suc, ◌+◌, ◌-◌, ◌*◌, ◌≤◌, ◌<◌}
+use Prim.Native.Nat.{ℕ, ◌+◌, ◌-◌, ◌*◌, ◌≤◌}
 use native.Mathlib.Omega.{arith}
 use borrow.Author.Tests.{eq-eqb, ne_eqb}
 use lib.Dec.{eqb}
 use lib.ListN.{length, length-append}
 use Rattle.nets.specs.Bits.{Bits}
-use Rattle.nets.specs.Networks.{width, net_from}
-use Rattle.nets.specs.declared.Net.{Net}
-use Rattle.nets.specs.Tries.{Trie, none, node, leaf, bare, is_none, side, fork, insert_t}
+use Rattle.nets.specs.Tries.{Trie, none, node, bare, side, insert_t}
 use Rattle.nets.specs.TrieOps.{rejoin, remove_t}
 use Rattle.nodes.specs.Words.{put, Has}
 use Rattle.nodes.proofs.Put.{put-before-at, put-behind-at}
 use Rattle.nodes.proofs.Has.{has-front, has_same}
 use Rattle.nodes.proofs.Tries.{some}
-use Rattle.trie_remove.proofs.Remains.{remove_t-end, remove_t-leaf}
 use Rattle.trie_paths.specs.Spans.{snoc}
 use Rattle.branch_points.specs.KeptTries.{kept, kept_size}
-use Rattle.branch_points.proofs.Sizes.{kept_size-leaf, kept_size-some}
 use Rattle.kept_nodes.specs.Words.{stride, node_words, kept_enc, spot}
 use Rattle.kept_nodes.proofs.Places.{spot_on, spot-next, length-node_words, length-kept_enc, kept_enc-none}
 use Rattle.kept_nodes.proofs.Hung.{kept_enc-fork, kept_size-fork}
-use Rattle.kept_steps.specs.Segments.{KeptSegment, KeptSpliced, own_size, KeptBranch}
-use Rattle.kept_steps.proofs.Halves.{inward, beside, behind, half-segment, size_is, words_are}
-use Rattle.kept_plan.specs.Change.{change_t, Way, Inside, Forks, Drops, Downs, half_in, Changes}
-use Rattle.kept_acts.specs.Acts.{Acts, Halves, Became, fork_words, drop_words, drop_size, linkable, relink_end, relinked, Relinks}
+use Rattle.kept_steps.specs.Segments.{KeptSegment, KeptSpliced, own_size}
+use Rattle.kept_steps.proofs.Halves.{behind, half-segment}
+use Rattle.kept_plan.specs.Change.{change_t, Inside, Forks, Drops, Downs, half_in}
+use Rattle.kept_acts.specs.Acts.{fork_words, drop_words, drop_size, linkable, relink_end, relinked}
 use Rattle.kept_plan.proofs.Changed.{insert-some, chain-words, chain-size, change-inner, one-words, one_size, other-words, other-size, both_words, rejoin-words}
 
 -- The halves of a trie that is no leaf: one of them, or both.

@@ -1,14 +1,12 @@
 -- The tests at a node by those of the code. Assumes nothing.
-use mathlib.Core.Path.{◌≡◌, refl, sym, ap, ◌∙◌}
-use mathlib.Core.Bool.{Bool, true, false, cond, ◌&&◌}
-use mathlib.Core.List.{List, []}
+use mathlib.Core.Path.{◌≡◌, sym, ap, ◌∙◌}
+use mathlib.Core.Bool.{Bool, true, false}
+use mathlib.Core.List.{List}
 use Prim.Native.Nat.{ℕ, ◌≤◌, ◌<◌}
 use native.Mathlib.Omega.{arith}
-use lib.Dec.{eqb, leb}
-use lib.ListN.{length}
 use borrow.Author.Tests.{eq-eqb, ne_eqb, le-leb, lt-leb}
 use Rattle.nets.specs.Bits.{leads}
-use Rattle.nets.specs.Networks.{width, net_bits}
+use Rattle.nets.specs.Networks.{net_bits}
 use Rattle.nets.specs.declared.Net.{Net}
 use Rattle.trie_paths.specs.Spans.{snoc}
 use Rattle.kept_nodes.specs.Parse.{KeptRoom, net_at, string_at, is_node, fits}

@@ -1,7 +1,7 @@
 -- The check, turn by turn: what is read at a node, what the stack says, and what each turn makes of it. Assumes nothing.
 use mathlib.Core.Path.{◌≡◌, refl, sym, ap, ◌∙◌}
 use mathlib.Core.Bool.{Bool, true, false, not, cond}
-use mathlib.Core.List.{List, [], ◌∷◌}
+use mathlib.Core.List.{List, []}
 use Prim.Native.Nat.{ℕ, zero, suc, ◌+◌, ◌-◌, ◌≤◌, ◌<◌}
 use native.Mathlib.Omega.{arith}
 use native.Mathlib.Numerals.{sub-one}
@@ -10,7 +10,7 @@ use lib.Dec.{eqb}
 use lib.ListN.{length, get_or, set, drop, length-set}
 use lib.Seq.{get_or-set_same, get_or-set_other}
 use borrow.Author.Tests.{eq-eqb, ne_eqb, eqb-true, eqb-false}
-use Rattle.nets.specs.Bits.{Bits, leads}
+use Rattle.nets.specs.Bits.{Bits}
 use Rattle.nets.specs.Networks.{width}
 use Rattle.nets.specs.Tries.{Trie, none, node, leaf}
 use Rattle.nets.proofs.Strings.{leads-length}
@@ -21,7 +21,7 @@ use Rattle.trie_paths.specs.Spans.{snoc}
 use Rattle.trie_paths.proofs.Paths.{length-snoc}
 use Rattle.branch_points.specs.KeptTries.{kept_size}
 use Rattle.branch_points.proofs.Sizes.{kept_size-leaf}
-use Rattle.kept_nodes.specs.Parse.{KeptRoom, len_at, dist_at, string_at, is_node, hung, lift, first, fits, kept_parse, kept_after}
+use Rattle.kept_nodes.specs.Parse.{KeptRoom, dist_at, string_at, is_node, lift, first, fits, kept_parse, kept_after}
 use Rattle.kept_nodes.proofs.Hung.{kept_size-hung}
 use Rattle.kept_nodes.proofs.NodeWords.{node-short, node-length}
 use Rattle.kept_nodes.proofs.Parsed.{Fits, fits-are, own, parse-own, parse-of, stands}

@@ -15,7 +15,7 @@ use Rattle.nets.specs.Networks.{width}
 use Rattle.nets.specs.Tries.{Trie, none, node, leaf, fork, side, list_of, trie_of}
 use Rattle.nets.specs.Lists.{Found, found, missing, supernet_l, is_list}
 use Rattle.nets.specs.TrieOps.{search_t, under}
-use Rattle.nets.proofs.Strings.{leads-trans, leads-length, leads-refl, leads-append}
+use Rattle.nets.proofs.Strings.{leads-trans, leads-length, leads-append}
 use Rattle.nets.proofs.Levels.{side_same}
 use Rattle.nets.proofs.TrieOf.{list_of-trie_of}
 use Rattle.nets.proofs.Lookups.{search_t-list_of}
@@ -24,16 +24,15 @@ use Rattle.trie_paths.specs.Spans.{snoc}
 use Rattle.trie_paths.proofs.Paths.{length-snoc}
 use Rattle.branch_points.specs.BranchPoints.{kept_steps_l}
 use Rattle.branch_points.specs.KeptTries.{kept_size, kept_steps_t}
-use Rattle.branch_points.proofs.Members.{leads-snoc}
 use Rattle.branch_points.proofs.Sizes.{kept_size-some}
 use Rattle.branch_points.proofs.Steps.{kept_steps_t-list_of, kept_steps_l-empty}
 use Rattle.kept_nodes.specs.Parse.{len_at, dist_at, string_at, KeptStands}
 use Rattle.kept_nodes.proofs.NodeWords.{Says, len_is, dist-is, string-is}
-use Rattle.kept_nodes.proofs.Parsed.{Split, leaf-says, branch-split, fork-stands}
+use Rattle.kept_nodes.proofs.Parsed.{leaf-says, branch-split, fork-stands}
 use Rattle.kept_nodes.proofs.Heads.{Head, head_of}
 use Rattle.kept_lookup.specs.Walks.{on_way, kept_walk, kept_walk_from, shown_as}
 use Rattle.kept_lookup.specs.declared.Shown.{Shown}
-use Rattle.kept_lookup.specs.declared.Shown.TheVariants.{Member, Nothing, Damaged}
+use Rattle.kept_lookup.specs.declared.Shown.TheVariants.{Member, Nothing}
 use Rattle.kept_lookup.proofs.Turning.{from-none, from-node}
 
 -- what a search that begins d bits down shows, c nodes counted before it and k on its way

@@ -1,7 +1,7 @@
 -- The walk by the tests of the code: where it starts, and what a turn at a node shows. Assumes nothing.
 use mathlib.Core.Bool.{Bool, true, false, cond, ◌&&◌}
-use mathlib.Core.List.{List, []}
-use mathlib.Core.Path.{◌≡◌, refl, ap, sym, ◌∙◌}
+use mathlib.Core.List.{List}
+use mathlib.Core.Path.{◌≡◌, ap, sym, ◌∙◌}
 use Prim.Native.Nat.{ℕ, zero, suc, ◌+◌, ◌-◌, ◌≤◌, ◌<◌}
 use native.Mathlib.Omega.{arith}
 use lib.Dec.{eqb, leb}
@@ -12,7 +12,7 @@ use Rattle.nets.specs.Tries.{side}
 use Rattle.nets.specs.Networks.{net_bits, width}
 use Rattle.nets.specs.declared.Net.{Net}
 use Rattle.nets.proofs.Numbers.{length-net_bits, refusal_of-is, width-le}
-use Rattle.kept_nodes.specs.Parse.{KeptRoom, len_at, dist_at, net_at, string_at}
+use Rattle.kept_nodes.specs.Parse.{KeptRoom, len_at, dist_at, string_at}
 use Rattle.kept_nodes.proofs.NodeWords.{len-at}
 use Rattle.kept_reading.specs.NodeStrings.{ReadAs, Both}
 use Rattle.kept_reading.proofs.Found.{read-family, read-string}

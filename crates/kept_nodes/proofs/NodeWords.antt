@@ -1,26 +1,25 @@
 -- The words of a node: what they say is its string and its distance. Assumes nothing.
-use mathlib.Core.Path.{◌≡◌, refl, sym, ap, ◌∙◌}
-use mathlib.Core.Bool.{Bool, true, false, cond, ◌&&◌}
+use mathlib.Core.Path.{◌≡◌, refl, sym, ap}
+use mathlib.Core.Bool.{Bool, true, false, cond}
 use mathlib.Core.List.{List, [], ◌∷◌}
-use Prim.Native.Nat.{ℕ, ◌+◌, ◌-◌, ◌*◌, ◌/◌, ◌%◌, ◌^◌, ◌≤◌, ◌<◌}
+use Prim.Native.Nat.{ℕ, ◌+◌, ◌-◌, ◌*◌, ◌^◌, ◌≤◌, ◌<◌}
 use native.Mathlib.Decide.{ℕ_discrete}
 use native.Mathlib.Nat.{div-eq_of_lt}
 use native.Mathlib.Omega.{arith}
 use borrow.Author.Tests.{eq-eqb, ne_eqb, eqb-true, le-leb, leb-true}
 use lib.Dec.{eqb, leb}
 use lib.ListN.{length, get_or}
-use lib.Pow.{shl_lt, pow-lt}
+use lib.Pow.{shl_lt}
 use lib.Seq.{length-take-le}
 use Rattle.nets.specs.Bits.{Bits, val, bits}
 use Rattle.nets.specs.Networks.{net_from, net_bits, net_words, address, width}
-use Rattle.nets.specs.declared.Net.{Net}
 use Rattle.nets.proofs.Strings.{and_left, and_right, and_both}
 use Rattle.nets.proofs.Order.{val-high}
 use Rattle.nets.proofs.Numbers.{net_bits-net_from, length-bits, width-4, width-le}
 use Rattle.nodes.specs.Words.{Has}
 use Rattle.nodes.proofs.Has.{has-head, has-tail, has-cons, has-at}
 use Rattle.kept_nodes.specs.Words.{stride, four_words, address_words, node_words, spot}
-use Rattle.kept_nodes.specs.Parse.{head_at, len_at, dist_at, pair_at, net_found, net_at, string_at, matches, is_node}
+use Rattle.kept_nodes.specs.Parse.{len_at, dist_at, pair_at, net_found, net_at, string_at, matches, is_node}
 use Rattle.kept_nodes.proofs.Places.{length-node_words}
 
 -- the test, and the fact

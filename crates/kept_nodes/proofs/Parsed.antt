@@ -1,7 +1,7 @@
 -- The decoder and the encodings: `kept_parse` gives a trie exactly where the words hold its encoding. Assumes nothing.
 use mathlib.Core.Path.{◌≡◌, refl, sym, ap, ◌∙◌, subst}
 use mathlib.Core.Bool.{Bool, true, false, cond, ◌&&◌}
-use mathlib.Core.List.{List, [], ◌∷◌, ◌++◌}
+use mathlib.Core.List.{List, [], ◌++◌}
 use Prim.Native.Nat.{ℕ, zero, suc, ◌+◌, ◌-◌, ◌≤◌}
 use native.Mathlib.Numerals.{sub-one}
 use native.Mathlib.Omega.{arith}
@@ -21,11 +21,11 @@ use Rattle.trie_paths.specs.Spans.{snoc}
 use Rattle.trie_paths.proofs.Paths.{length-snoc}
 use Rattle.branch_points.specs.KeptTries.{kept_size}
 use Rattle.branch_points.proofs.Members.{leads-snoc}
-use Rattle.kept_nodes.specs.Words.{node_words, distance, kept_enc, spot, stride}
+use Rattle.kept_nodes.specs.Words.{node_words, distance, kept_enc, spot}
 use Rattle.kept_nodes.specs.Parse.{KeptRoom, dist_at, string_at, is_node, hung, lift, first, fits, kept_parse, KeptStands}
 use Rattle.kept_nodes.proofs.Places.{spot_on, spot-next, spot-within, length-node_words, length-kept_enc}
 use Rattle.kept_nodes.proofs.Hung.{leads-drop, drop-snoc, drop_all, hung-some, kept_size-hung, kept_size-fork, levels-hung, levels-fork, kept_enc-hung, kept_enc-fork}
-use Rattle.kept_nodes.proofs.NodeWords.{Says, dist-is, string-is, is-node, node-short, node-says}
+use Rattle.kept_nodes.proofs.NodeWords.{Says, dist-is, string-is, is-node, node-says}
 
 lift-ok : (q : Bits) (x : Read) (u : Trie) → lift q x ≡ ok u → (l : Trie) × (x ≡ ok l) × (hung q l ≡ u)
 lift-ok q bad u e = absurd (never u e)

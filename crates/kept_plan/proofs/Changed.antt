@@ -1,18 +1,17 @@
 -- What is made of a trie by one network, step by step, and where a half is gone as a whole: where the network leads the string of its first node. Assumes nothing.
-use mathlib.Core.Bool.{Bool, true, false, not, cond, ◌&&◌, false≢true, beq as same}
+use mathlib.Core.Bool.{Bool, true, false, not, cond, false≢true}
 use mathlib.Core.List.{List, [], ◌∷◌, ◌++◌, append_assoc, append-nil}
 use mathlib.Core.Path.{◌≡◌, refl, sym, ap, ◌∙◌}
-use Prim.Native.Nat.{ℕ, suc, ◌+◌, ◌≤◌}
+use Prim.Native.Nat.{ℕ, ◌+◌, ◌≤◌}
 use native.Mathlib.Omega.{arith}
-use lib.ListN.{length}
 use Rattle.nets.specs.Bits.{Bits, leads}
-use Rattle.nets.specs.Tries.{Trie, none, node, leaf, bare, is_none, side, fork, insert_t}
+use Rattle.nets.specs.Tries.{Trie, none, node, leaf, bare, side, fork, insert_t}
 use Rattle.nets.specs.TrieOps.{rejoin, remove_t}
 use Rattle.nodes.proofs.Tries.{some}
-use Rattle.trie_remove.proofs.Remains.{rejoin-fork, rejoin-none, remove_t-end, remove_t-none, remove_t-leaf, remove_t-inner}
+use Rattle.trie_remove.proofs.Remains.{rejoin-fork, rejoin-none, remove_t-end, remove_t-leaf, remove_t-inner}
 use Rattle.trie_paths.specs.Spans.{snoc}
-use Rattle.branch_points.specs.KeptTries.{kept, kept_size}
-use Rattle.branch_points.proofs.Sizes.{kept_size-leaf, kept_size-some}
+use Rattle.branch_points.specs.KeptTries.{kept_size}
+use Rattle.branch_points.proofs.Sizes.{kept_size-leaf}
 use Rattle.kept_nodes.specs.Words.{node_words, distance, kept_enc}
 use Rattle.kept_nodes.specs.Parse.{KeptStands, string_at, hung}
 use Rattle.kept_nodes.proofs.Places.{kept_enc-leaf, kept_enc-none}

@@ -1,37 +1,34 @@
 -- The plan by the tests of the code. Assumes nothing.
-use mathlib.Core.Bool.{Bool, true, false, cond, ◌&&◌, beq as same}
+use mathlib.Core.Bool.{Bool, true, false, cond}
 use mathlib.Core.List.{List, [], ◌∷◌, ◌++◌, append_assoc, append-nil}
 use mathlib.Core.Path.{◌≡◌, refl, sym, ap, ◌∙◌}
-use Prim.Native.Nat.{ℕ, suc, ◌+◌, ◌-◌, ◌%◌, ◌^◌, ◌≤◌, ◌<◌}
+use Prim.Native.Nat.{ℕ, ◌+◌, ◌^◌, ◌≤◌, ◌<◌}
 use native.Mathlib.Nat.{mod-lt}
 use native.Mathlib.Omega.{arith}
 use lib.ListN.{length, get_or, length-append}
 use lib.Seq.{get_or-append_seam}
 use Rattle.nets.specs.Bits.{Bits, leads}
-use Rattle.nets.specs.Networks.{is_family, width, net_from, net_bits, refusal_of}
+use Rattle.nets.specs.Networks.{net_from, net_bits}
 use Rattle.nets.specs.declared.Net.{Net}
-use Rattle.nets.specs.Tries.{Trie, none, node, leaf, bare, side, fork, insert_t}
+use Rattle.nets.specs.Tries.{Trie, none, node, leaf, bare, side, insert_t}
 use Rattle.nets.specs.TrieOps.{rejoin, remove_t}
 use Rattle.nets.proofs.Strings.{same_refl}
 use Rattle.nets.proofs.Numbers.{net_bits-net_from, refusal_of-net_from}
-use Rattle.nodes.proofs.Tries.{some}
 use Rattle.trie_remove.proofs.Remains.{rejoin-fork, remove_t-end, remove_t-none}
 use Rattle.trie_paths.specs.Spans.{snoc}
 use Rattle.trie_paths.proofs.Paths.{path-is}
 use Rattle.branch_points.specs.KeptTries.{kept, kept_size}
-use Rattle.branch_points.proofs.Sizes.{kept_size-leaf, kept_size-none, kept_size-some}
-use Rattle.kept_nodes.specs.Words.{node_words, kept_enc}
-use Rattle.kept_nodes.specs.Parse.{KeptRoom, net_at, string_at}
+use Rattle.branch_points.proofs.Sizes.{kept_size-leaf, kept_size-none}
+use Rattle.kept_nodes.specs.Parse.{net_at, string_at}
 use Rattle.kept_nodes.proofs.Places.{kept_enc-leaf, kept_enc-none}
 use Rattle.kept_nodes.proofs.Heads.{head-short}
 use Rattle.kept_reading.specs.NodeStrings.{IsString, Both, ReadAs}
 use Rattle.kept_reading.proofs.Found.{read-family, read-len, read-string}
-use Rattle.kept_steps.specs.Segments.{KeptSegment, own_size, kept_view, KeptBranch}
-use Rattle.kept_steps.specs.declared.View.TheVariants.{Nothing, Leaf, Inner}
-use Rattle.kept_steps.proofs.Views.{view-none, view-leaf, view-inner, segment-stands}
-use Rattle.kept_steps.proofs.Halves.{inward, beside, half-segment, size_is}
-use Rattle.kept_plan.specs.Change.{change_t, Way, Steps, flat_words, Flattened, Inside, Forks, Drops, Downs, Planned}
-use Rattle.kept_plan.specs.declared.Plan.TheVariants.{Stay, Flat, Halve, Fork, Drop, Down}
+use Rattle.kept_steps.specs.Segments.{KeptSegment, KeptBranch}
+use Rattle.kept_steps.proofs.Views.{segment-stands}
+use Rattle.kept_steps.proofs.Halves.{inward, half-segment}
+use Rattle.kept_plan.specs.Change.{Way, Steps, Flattened, Inside, Drops, Planned}
+use Rattle.kept_plan.specs.declared.Plan.TheVariants.{Stay, Fork, Drop, Down}
 use Rattle.kept_plan.proofs.Changed.{insert-some, chain-words, chain-size, change-inner, top_of, string-top, removed-gone, removed-stays}
 
 none-size : kept_size none ≡ 0

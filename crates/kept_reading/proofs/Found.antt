@@ -1,7 +1,7 @@
 -- What is read of a node: its string is one of the family where its length is, and the node's words are those of a string exactly where no bit past the length is
 -- set. Assumes nothing.
 use mathlib.Core.Path.{◌≡◌, refl, sym, ap, ◌∙◌}
-use mathlib.Core.Bool.{Bool, true, false, not, cond, ◌&&◌}
+use mathlib.Core.Bool.{true, false, not}
 use mathlib.Core.List.{List, [], ◌∷◌}
 use Prim.Native.Nat.{ℕ, ◌+◌, ◌-◌, ◌*◌, ◌/◌, ◌%◌, ◌^◌, ◌≤◌, ◌<◌}
 use native.Mathlib.Decide.{ℕ_discrete}
@@ -10,17 +10,16 @@ use lib.Arith.{digits_lt}
 use lib.Dec.{eqb, leb}
 use lib.ListN.{length, get_or}
 use borrow.Author.Tests.{eq-eqb, ne_eqb, le-leb, lt-leb, not-true}
-use Rattle.nets.specs.Bits.{Bits}
-use Rattle.nets.specs.Networks.{is_family, width, net_words, net_bits, net_from, refusal_of, cleared, has_bit_past, address}
+use Rattle.nets.specs.Networks.{width, net_words, net_bits, net_from, cleared, has_bit_past, address}
 use Rattle.nets.specs.declared.Net.{Net}
 use Rattle.nets.proofs.Strings.{and_both, bool_iff}
-use Rattle.nets.proofs.Numbers.{IsNet, is-refusal_of, width-4, width-6}
+use Rattle.nets.proofs.Numbers.{is-refusal_of, width-4, width-6}
 use Rattle.nets.proofs.TwoWords.{cleared-same, same-cleared}
-use Rattle.kept_nodes.specs.Words.{stride, four_words, address_words, node_words, spot}
+use Rattle.kept_nodes.specs.Words.{four_words, address_words, node_words, spot}
 use Rattle.kept_nodes.specs.Parse.{KeptRoom, head_at, len_at, dist_at, pair_at, net_found, net_at, string_at, matches, is_node, Halved, Small}
 use Rattle.kept_nodes.proofs.Places.{stride-4, stride-6, spot-4, spot-6, spot-within}
-use Rattle.kept_nodes.proofs.NodeWords.{family-at, len-at, length_at, net-is, node-says, node-length, node-short}
-use Rattle.kept_reading.specs.NodeStrings.{IsString, Both, FoundAs, ReadAs}
+use Rattle.kept_nodes.proofs.NodeWords.{family-at, len-at, length_at, net-is, node-says}
+use Rattle.kept_reading.specs.NodeStrings.{IsString, FoundAs, ReadAs}
 
 -- the room by words
 module _ {f : ℕ} {w : List ℕ} {b n : ℕ} (room : KeptRoom f w b n) where

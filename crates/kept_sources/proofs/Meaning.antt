@@ -1,28 +1,26 @@
 -- What a number means below a string: its kind, and the numbers of its halves, which stand below one bit more. Assumes nothing.
 use mathlib.Core.Path.{◌≡◌, refl, sym, ap, ◌∙◌}
-use mathlib.Core.Bool.{Bool, true, false, cond, ◌&&◌, beq as same}
-use mathlib.Core.List.{List, [], ◌∷◌}
-use mathlib.Core.Logic.{◌⊎◌, inl, inr, ⊎_elim}
-use Prim.Native.Nat.{ℕ, zero, suc, ◌+◌, ◌-◌, ◌*◌, ◌/◌, ◌%◌, ◌≤◌, ◌<◌}
+use mathlib.Core.Bool.{Bool, true, false, beq as same}
+use mathlib.Core.List.{List}
+use mathlib.Core.Logic.{inl, inr, ⊎_elim}
+use Prim.Native.Nat.{ℕ, ◌+◌, ◌/◌, ◌%◌, ◌≤◌, ◌<◌}
 use native.Mathlib.Omega.{arith}
-use lib.Dec.{eqb}
 use lib.ListN.{length, get_or}
-use Rattle.nets.specs.Bits.{Bits, leads}
-use Rattle.nets.specs.Tries.{Trie, none, node, bare, side, fork}
+use Rattle.nets.specs.Bits.{Bits}
+use Rattle.nets.specs.Tries.{Trie, none, node, side, fork}
 use Rattle.nets.specs.TrieOps.{Kind, flat, mixed, kind_of, half}
 use Rattle.nets.specs.Networks.{net_bits, width}
 use Rattle.nets.specs.declared.Net.{Net}
-use Rattle.nets.proofs.Strings.{leads-length, same-is, same_refl, and_left, and_right}
+use Rattle.nets.proofs.Strings.{same-is, same_refl}
 use Rattle.nodes.proofs.Tries.{some}
 use Rattle.trie_emit.specs.Combine.{rank, all}
 use Rattle.trie_emit.proofs.Sources.{rank-none, rank-leaf}
 use Rattle.trie_paths.specs.Spans.{snoc}
-use Rattle.trie_paths.proofs.Paths.{length-snoc}
 use Rattle.branch_points.specs.KeptTries.{kept_size}
 use Rattle.branch_points.proofs.Sizes.{kept_size-some}
 use Rattle.kept_nodes.specs.Parse.{KeptRoom, head_at, len_at, dist_at, net_at, string_at, KeptStands}
 use Rattle.kept_nodes.proofs.Hung.{kept_size-fork}
-use Rattle.kept_nodes.proofs.NodeWords.{Says, len_is, dist-is}
+use Rattle.kept_nodes.proofs.NodeWords.{len_is, dist-is}
 use Rattle.kept_nodes.proofs.Parsed.{Split}
 use Rattle.kept_nodes.proofs.Heads.{head-is, by_shape, bit-behind, edge-head, edge-len, head-short}
 use Rattle.kept_reading.specs.NodeStrings.{IsString, ReadAs}

@@ -1,14 +1,13 @@
 -- The halves of a trie that is no leaf, each where it stands, on the side of a bit. Assumes nothing.
-use mathlib.Core.Bool.{Bool, true, false, cond}
-use mathlib.Core.List.{List, [], ◌∷◌, ◌++◌, append_assoc}
-use mathlib.Core.Path.{◌≡◌, refl, sym, ap, ◌∙◌}
-use Prim.Native.Nat.{ℕ, suc, ◌+◌, ◌-◌, ◌*◌, ◌≤◌}
+use mathlib.Core.Bool.{Bool, true, false}
+use mathlib.Core.List.{List, ◌++◌, append_assoc}
+use mathlib.Core.Path.{◌≡◌, ap, ◌∙◌}
+use Prim.Native.Nat.{ℕ, ◌+◌, ◌-◌, ◌*◌, ◌≤◌}
 use native.Mathlib.Nat.{mul-add}
 use native.Mathlib.Omega.{arith}
 use lib.ListN.{length, length-append}
 use Rattle.nets.specs.Bits.{Bits}
-use Rattle.nets.specs.Networks.{width}
-use Rattle.nets.specs.Tries.{Trie, none, node, side, levels}
+use Rattle.nets.specs.Tries.{Trie, side, levels}
 use Rattle.nodes.specs.Words.{Has}
 use Rattle.nodes.proofs.Has.{has-back, has-at}
 use Rattle.trie_paths.specs.Spans.{snoc}

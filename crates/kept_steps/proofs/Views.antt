@@ -1,8 +1,8 @@
 -- What the tests of a step say of the trie that stands there. Assumes nothing.
-use mathlib.Core.Bool.{Bool, true, false, cond, false≢true}
-use mathlib.Core.List.{List, [], ◌∷◌, ◌++◌}
+use mathlib.Core.Bool.{Bool, true, false, cond}
+use mathlib.Core.List.{List}
 use mathlib.Core.Path.{◌≡◌, refl, sym, ap, ◌∙◌}
-use Prim.Native.Nat.{ℕ, suc, ◌+◌, ◌-◌, ◌*◌, ◌/◌, ◌%◌, ◌≤◌, ◌<◌}
+use Prim.Native.Nat.{ℕ, ◌+◌, ◌/◌, ◌%◌, ◌≤◌, ◌<◌}
 use native.Mathlib.Omega.{arith}
 use lib.ListN.{length, get_or}
 use Rattle.nets.specs.Bits.{Bits}
@@ -13,17 +13,15 @@ use Rattle.nets.proofs.Listing.{bare-none}
 use Rattle.nodes.proofs.Has.{has-front}
 use Rattle.nodes.proofs.Tries.{some}
 use Rattle.trie_paths.specs.Spans.{snoc}
-use Rattle.branch_points.specs.KeptTries.{kept, kept_size}
-use Rattle.branch_points.proofs.Sizes.{kept_size-some, kept_size-none}
+use Rattle.branch_points.specs.KeptTries.{kept_size}
+use Rattle.branch_points.proofs.Sizes.{kept_size-none}
 use Rattle.kept_nodes.specs.Words.{kept_enc}
-use Rattle.kept_nodes.specs.Parse.{KeptRoom, KeptStands, head_at, len_at, dist_at, net_at, string_at}
+use Rattle.kept_nodes.specs.Parse.{KeptStands, head_at, len_at, net_at, string_at}
 use Rattle.kept_nodes.proofs.Hung.{kept_size-fork}
 use Rattle.kept_nodes.proofs.NodeWords.{len_is, dist-is}
-use Rattle.kept_nodes.proofs.Parsed.{Split}
 use Rattle.kept_nodes.proofs.Heads.{by_shape, bit-behind, head_of, edge-head, edge-len, head-short}
 use Rattle.kept_reading.specs.NodeStrings.{IsString, ReadAs}
 use Rattle.kept_reading.proofs.Found.{read-len, read-string}
-use Rattle.kept_steps.specs.declared.View.{View}
 use Rattle.kept_steps.specs.declared.View.TheVariants.{Nothing, Leaf, Inner}
 use Rattle.kept_steps.specs.Segments.{KeptSegment, own_size, kept_view, KeptBranch}
 

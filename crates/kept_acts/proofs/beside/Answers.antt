@@ -1,6 +1,5 @@
 -- `beside` meets its contract, by the side. Assumes nothing.
 use mathlib.Core.Path.{refl}
-use borrow.Author.Rules.{rules}
 use Rattle.kept_acts.proofs.beside.Goals as goal
 
 pub returns-then-bit : goal.returns-then-bit

@@ -1,5 +1,4 @@
 -- `drop_half` meets its contract. Assumes nothing.
-use borrow.Author.Rules.{rules}
 use native.Mathlib.Omega.{arith}
 use Rattle.kept_acts.proofs.Acted.{half-fits, drop-moves, drop-became, drop-moves-first, drop-moves-tail, drop-became-first}
 use Rattle.kept_acts.proofs.drop_half.Goals as goal

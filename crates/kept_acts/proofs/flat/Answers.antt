@@ -1,5 +1,4 @@
 -- `flat` meets its contract. Assumes nothing.
-use borrow.Author.Rules.{rules}
 use native.Mathlib.Omega.{arith}
 use mathlib.Core.Bool.{true}
 use Rattle.kept_acts.proofs.Acted.{flat-moves, none_moves, flat-writes, flat-became, none-became}

@@ -1,6 +1,5 @@
 -- `fork` meets its contract. Assumes nothing.
 -- the places, and what was moved and written, one after the other
-use borrow.Author.Rules.{rules}
 use native.Mathlib.Omega.{arith}
 use Rattle.kept_acts.proofs.Acted.{fork-fits, fork-moves, fork-moves-two, fork-writes, fork-writes-two, fork-became}
 use Rattle.kept_acts.proofs.fork.Goals as goal

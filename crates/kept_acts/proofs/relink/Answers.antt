@@ -1,5 +1,4 @@
 -- `relink` meets its contract. Assumes nothing.
-use borrow.Author.Rules.{rules}
 use native.Mathlib.Omega.{arith}
 use borrow.Author.Tests.{not-true, not-false, ne_eqb}
 use mathlib.Core.Path.{refl}

@@ -1,5 +1,4 @@
 -- `beside` meets its contract, by the side. Assumes nothing.
-use borrow.Author.Rules.{rules}
 use native.Mathlib.Omega.{arith}
 use mathlib.Core.Bool.{true, false}
 use Rattle.trie_paths.specs.Spans.{snoc}

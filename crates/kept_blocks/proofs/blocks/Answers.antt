@@ -1,9 +1,7 @@
 -- `blocks` meets its contract. The loop's invariant: what is still to be written completes it. Assumes nothing.
-use borrow.Author.Rules.{rules}
 use native.Mathlib.Omega.{arith}
-use mathlib.Core.List.{List}
-use mathlib.Core.Path.{◌≡◌, refl, sym, ap, ◌∙◌}
-use Prim.Native.Nat.{ℕ, ◌-◌, ◌≤◌, ◌<◌}
+use mathlib.Core.Path.{◌≡◌, refl, ap, ◌∙◌}
+use Prim.Native.Nat.{ℕ, ◌≤◌, ◌<◌}
 use lib.ListN.{length}
 use Rattle.nodes.specs.Words.{put}
 use Rattle.nodes.proofs.Put.{length-put}
@@ -14,8 +12,7 @@ use Rattle.kept_nodes.specs.Words.{kept_enc, spot}
 use Rattle.nets.specs.Bits.{Bits}
 use Rattle.nets.specs.Networks.{net_from}
 use Rattle.kept_blocks.specs.Blocks.{Blocks}
-use Rattle.kept_acts.proofs.Acted.{writable}
-use Rattle.kept_blocks.proofs.Remaining.{At, at-start, at_len, at-bit, at-child, at-beside, at_turn, at-falls, at_last, last-short, last-writes}
+use Rattle.kept_blocks.proofs.Remaining.{at-start, at_len, at-bit, at-child, at-beside, at_turn, at-falls, at_last, last-short, last-writes}
 use Rattle.kept_blocks.proofs.blocks.Goals as goal
 
 few : (c : goal.After-struct_known-in-loop-x-3-1) → let a = c.args in let o = c.loop-x in (o.x.len < a.q.len) × (a.q.len ≤ 128)

@@ -1,5 +1,4 @@
 -- `halve` meets its contract. Assumes nothing.
-use borrow.Author.Rules.{rules}
 use native.Mathlib.Omega.{arith}
 use mathlib.Core.Path.{refl}
 use Rattle.kept_blocks.proofs.Remaining.{halve-len, halve-fits, halve-moves, halve-blocks, halve-became}

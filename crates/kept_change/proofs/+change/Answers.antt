@@ -1,7 +1,7 @@
 -- `change` meets its contract, by the bits that are left. Assumes nothing.
 use mathlib.Core.List.{List, ◌++◌}
 use mathlib.Core.Path.{◌≡◌, sym, subst}
-use Prim.Native.Nat.{ℕ, ◌-◌}
+use Prim.Native.Nat.{ℕ}
 use native.Mathlib.Omega.{arith}
 use Rattle.nets.specs.Bits.{Bits}
 use Rattle.nets.specs.Networks.{net_from}

@@ -1,6 +1,4 @@
 -- `follows` meets its contract, by its test. Assumes nothing.
-use borrow.Author.Rules.{rules}
-use native.Mathlib.Omega.{arith}
 use borrow.Author.Tests.{eq-eqb, ne_eqb}
 use Rattle.kept_check.proofs.follows.Goals as goal
 

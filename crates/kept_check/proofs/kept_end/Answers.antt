@@ -1,12 +1,11 @@
 -- `kept_end` meets its contract. The loop's invariant: what the stack makes of the end of the part now read is the answer. Assumes nothing.
-use borrow.Author.Rules.{rules}
 use native.Mathlib.Omega.{arith}
 use mathlib.Core.Path.{refl, sym, ◌∙◌}
-use Prim.Native.Nat.{suc, ◌-◌, ◌≤◌, ◌<◌}
+use Prim.Native.Nat.{◌≤◌, ◌<◌}
 use Rattle.kept_nodes.proofs.Parsed.{fits-are}
 use lib.ListN.{get_or, set}
-use borrow.Author.Tests.{eq-eqb, ne_eqb, not-true, not-false}
-use Rattle.kept_check.proofs.Stack.{Loop, Known, Turn, reads, gone, room_for, known-within, stop, turn-place, turn-node, off, on, begin}
+use borrow.Author.Tests.{not-true, not-false}
+use Rattle.kept_check.proofs.Stack.{Known, Turn, reads, gone, room_for, stop, turn-place, turn-node, off, on, begin}
 use Rattle.kept_check.proofs.kept_end.Goals as goal
 
 within : (c : goal.Else-not-node_fits) → c.loop-ats.i ≤ c.args.n

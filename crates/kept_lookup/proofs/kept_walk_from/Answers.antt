@@ -1,13 +1,12 @@
 -- `kept_walk_from` meets its contract. The loop's invariant: the walk from here shows what the whole walk shows. Assumes nothing.
-use borrow.Author.Rules.{rules}
 use native.Mathlib.Omega.{arith}
-use mathlib.Core.Path.{refl, sym, ◌∙◌}
+use mathlib.Core.Path.{sym, ◌∙◌}
 use mathlib.Core.Path.{◌≡◌}
 use mathlib.Core.Bool.{Bool, true, false}
 use Rattle.nets.specs.Tries.{side}
-use Prim.Native.Nat.{ℕ, ◌+◌, ◌-◌, ◌≤◌}
+use Prim.Native.Nat.{ℕ, ◌+◌, ◌≤◌}
 use borrow.Author.Tests.{not-true, not-false}
-use Rattle.kept_lookup.proofs.Turning.{query-few, ask-both, from-none, from-over, Down, down-start, Met, down-over, down-shrunk, down-long, down-off, down-leaf, down-end, down-on}
+use Rattle.kept_lookup.proofs.Turning.{query-few, ask-both, from-none, from-over, down-start, Met, down-over, down-shrunk, down-long, down-off, down-leaf, down-end, down-on}
 use Rattle.kept_lookup.proofs.kept_walk_from.Goals as goal
 
 step-le : (c : Bool) (d : ℕ) {x : ℕ} → x ≡ side c d 1 → x ≤ 1 + d

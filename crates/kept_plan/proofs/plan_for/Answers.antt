@@ -1,7 +1,5 @@
 -- `plan_for` meets its contract, by what is seen of the trie. Assumes nothing.
-use borrow.Author.Rules.{rules}
-use native.Mathlib.Omega.{arith}
-use mathlib.Core.Path.{◌≡◌, refl, sym, ◌∙◌}
+use mathlib.Core.Path.{sym, ◌∙◌}
 use Rattle.kept_steps.proofs.Views.{view-none, view-leaf, view-inner}
 use Rattle.kept_plan.proofs.Plans.{way-string, way_end, way-more, way-some, way-steps, flat-end, flat-none, member-stays}
 use Rattle.kept_plan.proofs.plan_for.Goals as goal

@@ -1,10 +1,8 @@
 -- `write_ranges` meets its contract. The loop's invariant: what is still to be read completes the ranges. Assumes nothing.
-use borrow.Author.Rules.{rules}
-use native.Mathlib.Omega.{arith}
 use Prim.Native.Nat.{◌-◌}
 use Rattle.nets.specs.Tries.{Trie}
 use Rattle.kept_list.specs.Listed.{KeptHolds}
-use Rattle.kept_ranges.proofs.Turns.{Ranging, ranging-start, ranging-end, turn-takable, turn-takes}
+use Rattle.kept_ranges.proofs.Turns.{Ranging}
 use Rattle.kept_ranges.proofs.write_ranges.Given as goal
 
 abbrev pub invariant-loop-k : goal.invariant-loop-k

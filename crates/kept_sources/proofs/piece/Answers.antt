@@ -1,9 +1,8 @@
 -- `piece` meets its contract, by its tests. Assumes nothing.
-use borrow.Author.Rules.{rules}
 use native.Mathlib.Omega.{arith}
 use mathlib.Core.Path.{◌≡◌}
 use mathlib.Core.Bool.{Bool, true, false}
-use Prim.Native.Nat.{ℕ, ◌+◌, ◌≤◌, ◌<◌}
+use Prim.Native.Nat.{ℕ, ◌+◌, ◌≤◌}
 use Rattle.nets.specs.Tries.{side}
 use Rattle.kept_sources.proofs.Meaning.{piece-none, piece-all, piece-place, at-is, edge-string, edge_on, edge-off}
 use Rattle.kept_sources.proofs.piece.Goals as goal

@@ -1,7 +1,5 @@
 -- `look` meets its contract, by its tests. Assumes nothing.
-use borrow.Author.Rules.{rules}
 use native.Mathlib.Omega.{arith}
-use mathlib.Core.Path.{◌≡◌, sym, ◌∙◌}
 use Prim.Native.Nat.{◌≤◌}
 use Rattle.kept_steps.proofs.Views.{look_none, look-place, look-leaf, look-both, look-near, look-string, look-edge}
 use Rattle.kept_steps.proofs.look.Goals as goal

@@ -1,6 +1,4 @@
 -- `move_nodes` meets its contract, by the family. Assumes nothing.
-use borrow.Author.Rules.{rules}
-use native.Mathlib.Omega.{arith}
 use Rattle.kept_writing.proofs.Stores.{moves-short, moves_long, moved-short, moved-long}
 use Rattle.kept_writing.proofs.move_nodes.Goals as goal
 

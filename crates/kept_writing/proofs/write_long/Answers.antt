@@ -1,5 +1,4 @@
 -- `write_long` meets its contract: five stores. Assumes nothing.
-use borrow.Author.Rules.{rules}
 use native.Mathlib.Omega.{arith}
 use lib.ListN.{length-set}
 use Rattle.kept_writing.proofs.Stores.{put_five}

@@ -1,6 +1,4 @@
 -- `write_node` meets its contract, by the family. Assumes nothing.
-use borrow.Author.Rules.{rules}
-use native.Mathlib.Omega.{arith}
 use Rattle.kept_writing.proofs.Stores.{fits-short, fits-long, writes_short, writes-long}
 use Rattle.kept_writing.proofs.write_node.Goals as goal
 

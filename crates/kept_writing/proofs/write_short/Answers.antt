@@ -1,5 +1,4 @@
 -- `write_short` meets its contract: two stores. Assumes nothing.
-use borrow.Author.Rules.{rules}
 use native.Mathlib.Omega.{arith}
 use lib.ListN.{length-set}
 use Rattle.kept_writing.proofs.Stores.{put_two}

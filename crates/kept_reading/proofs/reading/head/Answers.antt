@@ -1,5 +1,4 @@
 -- `reading::head` meets its contract. Assumes nothing.
-use borrow.Author.Rules.{rules}
 use native.Mathlib.Omega.{arith}
 use Rattle.kept_reading.proofs.Found.{room-4, room-6, head-4, head-6}
 use Rattle.kept_reading.proofs.reading.head.Goals as goal

@@ -1,5 +1,4 @@
 -- `reading::is_node` meets its contract. Assumes nothing.
-use borrow.Author.Rules.{rules}
 use native.Mathlib.Omega.{arith}
 use Rattle.kept_reading.proofs.Found.{read-longer, read-node}
 use Rattle.kept_reading.proofs.reading.is_node.Goals as goal

@@ -1,6 +1,4 @@
 -- `reading::long_net` meets its contract. Assumes nothing.
-use borrow.Author.Rules.{rules}
-use native.Mathlib.Omega.{arith}
 use Rattle.kept_reading.proofs.Found.{found-long}
 use mathlib.Core.Path.{refl}
 use Rattle.kept_reading.proofs.reading.long_net.Goals as goal

@@ -1,5 +1,4 @@
 -- `reading::net_at` meets its contract. Assumes nothing.
-use borrow.Author.Rules.{rules}
 use native.Mathlib.Omega.{arith}
 use Rattle.kept_reading.proofs.Found.{room-4, room-6, read_short, read-long}
 use Rattle.kept_reading.proofs.reading.net_at.Goals as goal

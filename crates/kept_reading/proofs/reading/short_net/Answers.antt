@@ -1,6 +1,4 @@
 -- `reading::short_net` meets its contract. Assumes nothing.
-use borrow.Author.Rules.{rules}
-use native.Mathlib.Omega.{arith}
 use Rattle.kept_reading.proofs.Found.{found-short}
 use mathlib.Core.Path.{refl}
 use Rattle.kept_reading.proofs.reading.short_net.Goals as goal

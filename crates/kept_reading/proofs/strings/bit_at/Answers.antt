@@ -1,5 +1,4 @@
 -- `strings::bit_at` meets its contract, by words. Assumes nothing.
-use borrow.Author.Rules.{rules}
 use native.Mathlib.Omega.{arith}
 use Rattle.nets.proofs.Numbers.{width-le}
 use Rattle.kept_reading.proofs.ByWords.{bit-within, bit-low, bit_high}

@@ -1,6 +1,4 @@
 -- `strings::child` meets its contract, by its test. Assumes nothing.
-use borrow.Author.Rules.{rules}
-use native.Mathlib.Omega.{arith}
 use Rattle.kept_reading.proofs.ByWords.{path-short}
 use Rattle.kept_reading.proofs.strings.child.Goals as goal
 

@@ -1,6 +1,4 @@
 -- `strings::extends` meets its contract, by its tests. Assumes nothing.
-use borrow.Author.Rules.{rules}
-use native.Mathlib.Omega.{arith}
 use mathlib.Core.Path.{sym, ◌∙◌}
 use borrow.Author.Tests.{not-true, not-false}
 use Rattle.kept_reading.proofs.ByWords.{extends-short, extends-off, extends-bit}

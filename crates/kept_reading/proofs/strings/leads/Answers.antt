@@ -1,5 +1,4 @@
 -- `strings::leads` meets its contract: p leads q exactly where they share all bits of p. Assumes nothing.
-use borrow.Author.Rules.{rules}
 use Rattle.kept_reading.proofs.ByWords.{shared-all}
 use Rattle.kept_reading.proofs.strings.leads.Goals as goal
 

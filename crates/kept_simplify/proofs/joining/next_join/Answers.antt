@@ -1,5 +1,4 @@
 -- `joining::next_join` meets its contract. The loop's invariant: nothing joins before node j. Assumes nothing.
-use Prim.Native.Nat.{◌-◌}
 use native.Mathlib.Omega.{arith}
 use Rattle.kept_simplify.proofs.Plain.{apart_more, apart-end}
 use Rattle.kept_simplify.proofs.joining.next_join.Goals as goal

@@ -1,6 +1,6 @@
 -- `simplifying::shrink` meets its contract, by the nodes that it reads. Assumes nothing.
 use native.Mathlib.Omega.{arith}
-use Prim.Native.Nat.{ℕ, ◌-◌}
+use Prim.Native.Nat.{ℕ}
 use Rattle.nets.specs.Bits.{Bits}
 use Rattle.nets.specs.Tries.{Trie}
 use Rattle.kept_simplify.specs.Shrinks.{Source}
