@@ -141,6 +141,7 @@ exported {w} {S} d k {v} {u} {n} r = go (dec_lt k (length S.sets)) (dec_lt (leng
 -- In any order, each once or more often, ranges have the same addresses.
 module _ (a : ℕ) where
   in_some-one : (p : Span) (qs : List Span) → Memᴰ p qs → holds (range_of p) a ≡ true → in_some (map range_of qs) a ≡ true
+  in_some-one p [] m h = absurd (Memᴰ.not-nil m)
   in_some-one p (q ∷ qs) (Memᴰ.head e) h = rw (ap (λ s. holds (range_of s) a) (sym e) ∙ h)
   in_some-one p (q ∷ qs) (Memᴰ.tail m) h = rw (in_some-one p qs m h) (or_comm (holds (range_of q) a) true)
 
@@ -160,6 +161,7 @@ module _ (a : ℕ) where
 -- limit and room are left.
 spaced-first : (rs : List Range) → spaced rs ≡ true → (r : Range) → Memᴰ r rs → r.first ≤ r.last
 unfolding spaced
+spaced-first [] e r m = absurd (Memᴰ.not-nil m)
 spaced-first (s ∷ []) e r (Memᴰ.head q) = rw q (leb-true s.first s.last e)
 spaced-first (s ∷ []) e r (Memᴰ.tail m) = absurd (Memᴰ.not-nil m)
 spaced-first (s ∷ t ∷ rs) e r (Memᴰ.head q) = rw q (leb-true s.first s.last (and_left (leb s.first s.last) _ e))
@@ -173,6 +175,7 @@ family-spans f (suc n) u p (Memᴰ.head e) = ap (λ (s : Span). s.family) e
 family-spans f (suc n) u p (Memᴰ.tail m) = family-spans f n (drop 4 u) p m
 
 range-in : (ps : List Span) (p : Span) → Memᴰ p ps → Memᴰ (range_of p) (map range_of ps)
+range-in [] p m = absurd (Memᴰ.not-nil m)
 range-in (q ∷ ps) p (Memᴰ.head e) = Memᴰ.head (ap range_of e)
 range-in (q ∷ ps) p (Memᴰ.tail m) = Memᴰ.tail (range-in ps p m)
 
