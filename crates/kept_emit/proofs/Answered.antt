@@ -1,33 +1,31 @@
 -- What an answer says of its trie, and the answer over two: nothing over nothing, a leaf over two leaves, or the sizes with one more for a branch point. Assumes
 -- nothing.
 use mathlib.Core.Path.{◌≡◌, refl, sym, ap, ◌∙◌}
-use mathlib.Core.Bool.{Bool, true, false, cond, ◌&&◌, false≢true}
-use mathlib.Core.List.{List, [], ◌∷◌, ◌++◌, append-nil}
+use mathlib.Core.Bool.{Bool, true, false, ◌&&◌, false≢true}
+use mathlib.Core.List.{List, [], ◌++◌}
 use Prim.Native.Nat.{ℕ, suc, ◌+◌, ◌-◌, ◌*◌, ◌≤◌, ◌<◌}
-use native.Mathlib.Nat.{mul-le-mul_left}
 use native.Mathlib.Omega.{arith}
-use lib.Dec.{ltb}
 use lib.ListN.{length}
 use borrow.Author.Tests.{lt-ltb, le-ltb}
 use Rattle.nets.specs.Bits.{Bits}
 use Rattle.nets.specs.Tries.{Trie, none, node, leaf, bare, is_leaf, glue}
-use Rattle.nets.specs.TrieOps.{Kind, flat, mixed, kind_of}
+use Rattle.nets.specs.TrieOps.{mixed, kind_of}
 use Rattle.nets.specs.Networks.{width, net_from}
 use Rattle.nets.specs.declared.Net.{Net}
 use Rattle.nets.proofs.Strings.{and_left, and_right}
 use Rattle.nets.proofs.Listing.{leaf-is}
 use Rattle.nodes.specs.Words.{put}
-use Rattle.nodes.proofs.Put.{put-nil, put-swap, put-before-at, length-put}
+use Rattle.nodes.proofs.Put.{put-nil, put-swap, put-before-at}
 use Rattle.nodes.proofs.Tries.{some}
 use Rattle.trie_emit.proofs.Answers.{by_kind, by-glue}
 use Rattle.trie_paths.specs.Spans.{snoc}
 use Rattle.trie_paths.proofs.Paths.{path-is, length-snoc}
-use Rattle.branch_points.specs.KeptTries.{kept, kept_size}
+use Rattle.branch_points.specs.KeptTries.{kept_size}
 use Rattle.branch_points.proofs.Sizes.{kept_size-some, kept_size-none, kept_size-halves, kept_size-second, kept_size-first, kept_size-both}
 use Rattle.kept_nodes.specs.Parse.{KeptRoom}
-use Rattle.kept_nodes.specs.Words.{stride, node_words, distance, own_words, kept_enc, spot}
+use Rattle.kept_nodes.specs.Words.{stride, node_words, distance, kept_enc, spot}
 use Rattle.kept_nodes.proofs.Places.{spot_on, spot-next, spot-within, spot-before, room-put, length-node_words, length-kept_enc, kept_enc-leaf, kept_enc-none}
-use Rattle.kept_emit.specs.Answers.{said, answer, body, Emits, size_of, rest_of, is_full, Both, Pending, top_words}
+use Rattle.kept_emit.specs.Answers.{answer, body, Emits, size_of, rest_of, is_full, Both, Pending, top_words}
 use Rattle.kept_emit.specs.declared.emitting.Emitted.{Emitted}
 use Rattle.kept_emit.specs.declared.emitting.Emitted.TheVariants.{Empty, Full, Node}
 

@@ -1,20 +1,19 @@
 -- One step of a set operation in the second form: how large a result is, what its sources mean after a write, and the halves put together. Assumes nothing.
-use mathlib.Core.Path.{◌≡◌, refl, sym, ap, ◌∙◌}
+use mathlib.Core.Path.{◌≡◌, refl, sym, ◌∙◌}
 use mathlib.Core.Bool.{Bool, true, false, cond}
-use mathlib.Core.List.{List, []}
-use mathlib.Core.Logic.{◌⊎◌, inl, inr, ⊎_elim}
-use Prim.Native.Nat.{ℕ, ◌+◌, ◌-◌, ◌*◌, ◌≤◌, ◌<◌, ◌^◌, max}
+use mathlib.Core.List.{List}
+use mathlib.Core.Logic.{inl, inr, ⊎_elim}
+use Prim.Native.Nat.{ℕ, ◌+◌, ◌-◌, ◌*◌, ◌≤◌, ◌<◌, ◌^◌}
 use native.Mathlib.Omega.{arith}
 use lib.ListN.{length}
 use Rattle.nets.specs.Bits.{Bits}
-use Rattle.nets.specs.Tries.{Trie, none, node, leaf, size, levels, glue, bare}
+use Rattle.nets.specs.Tries.{Trie, none, node, leaf, size, glue}
 use Rattle.nets.specs.TrieOps.{flat, mixed, kind_of, verdict, half}
 use Rattle.nets.specs.Networks.{width, net_from}
-use Rattle.nets.specs.declared.Net.{Net}
 use Rattle.nets.proofs.Glue.{levels-half}
 use Rattle.nets.proofs.Numbers.{width-le}
 use Rattle.nets.proofs.Operate.{flat≢mixed, verdict-levels}
-use Rattle.nodes.specs.Words.{put, Has, Apart}
+use Rattle.nodes.specs.Words.{put, Apart}
 use Rattle.nodes.proofs.Put.{length-put, put-nil}
 use Rattle.nodes.proofs.Has.{has-put}
 use Rattle.trie_emit.specs.Combine.{op_of, joined, op_on, rank}
@@ -22,11 +21,11 @@ use Rattle.trie_emit.proofs.Answers.{by_kind, by-glue, length-body}
 use Rattle.trie_emit.proofs.Combine.{size-op, rank-flat, rank-mixed, step-flat, step-mixed}
 use Rattle.trie_paths.specs.Spans.{snoc}
 use Rattle.trie_paths.proofs.Paths.{length-snoc}
-use Rattle.branch_points.specs.KeptTries.{kept, kept_size}
+use Rattle.branch_points.specs.KeptTries.{kept_size}
 use Rattle.branch_points.proofs.Sizes.{kept_size-halves, size-deep}
 use Rattle.branch_points.proofs.Counts.{kept_size-le}
 use Rattle.kept_nodes.specs.Words.{stride, kept_enc, spot}
-use Rattle.kept_nodes.specs.Parse.{KeptRoom, KeptStands}
+use Rattle.kept_nodes.specs.Parse.{KeptRoom}
 use Rattle.kept_nodes.proofs.Places.{spot_on, spot-le, spot-end, length-kept_enc, room-put}
 use Rattle.kept_sources.specs.Sources.{KeptHere, KeptMeans, nothing, everything, standing}
 use Rattle.kept_emit.specs.Answers.{said, answer, body, Emits, size_of, Both, Pending}

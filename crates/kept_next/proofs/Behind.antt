@@ -11,7 +11,7 @@ use borrow.Author.Tests.{eq-eqb, ne_eqb, leb-true}
 use lib.Dec.{leb}
 use lib.ListN.{length}
 use Rattle.nets.specs.Bits.{Bits, equal, before}
-use Rattle.nets.specs.Lists.{member, past, next_l}
+use Rattle.nets.specs.Lists.{member, next_l}
 use Rattle.nets.specs.Networks.{is_family, width, has_bit_past, net_words, net_bits}
 use Rattle.nets.specs.Tries.{Trie, list_of}
 use Rattle.nets.specs.declared.Net.{Net}

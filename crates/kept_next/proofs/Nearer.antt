@@ -6,7 +6,7 @@ use Prim.Native.Nat.{ℕ, suc, ◌+◌, ◌-◌, ◌≤◌, ◌<◌}
 use native.Mathlib.Omega.{arith}
 use lib.ListN.{length}
 use Rattle.nets.specs.Bits.{Bits, before, equal}
-use Rattle.nets.specs.Lists.{member, Place, past, is_past, Found, found, missing, next_l}
+use Rattle.nets.specs.Lists.{member, Place, is_past, Found, found, missing, next_l}
 use Rattle.nets.specs.Networks.{is_family, width, net_from, net_bits}
 use Rattle.nets.specs.declared.Net.{Net}
 use Rattle.nets.specs.Tries.{Trie, list_of}

@@ -15,7 +15,6 @@ use Rattle.nets.specs.Tries.{Trie, none, node, bare, is_none}
 use Rattle.nodes.specs.Words.{put, Has}
 use Rattle.nodes.proofs.Put.{put-behind-at, put-swap}
 use Rattle.nodes.proofs.Has.{has-put, has-front, has-back, has-at, has_same}
-use Rattle.nodes.proofs.Tries.{some}
 use Rattle.trie_paths.specs.Spans.{snoc}
 use Rattle.trie_paths.proofs.Paths.{length-snoc}
 use Rattle.branch_points.specs.KeptTries.{kept, kept_size}

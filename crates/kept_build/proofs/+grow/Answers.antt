@@ -1,7 +1,7 @@
 -- `grow` meets its contract, by the depth that is left. The loop's invariant: from what was written before it, it has gone on to what is written now. Assumes
 -- nothing.
 use mathlib.Core.List.{List}
-use Prim.Native.Nat.{ℕ, ◌-◌}
+use Prim.Native.Nat.{ℕ}
 use native.Mathlib.Omega.{arith}
 use Rattle.nets.specs.Bits.{Bits}
 use Rattle.nets.specs.Tries.{Trie}

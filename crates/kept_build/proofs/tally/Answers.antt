@@ -1,6 +1,5 @@
 -- `tally` meets its contract. The loop's invariant: from what was passed before it, it has gone on to what is passed now. Assumes nothing.
 use mathlib.Core.List.{List}
-use Prim.Native.Nat.{◌-◌}
 use native.Mathlib.Omega.{arith}
 use Rattle.nets.specs.Bits.{Bits}
 use Rattle.nets.specs.Tries.{Trie}

@@ -1,11 +1,10 @@
 -- `is_nearer` meets its contract. Assumes nothing.
-use borrow.Author.Rules.{rules}
 use borrow.Author.Tests.{not-true, not-false}
 use mathlib.Core.Bool.{not}
 use mathlib.Core.Path.{ap, sym, ◌∙◌}
 use Rattle.nets.specs.Bits.{before}
 use Rattle.nets.specs.Networks.{net_bits}
-use mathlib.Core.Bool.{Bool, true, false, ◌||◌}
+use mathlib.Core.Bool.{◌||◌}
 use Rattle.kept_next.proofs.is_nearer.Goals as goal
 
 pub returns-then-not-best : goal.returns-then-not-best

@@ -1,5 +1,4 @@
 -- `is_past` meets its contract. Assumes nothing.
-use borrow.Author.Rules.{rules}
 use borrow.Author.Tests.{not-true, not-false}
 use Rattle.kept_next.proofs.is_past.Goals as goal
 

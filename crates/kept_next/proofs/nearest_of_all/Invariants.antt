@@ -1,12 +1,9 @@
 -- `nearest_of_all` meets its contract. The loop's invariant: the nearest of the nodes that were read. Assumes nothing.
-use borrow.Author.Rules.{rules}
-use native.Mathlib.Omega.{arith}
-use mathlib.Core.Path.{refl}
 use Prim.Native.Nat.{◌-◌}
 use Rattle.nets.specs.Tries.{Trie}
 use Rattle.kept_list.specs.Listed.{KeptHolds}
 use Rattle.kept_next.specs.Nearest.{place_at}
-use Rattle.kept_next.proofs.Nearer.{Searches, search-start, search-looks, search-turn, search-all, follows-none, follows-some}
+use Rattle.kept_next.proofs.Nearer.{Searches}
 use Rattle.kept_next.proofs.nearest_of_all.Given as goal
 
 abbrev pub invariant-loop-k : goal.invariant-loop-k

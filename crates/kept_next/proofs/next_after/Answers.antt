@@ -1,6 +1,5 @@
 -- `next_after` meets its contract: the next of the same length where it was found, else the nearest of all. Assumes nothing.
 -- the trie that the caller has shown, and the node that was found in it
-use borrow.Author.Rules.{rules}
 use native.Mathlib.Omega.{arith}
 use Rattle.kept_list.specs.Listed.{KeptHolds}
 use Rattle.kept_next.specs.Lanes.{Behind}

@@ -1,5 +1,4 @@
 -- `go_on` meets its contract. Assumes nothing.
-use borrow.Author.Rules.{rules}
 use native.Mathlib.Omega.{arith}
 use Rattle.nets.specs.Tries.{list_of}
 use Rattle.trie_spots.proofs.Onward.{gone-on}

@@ -1,7 +1,6 @@
 -- `combined::op_is_clear` meets its contract. The loop's invariant: an inner network that the result overlaps is among those from number k on. Assumes
 -- nothing.
 use mathlib.Core.Path.{sym, ◌∙◌}
-use Prim.Native.Nat.{◌-◌}
 use native.Mathlib.Omega.{arith}
 use Rattle.inner_nets.proofs.Numbered.{left-start, left-done, left-found, left-next, is_public-found, is_public-none}
 use Rattle.trie_meets.proofs.Operation.{short}

@@ -1,6 +1,5 @@
 -- `standing::inside` meets its contract. The loop's invariant: the part of what `at` means, inside what is left of the bits, is the part that is asked for.
 -- Assumes nothing.
-use Prim.Native.Nat.{◌-◌}
 use native.Mathlib.Omega.{arith}
 use Rattle.nets.proofs.Handing.{Hands, hands, hands_end}
 use Rattle.kept_meets.proofs.Inside.{way-start, way-some, way-nothing, way_end, way_on}

@@ -1,5 +1,4 @@
 -- `standing::is_public` meets its contract. The loop's invariant: an inner network that is overlapped is among those from number k on. Assumes nothing.
-use Prim.Native.Nat.{◌-◌}
 use native.Mathlib.Omega.{arith}
 use Rattle.nets.specs.Networks.{bits_left}
 use Rattle.inner_nets.proofs.Numbered.{left-start, left-done, left-found, left-next, is_public-found, is_public-none}

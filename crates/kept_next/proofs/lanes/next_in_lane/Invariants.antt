@@ -1,9 +1,6 @@
 -- `lanes::next_in_lane` meets its contract. The loop's invariant: none of the nodes that were read is a member of that length. Assumes nothing.
-use borrow.Author.Rules.{rules}
-use native.Mathlib.Omega.{arith}
-use mathlib.Core.Path.{refl, sym, ◌∙◌}
 use Prim.Native.Nat.{◌-◌}
-use Rattle.kept_next.proofs.Behind.{LaneRead, lane-start, lane-on, lane-found}
+use Rattle.kept_next.proofs.Behind.{LaneRead}
 use Rattle.kept_next.proofs.lanes.next_in_lane.Given as goal
 
 abbrev pub invariant-loop-j : goal.invariant-loop-j

@@ -1,9 +1,8 @@
 -- `lanes::seek` meets its contract: the number read grows. Assumes nothing.
-use borrow.Author.Rules.{rules}
 use native.Mathlib.Omega.{arith}
 use mathlib.Core.Bool.{Bool, true, false}
 use mathlib.Core.Path.{◌≡◌}
-use Prim.Native.Nat.{ℕ, ◌+◌, ◌-◌, ◌/◌, ◌≤◌}
+use Prim.Native.Nat.{ℕ, ◌+◌, ◌/◌, ◌≤◌}
 use Rattle.nets.specs.Tries.{side}
 use Rattle.kept_next.proofs.lanes.seek.Goals as goal
 
