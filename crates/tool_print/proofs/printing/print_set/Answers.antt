@@ -1,9 +1,7 @@
 -- `printing::print_set` is safe and ends: the rows that `list` says that it wrote lie within those lent. Assumes nothing.
 use native.Mathlib.Omega.{arith}
-use borrow.Author.Rules.{rules}
 use Rattle.tool_print.proofs.Fits.{listed-fits}
 use Rattle.tool_print.proofs.printing.print_set.Goals as goal
 
 pub networks-requires : goal.networks-requires
-networks-requires c = let l = c.list-listed in
-    omega (arith, listed-fits l.ensures c.in-Granted.is, l.auto.1.1.0)
+networks-requires g c = let l = c.list-listed in omega (arith, listed-fits l.ensures c.in-Granted.is, l.auto.rows)
