@@ -60,8 +60,15 @@ fn past(file: &mut Opened) -> io::Result<usize> {
     file.read(&mut one)
 }
 
-// The file of so many bytes, if none comes behind them.
-fn ended(rt: &HostRuntime, program: &[u8], file: &mut Opened, path: &[u8], n: usize) -> Source
+// The file of so many bytes, if none comes behind them, where there is room for no more than `most`.
+fn ended(
+    rt: &HostRuntime,
+    program: &[u8],
+    file: &mut Opened,
+    path: &[u8],
+    n: usize,
+    most: usize,
+) -> Source
     ensures { result.bytes ≤ n }
 {
     match past(file) {
@@ -70,7 +77,7 @@ fn ended(rt: &HostRuntime, program: &[u8], file: &mut Opened, path: &[u8], n: us
             bytes: n,
         },
         Ok(_) => {
-            say_long(rt, program, n);
+            say_long(rt, program, most);
             NOTHING
         }
         Err(e) => {
@@ -91,7 +98,7 @@ fn read(
     ensures { result.bytes ≤ length bytes.new }
 {
     match read_full(file, bytes) {
-        Ok(n) => ended(rt, program, file, path, n),
+        Ok(n) => ended(rt, program, file, path, n, bytes.len()),
         Err(e) => {
             say_failed(rt, program, path, &e);
             NOTHING
