@@ -1,6 +1,7 @@
 // A file that is read whole.
+ghost use Rattle.std.specs.Counts.{IsPrefixLen};
 ghost use Rattle.std.specs.Io.{ReadsAtMost};
-ghost use Rattle.std.specs.Prelude.{◌≤◌, length};
+ghost use Rattle.std.specs.Prelude.{◌≤◌};
 
 use crate::opening::{ENAMETOOLONG, Opened, PATH, open_source};
 use crate::reading::read_full;
@@ -95,7 +96,7 @@ fn read(
     path: &[u8],
     bytes: &mut [u8],
 ) -> Source
-    ensures { result.bytes ≤ length bytes.new }
+    ensures { IsPrefixLen result.bytes bytes.new }
 {
     match read_full(file, bytes) {
         Ok(n) => ended(rt, program, file, path, n, bytes.len()),
@@ -114,7 +115,7 @@ pub fn read_source(
     what: &[u8],
     bytes: &mut [u8],
 ) -> Source
-    ensures { result.bytes ≤ length bytes.new }
+    ensures { IsPrefixLen result.bytes bytes.new }
 {
     let mut path = [0u8; PATH];
     let n = match argument(rt, place, &mut path) {

@@ -1,5 +1,6 @@
 // A file written whole or not at all: it is written beside the old one, under a name of its own, and takes the old one's name when all of it is on the disk.
 // So a write that fails, as on a full disk, leaves the old file as it was.
+ghost use Rattle.std.specs.Counts.{IsPrefixLen};
 ghost use Rattle.std.specs.Prelude.{◌≤◌, length};
 
 use crate::opening::{ENAMETOOLONG, PATH, is_dash, name_of};
@@ -16,7 +17,7 @@ fn least(a: usize, b: usize) -> usize
 // Puts the text into the name from a place on, as far as there is room, and answers the place behind it.
 fn append(name: &mut [u8], at: usize, text: &[u8]) -> usize
     requires { at ≤ length name.old }
-    ensures { result ≤ length name.new }
+    ensures { IsPrefixLen result name.new }
 {
     let n = least(text.len(), name.len() - at);
     let mut i = 0;
@@ -44,7 +45,7 @@ fn digits(number: u32, out: &mut [u8; 10]) -> usize
 
 // The name of the new file, path.new-PID, and its length. A name that is too long fills all of the buffer, and is then no path.
 fn beside(rt: &HostRuntime, path: &[u8], name: &mut [u8]) -> usize
-    ensures { result ≤ length name.new }
+    ensures { IsPrefixLen result name.new }
 {
     let mut number = [0u8; 10];
     let from = digits(process::id(rt.process()), &mut number);

@@ -1,5 +1,5 @@
 -- Each turn puts a byte, and the name keeps its length.
-use Rattle.std.proofs.Common.{◌-◌, ◌≤◌, length, ◌≡◌, ◌+◌}
+use Rattle.std.proofs.Common.{◌-◌, ◌≤◌, length, ◌≡◌}
 use Rattle.tool_files.proofs.writing.append.Given as goal
 
 abbrev pub invariant-loop-i : goal.invariant-loop-i
