@@ -1,0 +1,12 @@
+-- What `salvage` says that it wrote lies within the lent bytes. Assumes nothing.
+use mathlib.Core.Path.{sym}
+use native.Mathlib.Omega.{arith}
+use lib.Seq.{length-take-le}
+use Rattle.salvage_file.proofs.Fits.{saved-fits}
+use Rattle.salvage_file.proofs.save.Goals as goal
+
+pub slice_bounds-write-end : goal.slice_bounds-write-end
+slice_bounds-write-end c = let s = c.salvage-a in omega (arith, saved-fits s.ensures c.in-File.is, s.auto.out)
+
+pub slice_bounds-write-end-in-File : goal.slice_bounds-write-end-in-File
+slice_bounds-write-end-in-File c = sym (length-take-le c.in-File.c.bytes c.salvage-a.new.out (slice_bounds-write-end c))
