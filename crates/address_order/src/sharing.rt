@@ -1,5 +1,5 @@
 // The leading bits that two networks have in common.
-ghost use Rattle.std.specs.Prelude.{◌≡◌, ℕ, ◌≤◌};
+ghost use Rattle.std.specs.Prelude.{◌≡◌};
 ghost use Rattle.std.specs.Int.Count.{count_leading_zeros};
 ghost use Rattle.nets.specs.Networks.{value, net_bits, refusal_of};
 ghost use Rattle.address_order.specs.Streams.{shared};
@@ -17,18 +17,11 @@ fn zeros(hi: u64, lo: u64) -> u8
     u64::leading_zeros(hi) as u8
 }
 
-// The smaller of two lengths.
-fn smaller(a: u8, b: u8) -> u8
-    ensures { (result ≤ a) × ((result ≤ b) × ((k : ℕ) → k ≤ a → k ≤ b → k ≤ result)) }
-{
-    if a < b { a } else { b }
-}
-
 // How many leading bits the networks share: their addresses differ first where the exclusive or of the two has its highest set bit.
 pub fn shared(a: Net, b: Net) -> u8
     requires { (a.family ≡ b.family) × ((refusal_of a ≡ 0) × (refusal_of b ≡ 0)) }
     ensures { result ≡ shared (net_bits a) (net_bits b) }
 {
     let same = zeros(a.hi ^ b.hi, a.lo ^ b.lo) - (128 - width(a.family));
-    smaller(same, smaller(a.len, b.len))
+    same.min(a.len.min(b.len))
 }

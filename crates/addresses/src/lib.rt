@@ -3,7 +3,7 @@ ghost use Rattle.std.specs.Prelude.{◌≡◌, ◌+◌, ◌*◌, ◌^◌, ◌<�
 ghost use Rattle.nets.specs.Networks.{width, net_words, net_of, taken_as, judged, big_endian};
 
 use nets::families::width;
-use nets::{IPV4, IPV6, Net, Taken};
+use nets::{IPV4, IPV6, Net, Refusal};
 
 // The group of two bytes.
 fn group(a: u8, b: u8) -> u16
@@ -71,7 +71,7 @@ pub fn groups_to_network(a: [u16; 8]) -> Net
 }
 
 // The network of one address in two words.
-pub fn words_to_network(family: u8, hi: u64, lo: u64) -> Taken
+pub fn words_to_network(family: u8, hi: u64, lo: u64) -> Result<Net, Refusal>
     ensures { taken_as result ≡ judged (net_words family hi lo (width family)) }
 {
     Net::new(family, hi, lo, width(family))

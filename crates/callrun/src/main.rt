@@ -35,7 +35,7 @@ fn answer(rt: &impl Print, calls: &[u8], words: usize) -> io::Result<()>
     let mut out = [0u8; WORDS];
     let ended = run(&mut pool[..words], &mut rows, calls, &mut out);
     let mut head = [0u8; 8];
-    put_u64(&mut head, 0, 8 * ended.done + ended.why as u64);
+    put_u64(&mut head, 0, 8 * ended.done + u8::from(ended.why) as u64);
     rt.write_all(&head)?;
     let to = ended.to;
     rt.write_all(&out[..to])

@@ -10,8 +10,10 @@ use borrow.Author.Tests.{eq-eqb, ne_eqb}
 use Rattle.calls_bytes.specs.Records.{call_at}
 use Rattle.calls_bytes.specs.declared.Call.{Call}
 use Rattle.calls_kinds.specs.Kinds.{asks_of, tail_length}
-use Rattle.calls_kinds.specs.Places.{stop_at, past_of, Room}
+use Rattle.calls_kinds.specs.Places.{stop_number, stop_at, past_of, Room}
 use Rattle.calls_kinds.specs.declared.places.Place.{Place}
+use Rattle.calls_kinds.specs.declared.places.Stop.{Stop}
+use Rattle.calls_kinds.specs.declared.places.Stop.TheVariants as stop
 use Rattle.calls_kinds.proofs.Judged.{Goes, goes}
 use Rattle.calls.specs.Effects.{Fits}
 use Rattle.calls.specs.Runs.{call_bytes, Stepped, Machine, machine, stops_at, step_of, run_from, run_of, Ran}
@@ -23,7 +25,7 @@ abbrev pub standing : List ℕ → List ℕ → List ℕ → Place → Machine
 standing w v o p = machine w v o p.at p.to p.done
 
 -- the words, rows and answers of a run at its start, and as they are now
-pub record Going (w₀ v₀ b o₀ w v o : List ℕ) (p : Place) (why : ℕ) : Type 0 where
+pub record Going (w₀ v₀ b o₀ w v o : List ℕ) (p : Place) : Type 0 where
   pub within : p.at ≤ length b
   pub counted : 35 * p.done ≤ p.at
   pub room : p.to ≤ length o
@@ -32,12 +34,11 @@ pub record Going (w₀ v₀ b o₀ w v o : List ℕ) (p : Place) (why : ℕ) : T
   pub same_out : length o ≡ length o₀
   pub small : length o < 2 ^ 64
   pub short : length b < 2 ^ 64
-  pub stop : why ≡ stop_at b p.at (length v) (length o - p.to)
   pub run : run_from (length b - p.done) b (standing w v o p) ≡ run_of w₀ v₀ b o₀
 
-pub going_start : (w v b o : List ℕ) {why : ℕ} → length o < 2 ^ 64 → length b < 2 ^ 64 → why ≡ stop_at b 0 (length v) (length o) → Going w v b o w v o start why
+pub going_start : (w v b o : List ℕ) → length o < 2 ^ 64 → length b < 2 ^ 64 → Going w v b o w v o start
 unfolding run_of
-going_start w v b o h i e =
+going_start w v b o h i =
     record {
       within = omega arith;
       counted = omega arith;
@@ -47,7 +48,6 @@ going_start w v b o h i e =
       same_out = refl;
       small = h;
       short = i;
-      stop = rw (sub-zero (length o)) e;
       run = rw (sub-zero (length b));
     }
 
@@ -61,9 +61,9 @@ run-stop b m zero h = refl
 run-stop b m (suc n) h = rw (ne_eqb _ _ h)
 
 -- a turn: the call c, done, and the place q past it
-module _ {w₀ v₀ b o₀ w v o : List ℕ} {p : Place} {why : ℕ} (g : Going w₀ v₀ b o₀ w v o p why) (five : why ≡ 5) where
+module _ {w₀ v₀ b o₀ w v o : List ℕ} {p : Place} (g : Going w₀ v₀ b o₀ w v o p) (five : stop_at b p.at (length v) (length o - p.to) ≡ 5) where
   pub turn : Goes b p.at (length v) (length o - p.to)
-  turn = goes b p.at (length v) (length o - p.to) (sym g.stop ∙ five)
+  turn = goes b p.at (length v) (length o - p.to) five
 
   pub turn-room : (c : Call) → c ≡ call_at b p.at → Room p c
   turn-room c e =
@@ -93,11 +93,11 @@ module _ {w₀ v₀ b o₀ w v o : List ℕ} {p : Place} {why : ℕ} (g : Going 
         rows = omega (arith, turn.lent, ap (λ x. (asks_of x).rows) e);
       }
 
-  pub turn_on : {w' v' o' : List ℕ} (c : Call) (k : ℕ) (q : Place) {why' : ℕ} → c ≡ call_at b p.at → k ≡ 35 + c.tail → q ≡ past_of p c
+  pub turn_on : {w' v' o' : List ℕ} (c : Call) (k : ℕ) (q : Place) → c ≡ call_at b p.at → k ≡ 35 + c.tail → q ≡ past_of p c
       → Stepped w v (take k (drop p.at b)) c o p.to w' v' o' → length w' ≡ length w → length v' ≡ length v → length o' ≡ length o
-      → why' ≡ stop_at b q.at (length v') (length o' - q.to) → Going w₀ v₀ b o₀ w' v' o' q why'
+      → Going w₀ v₀ b o₀ w' v' o' q
   unfolding step_of call_bytes
-  turn_on {w'} {v'} {o'} c k q e f d s lw lv lo h =
+  turn_on {w'} {v'} {o'} c k q e f d s lw lv lo =
       let n : q ≡ past_of p (call_at b p.at) = rw e at d in
       let at : q.at ≡ p.at + 35 + (call_at b p.at).tail = ap (λ (x : Place). x.at) n in
       let to : q.to ≡ p.to + 28 + tail_length (call_at b p.at) = ap (λ (x : Place). x.to) n in
@@ -112,20 +112,26 @@ module _ {w₀ v₀ b o₀ w v o : List ℕ} {p : Place} {why : ℕ} (g : Going 
         same_out = lo ∙ g.same_out;
         small = rw lo g.small;
         short = g.short;
-        stop = h;
         run =
             rw (z.words, z.rows, z.out, n)
             (sym (run_on b (standing w v o p) (length b - p.done) (length b - (p.done + 1))
-            (omega (arith, turn.call, g.counted)) (sym g.stop ∙ five)) ∙ g.run);
+            (omega (arith, turn.call, g.counted)) five) ∙ g.run);
       }
 
 -- the end of the run
-pub ran : {w₀ v₀ b o₀ w v o : List ℕ} {p : Place} {why : ℕ} → Going w₀ v₀ b o₀ w v o p why → (why ≡ 5 → ⊥)
-    → Ran w₀ v₀ b o₀ (record { why = why; done = p.done; to = p.to }) w v o
-ran {w₀} {v₀} {b} {o₀} {w} {v} {o} {p} g h =
-    let e : standing w v o p ≡ run_of w₀ v₀ b o₀ = sym (run-stop b (standing w v o p) (length b - p.done) (λ i. h (g.stop ∙ i))) ∙ g.run in
+not_five : (s : Stop) → stop_number s ≡ 5 → ⊥
+not_five stop.Whole e = let z : ◌≡◌ {A = ℕ} 0 5 = e in omega arith
+not_five stop.Cut e = let z : ◌≡◌ {A = ℕ} 1 5 = e in omega arith
+not_five stop.Unknown e = let z : ◌≡◌ {A = ℕ} 2 5 = e in omega arith
+not_five stop.Full e = let z : ◌≡◌ {A = ℕ} 3 5 = e in omega arith
+not_five stop.Rows e = let z : ◌≡◌ {A = ℕ} 4 5 = e in omega arith
+
+pub ran : {w₀ v₀ b o₀ w v o : List ℕ} {p : Place} (s : Stop) → Going w₀ v₀ b o₀ w v o p → stop_number s ≡ stop_at b p.at (length v) (length o - p.to)
+    → Ran w₀ v₀ b o₀ (record { why = s; done = p.done; to = p.to }) w v o
+ran {w₀} {v₀} {b} {o₀} {w} {v} {o} {p} s g h =
+    let e : standing w v o p ≡ run_of w₀ v₀ b o₀ = sym (run-stop b (standing w v o p) (length b - p.done) (λ i. not_five s (h ∙ i))) ∙ g.run in
     record {
-      why = g.stop ∙ ap (stops_at b) e;
+      why = h ∙ ap (stops_at b) e;
       done = ap (λ (m : Machine). m.done) e;
       to = ap (λ (m : Machine). m.to) e;
       words = ap (λ (m : Machine). m.words) e;

@@ -10,7 +10,7 @@ use Rattle.nodes.specs.Words.{put}
 use Rattle.calls_bytes.specs.Records.{call_at, reply_bytes}
 use Rattle.calls_bytes.specs.declared.Call.{Call}
 use Rattle.calls_kinds.specs.declared.places.Place.{Place}
-use Rattle.calls_kinds.specs.Places.{stop_at, past_of}
+use Rattle.calls_kinds.specs.Places.{stop_number, stop_at, past_of}
 use Rattle.calls.specs.Effects.{Effect, effect_of}
 use Rattle.calls.specs.declared.running.Ended.{Ended}
 
@@ -57,7 +57,7 @@ unfoldable pub run_of : List ℕ → List ℕ → List ℕ → List ℕ → Mach
 run_of w v b o = run_from (length b) b (machine w v o 0 0 0)
 
 pub record Ran (w v b o : List ℕ) (r : Ended) (w' v' o' : List ℕ) : Type 0 where
-  pub why : r.why ≡ stops_at b (run_of w v b o)
+  pub why : stop_number r.why ≡ stops_at b (run_of w v b o)
   pub done : r.done ≡ (run_of w v b o).done
   pub to : r.to ≡ (run_of w v b o).to
   pub words : w' ≡ (run_of w v b o).words

@@ -13,5 +13,5 @@ pub fn marlbrace_run(pool: &mut [u32], rows: &mut [u64], calls: &[u8], out: &mut
     ensures { RunsTo pool.old rows.old calls.now out.old result pool.new rows.new out.new }
 {
     let ended = run(pool, rows, calls, out);
-    8 * ended.done + ended.why as u64
+    8 * ended.done + u8::from(ended.why) as u64
 }

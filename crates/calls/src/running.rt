@@ -6,12 +6,12 @@ ghost use Rattle.calls.specs.Runs.{Stepped, Ran};
 use crate::answering::answer;
 use calls_bytes::Call;
 use calls_bytes::records::{REPLY, call_at, put_reply};
-use calls_kinds::places::{GOES, START, past, stop_at};
+use calls_kinds::places::{START, Stop, past, stop_at};
 
 // A run that has ended: why, how many calls were done, and how many bytes their answers have.
 #[derive(Clone, Copy)]
 pub struct Ended {
-    pub why: u8,
+    pub why: Stop,
     pub done: u64,
     pub to: usize,
 }
@@ -31,19 +31,16 @@ pub fn run(pool: &mut [u32], rows: &mut [u64], calls: &[u8], out: &mut [u8]) -> 
     ensures done_in_bounds { (35 * result.done ≤ length calls.now) × (result.to ≤ length out.old) }
 {
     let mut place = START;
-    let mut why = stop_at(calls, 0, rows.len(), out.len());
-    while why == GOES {
+    'turns: loop {
         let at = place.at;
         let to = place.to;
+        if let Some(why) = stop_at(calls, at, rows.len(), out.len() - to) {
+            let done = place.done;
+            return Ended { why, done, to };
+        }
         let c = call_at(calls, at);
         place = past(place, c);
         let end = place.at;
         step(pool, rows, &calls[at..end], c, out, to);
-        why = stop_at(calls, end, rows.len(), out.len() - place.to);
-    }
-    Ended {
-        why,
-        done: place.done,
-        to: place.to,
     }
 }

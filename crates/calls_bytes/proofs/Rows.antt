@@ -1,6 +1,6 @@
 -- The loops over the tails. What is still to be written completes the whole, K: `onward` is one turn of any of them, `ended` its end; the others say how each row goes on.
 use mathlib.Core.List.{List, [], ◌∷◌, ◌++◌}
-use mathlib.Core.Path.{◌≡◌, refl, sym, ◌∙◌}
+use mathlib.Core.Path.{◌≡◌, refl, sym, ap, ◌∙◌}
 use Prim.Native.Nat.{ℕ, zero, suc, ◌+◌, ◌-◌, ◌≤◌}
 use native.Mathlib.Omega.{arith}
 use lib.ListN.{length, get_or, take, drop, replicate, length-drop}
@@ -48,11 +48,15 @@ pub row_bytes-none : (f : ℕ → List ℕ) (w : List ℕ) (p m : ℕ) → m ≡
 unfolding row_bytes
 row_bytes-none f w p m e = rw (words_from-none w p m e)
 
-pub replicate-on : (x m n : ℕ) → m ≡ suc n → replicate m x ≡ (x ∷ []) ++ replicate n x
-replicate-on x m n e = rw e
-
-pub replicate-none : (x m : ℕ) → m ≡ 0 → replicate m x ≡ []
-replicate-none x m e = rw e
+-- a fill of so many in the place of as many is one write of them
+pub filled : (w : List ℕ) (p n x : ℕ) → p + n ≤ length w → take p w ++ (replicate n x ++ drop n (drop p w)) ≡ put w p (replicate n x)
+unfolding put
+filled [] zero zero x h = refl
+filled [] zero (suc n) x h = absurd (omega arith)
+filled [] (suc p) n x h = absurd (omega arith)
+filled (y ∷ w) (suc p) n x h = ap (λ l. y ∷ l) (filled w p n x (omega arith))
+filled (y ∷ w) zero zero x h = refl
+filled (y ∷ w) zero (suc n) x h = ap (λ l. x ∷ l) (filled w zero n x (omega arith))
 
 -- a part that goes to the end
 pub rest-is : (s : List ℕ) (p : ℕ) → take (length s - p) (drop p s) ≡ drop p s

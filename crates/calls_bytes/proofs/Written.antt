@@ -1,9 +1,8 @@
 -- The bytes of a number, a network and an answer: how many there are.
-use mathlib.Core.List.{List, [], ◌∷◌, ◌++◌}
+use mathlib.Core.List.{List, ◌++◌}
 use mathlib.Core.Path.{◌≡◌, refl, ◌∙◌}
-use Prim.Native.Nat.{ℕ, zero, suc, ◌+◌, ◌≤◌}
-use native.Mathlib.Omega.{arith}
-use lib.ListN.{length, get_or}
+use Prim.Native.Nat.{ℕ, ◌+◌}
+use lib.ListN.{length}
 use Rattle.nets.specs.declared.Net.{Net}
 use Rattle.nodes.specs.Words.{put}
 use Rattle.nodes.proofs.Put.{put-behind-at}
@@ -34,9 +33,3 @@ length-reply r = refl
 -- one write behind another is one write
 pub behind : (w : List ℕ) (p q : ℕ) (xs ys : List ℕ) {v u : List ℕ} → v ≡ put w p xs → u ≡ put v q ys → q ≡ p + length xs → u ≡ put w p (xs ++ ys)
 behind w p q xs ys {v} {u} e f g = f ∙ rw e (put-behind-at w p q xs ys g)
-
--- past the end there is nothing
-pub get_d_past : (s : List ℕ) (p : ℕ) → length s ≤ p → get_or s p 0 ≡ 0
-get_d_past [] p h = refl
-get_d_past (x ∷ s) zero h = absurd (omega arith)
-get_d_past (x ∷ s) (suc p) h = get_d_past s p (omega arith)

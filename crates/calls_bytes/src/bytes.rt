@@ -6,10 +6,7 @@ ghost use Rattle.calls_bytes.specs.Bytes.{u16_at, u32_at, u64_at, u16_bytes, u32
 pub fn byte_at(s: &[u8], p: usize) -> u8
     ensures { result ≡ get_or s.now p 0 }
 {
-    if p < s.len() {
-        return s[p];
-    }
-    0
+    s.get(p).copied().unwrap_or(0)
 }
 
 pub fn u16_at(s: &[u8], p: usize) -> u16

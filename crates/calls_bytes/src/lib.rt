@@ -1,4 +1,6 @@
 // A call and its answer as bytes: docs/CALLS.md has every byte.
+#![tactic(auto)]
+
 use nets::Net;
 
 pub mod bytes;
@@ -7,7 +9,7 @@ pub mod table;
 pub mod tails;
 
 // The fixed part of a call; tail is how many bytes follow it.
-#[derive(Clone, Copy)]
+#[derive(Clone, Copy, Debug, PartialEq, Eq)]
 pub struct Call {
     pub code: u8,
     pub a: u32,
@@ -18,7 +20,7 @@ pub struct Call {
 }
 
 // The fixed part of an answer.
-#[derive(Clone, Copy)]
+#[derive(Clone, Copy, Debug, PartialEq, Eq)]
 pub struct Reply {
     pub no: u8,
     pub flag: bool,

@@ -12,6 +12,14 @@ pub const CALL: usize = 35;
 
 pub const REPLY: usize = 28;
 
+// The network of an answer that has none.
+pub const NO_NET: Net = Net {
+    family: 0,
+    hi: 0,
+    lo: 0,
+    len: 0,
+};
+
 // The network of eighteen bytes.
 fn net_at(s: &[u8], p: usize) -> Net
     requires { p + 17 < 2 ^ 64 }
@@ -55,7 +63,7 @@ fn put_net(out: &mut [u8], at: usize, net: Net)
 pub fn flag_byte(flag: bool) -> u8
     ensures { result ≡ cond flag 1 0 }
 {
-    if flag { 1 } else { 0 }
+    u8::from(flag)
 }
 
 // Writes what stands before the network of an answer.

@@ -4,19 +4,16 @@ ghost use Rattle.nodes.specs.Words.{put};
 ghost use Rattle.calls_bytes.specs.Bytes.{u32_bytes, u64_bytes};
 ghost use Rattle.calls_bytes.specs.Tails.{words_from, numbers_from, row_bytes};
 
-use crate::bytes::{put_u8, put_u32, put_u64, u32_at};
+use crate::bytes::{put_u32, put_u64, u32_at};
 
 // The word of that number, or 0 past the end.
 fn word_at(w: &[u32], i: usize) -> u32
     ensures { result ≡ get_or w.now i 0 }
 {
-    if i < w.len() {
-        return w[i];
-    }
-    0
+    w.get(i).copied().unwrap_or(0)
 }
 
-// Writes a word; past the end it is dropped.
+// Writes a word; past the end it is dropped. Not by `get_mut`: its contract on a slice leaves open what the slice is once the place is written.
 fn store_word(w: &mut [u32], i: usize, x: u32)
     ensures { w.new ≡ put w.old i (x ∷ []) }
 {
@@ -31,10 +28,8 @@ pub fn store_words(w: &mut [u32], first: usize, s: &[u8], p: usize, count: usize
     requires { (first + count < 2 ^ 63) × (p + 4 * count < 2 ^ 63) }
     ensures { w.new ≡ put w.old first (numbers_from s.now p count) }
 {
-    let mut i = 0;
-    while i < count {
+    for i in 0..count {
         store_word(w, first + i, u32_at(s, p + 4 * i));
-        i += 1;
     }
 }
 
@@ -43,10 +38,8 @@ pub fn put_words(w: &[u32], first: usize, count: usize, out: &mut [u8], at: usiz
     requires { (first + count < 2 ^ 63) × (at + 4 * count ≤ length out.old) }
     ensures { out.new ≡ put out.old at (row_bytes u32_bytes (words_from w.now first count)) }
 {
-    let mut i = 0;
-    while i < count {
+    for i in 0..count {
         put_u32(out, at + 4 * i, word_at(w, first + i));
-        i += 1;
     }
 }
 
@@ -55,10 +48,8 @@ pub fn put_rows(rows: &[u64], count: usize, out: &mut [u8], at: usize)
     requires { (count ≤ length rows.now) × (at + 8 * count ≤ length out.old) }
     ensures { out.new ≡ put out.old at (row_bytes u64_bytes (words_from rows.now 0 count)) }
 {
-    let mut i = 0;
-    while i < count {
+    for i in 0..count {
         put_u64(out, at + 8 * i, rows[i]);
-        i += 1;
     }
 }
 
@@ -67,18 +58,7 @@ pub fn fill_bytes(out: &mut [u8], at: usize, count: usize, x: u8)
     requires { at + count ≤ length out.old }
     ensures { out.new ≡ put out.old at (replicate count x) }
 {
-    let mut i = 0;
-    while i < count {
-        put_u8(out, at + i, x);
-        i += 1;
-    }
-}
-
-fn put_row(rows: &mut [u64], at: usize, x: u64)
-    requires { at < length rows.old }
-    ensures { rows.new ≡ put rows.old at (x ∷ []) }
-{
-    rows[at] = x;
+    out[at..at + count].fill(x);
 }
 
 // Fills the first so many rows.
@@ -86,9 +66,5 @@ pub fn fill_rows(rows: &mut [u64], count: usize, x: u64)
     requires { count ≤ length rows.old }
     ensures { rows.new ≡ put rows.old 0 (replicate count x) }
 {
-    let mut i = 0;
-    while i < count {
-        put_row(rows, i, x);
-        i += 1;
-    }
+    rows[..count].fill(x);
 }

@@ -9,9 +9,8 @@ use lib.ListN.{length}
 use borrow.Author.Tests.{le-leb, lt-leb, leb-true}
 use Rattle.calls_bytes.specs.Records.{call_at}
 use Rattle.calls_bytes.specs.declared.Call.{Call}
-use Rattle.calls_kinds.specs.Kinds.{asks_by, asks_of}
+use Rattle.calls_kinds.specs.Kinds.{Asked, asks_by, asks_of}
 use Rattle.calls_kinds.specs.Places.{stop_of, stop_at}
-use Rattle.calls_kinds.specs.declared.Asks.{Asks}
 use Rattle.calls_kinds.specs.declared.Kind.{Kind}
 use Rattle.calls_kinds.specs.declared.Kind.TheVariants as kind
 
@@ -32,7 +31,7 @@ asks_by-most kind.Salvage b = omega arith
 asks_by-most kind.Unknown b = omega arith
 
 -- a call by what it asks for
-module _ (c : Call) (rows room : ℕ) {r : Asks} (e : r ≡ asks_of c) where
+module _ (c : Call) (rows room : ℕ) {r : Asked} (e : r ≡ asks_of c) where
   pub stop-unknown : r.known ≡ false → 2 ≡ stop_of c rows room
   unfolding stop_of
   stop-unknown k = rw (← e, k)

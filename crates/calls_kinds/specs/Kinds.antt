@@ -2,9 +2,10 @@
 --
 --   table            the codes of docs/CALLS.md in their order, each with its kind;  codes a b K: those from a to b;  code a K: a alone
 --   kind_of k         the kind of a code; Unknown where the table doesn't have it
---   asks_of c         what a call asks for, if it is known: bytes for the tail of its answer, and rows;  asks_by K b: what one of that kind does
+--   Asked            what a call asks for, if it is known: bytes for the tail of its answer, and rows;  asked_as: that of an answer, where None is no known call
+--   asks_of c         what a call asks for;  asks_by K b: what one of that kind does
 --   tail_length c     how many bytes the tail of its answer has
-use Rattle.std.specs.Prelude.{true, false, cond, ◌&&◌, List, [], ◌∷◌, ℕ, ◌*◌, leb}
+use Rattle.std.specs.Prelude.{Bool, true, false, cond, ◌&&◌, List, [], ◌∷◌, Option, Some, None, ℕ, ◌*◌, leb}
 use Rattle.calls_bytes.specs.declared.Call.{Call}
 use Rattle.calls_kinds.specs.declared.Kind.{Kind}
 use Rattle.calls_kinds.specs.declared.Kind.TheVariants as kind
@@ -52,10 +53,19 @@ kind_in (x ∷ xs) k = cond (leb x.first k && leb k x.last) x.kind (kind_in xs k
 unfoldable pub kind_of : ℕ → Kind
 kind_of k = kind_in table k
 
-abbrev pub asks : ℕ → ℕ → Asks
+pub record Asked : Type 0 where
+  pub known : Bool
+  pub bytes : ℕ
+  pub rows : ℕ
+
+abbrev pub asked_as : Option Asks → Asked
+asked_as None = record { known = false; bytes = 0; rows = 0 }
+asked_as (Some a) = record { known = true; bytes = a.bytes; rows = a.rows }
+
+abbrev pub asks : ℕ → ℕ → Asked
 asks bytes rows = record { known = true; bytes = bytes; rows = rows }
 
-abbrev pub asks_by : Kind → ℕ → Asks
+abbrev pub asks_by : Kind → ℕ → Asked
 asks_by kind.Layout b = asks 0 0
 asks_by kind.Report b = asks 0 0
 asks_by kind.Change b = asks 0 0
@@ -71,7 +81,7 @@ asks_by kind.ReadWords b = asks (4 * b) 0
 asks_by kind.Salvage b = asks b 0
 asks_by kind.Unknown b = record { known = false; bytes = 0; rows = 0 }
 
-abbrev pub asks_of : Call → Asks
+abbrev pub asks_of : Call → Asked
 asks_of c = asks_by (kind_of c.code) c.b
 
 abbrev pub tail_length : Call → ℕ

@@ -1,13 +1,13 @@
 // The kinds of calls: which code is of which kind, and what a call of a kind asks for. All else goes by the kind.
 ghost use Rattle.std.specs.Prelude.{◌≡◌, ◌≤◌};
-ghost use Rattle.calls_kinds.specs.Kinds.{kind_of, asks, asks_by, asks_of};
+ghost use Rattle.calls_kinds.specs.Kinds.{kind_of, asked_as, asks, asks_by, asks_of, tail_length};
 
 use calls_bytes::{Call, table};
 
 pub mod places;
 
 // Each kind is answered by one function: that of a group of calls, or of a call by itself.
-#[derive(Clone, Copy)]
+#[derive(Clone, Copy, Debug, PartialEq, Eq)]
 pub enum Kind {
     Layout,
     Report,
@@ -26,9 +26,8 @@ pub enum Kind {
 }
 
 // What a call asks for: bytes for the tail of its answer, and rows.
-#[derive(Clone, Copy)]
+#[derive(Clone, Copy, Debug, PartialEq, Eq)]
 pub struct Asks {
-    pub known: bool,
     pub bytes: usize,
     pub rows: usize,
 }
@@ -62,44 +61,29 @@ pub fn kind_of(code: u8) -> Kind
     }
 }
 
-// A call that asks for nothing, and what is no call.
-const NOTHING: Asks = Asks {
-    known: true,
-    bytes: 0,
-    rows: 0,
-};
-
-const NO_CALL: Asks = Asks {
-    known: false,
-    bytes: 0,
-    rows: 0,
-};
+// A call that asks for nothing.
+const NOTHING: Option<Asks> = Some(Asks { bytes: 0, rows: 0 });
 
 // So many bytes for a tail, and no rows.
-fn tail_of(bytes: usize) -> Asks
-    ensures { result ≡ asks bytes 0 }
+fn tail_of(bytes: usize) -> Option<Asks>
+    ensures { asked_as result ≡ asks bytes 0 }
 {
-    Asks {
-        known: true,
-        bytes,
-        rows: 0,
-    }
+    Some(Asks { bytes, rows: 0 })
 }
 
-// What a call of a kind asks for, by its b.
-fn asks_by(kind: Kind, b: usize) -> Asks
+// What a call of a kind asks for, by its b; None for what is no call.
+fn asks_by(kind: Kind, b: usize) -> Option<Asks>
     requires { b ≤ 4294967295 }
-    ensures { result ≡ asks_by kind b }
+    ensures { asked_as result ≡ asks_by kind b }
 {
     match kind {
         Kind::Layout => NOTHING,
         Kind::Report => NOTHING,
         Kind::Change => NOTHING,
-        Kind::List => Asks {
-            known: true,
+        Kind::List => Some(Asks {
             bytes: 8 * b,
             rows: b,
-        },
+        }),
         Kind::Network => NOTHING,
         Kind::WriteLine => tail_of(b),
         Kind::Save => tail_of(b),
@@ -109,14 +93,24 @@ fn asks_by(kind: Kind, b: usize) -> Asks
         Kind::WriteWords => NOTHING,
         Kind::ReadWords => tail_of(4 * b),
         Kind::Salvage => tail_of(b),
-        Kind::Unknown => NO_CALL,
+        Kind::Unknown => None,
     }
 }
 
-// What a call asks for.
-pub fn asks_of(c: Call) -> Asks
-    ensures value { result ≡ asks_of c }
-    ensures bytes_bound { result.bytes ≤ 34359738368 }
+// What a call asks for; None for what is no call.
+pub fn asks_of(c: Call) -> Option<Asks>
+    ensures value { asked_as result ≡ asks_of c }
+    ensures bytes_bound { (asked_as result).bytes ≤ 34359738368 }
 {
     asks_by(kind_of(c.code), c.b as usize)
+}
+
+// How many bytes the tail of its answer has.
+pub fn tail_length(c: Call) -> usize
+    ensures { result ≡ tail_length c }
+{
+    match asks_of(c) {
+        Some(asks) => asks.bytes,
+        None => 0,
+    }
 }

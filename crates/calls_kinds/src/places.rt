@@ -1,23 +1,35 @@
 // Where a run stands: whether the call there is done, and where the next one begins.
 ghost use Rattle.std.specs.Prelude.{◌≡◌, ◌≤◌, length};
-ghost use Rattle.calls_kinds.specs.Places.{stop_of, stop_at, past_of, Room};
+ghost use Rattle.calls_kinds.specs.Places.{stop_number, stop_as, stop_of, stop_at, past_of, Room};
 
-use crate::asks_of;
+use crate::{asks_of, tail_length};
 use calls_bytes::Call;
 use calls_bytes::records::{CALL, REPLY, call_at};
 
-// Why a run ends, or that it goes on.
-const WHOLE: u8 = 0;
+// Why a run ends.
+#[derive(Clone, Copy, Debug, PartialEq, Eq)]
+pub enum Stop {
+    Whole,
+    Cut,
+    Unknown,
+    Full,
+    Rows,
+}
 
-const CUT: u8 = 1;
+// The number of docs/CALLS.md.
+impl From<Stop> for u8 {
+    ghost from_gives = { λ stop n. n ≡ stop_number stop };
 
-const UNKNOWN: u8 = 2;
-
-const FULL: u8 = 3;
-
-const ROWS: u8 = 4;
-
-pub const GOES: u8 = 5;
+    fn from(stop: Stop) -> u8 {
+        match stop {
+            Stop::Whole => 0,
+            Stop::Cut => 1,
+            Stop::Unknown => 2,
+            Stop::Full => 3,
+            Stop::Rows => 4,
+        }
+    }
+}
 
 // The next call begins at `at`, its answer at `to`, and so many calls are done.
 #[derive(Clone, Copy)]
@@ -33,38 +45,37 @@ pub const START: Place = Place {
     done: 0,
 };
 
-// Why a call is not done, where so many rows are lent and so many bytes are left for answers.
-fn stop_of(c: Call, rows: usize, room: usize) -> u8
-    ensures { result ≡ stop_of c rows room }
+// Why a call is not done, where so many rows are lent and so many bytes are left for answers; None where it is done.
+fn stop_of(c: Call, rows: usize, room: usize) -> Option<Stop>
+    ensures { stop_as result ≡ stop_of c rows room }
 {
-    let asks = asks_of(c);
-    if !asks.known {
-        return UNKNOWN;
-    }
+    let Some(asks) = asks_of(c) else {
+        return Some(Stop::Unknown);
+    };
     if room < REPLY + asks.bytes {
-        return FULL;
+        return Some(Stop::Full);
     }
     if rows < asks.rows {
-        return ROWS;
+        return Some(Stop::Rows);
     }
-    GOES
+    None
 }
 
-// Why a run ends here, or that it goes on.
-pub fn stop_at(calls: &[u8], at: usize, rows: usize, room: usize) -> u8
+// Why a run ends here, or None where it goes on.
+pub fn stop_at(calls: &[u8], at: usize, rows: usize, room: usize) -> Option<Stop>
     requires { at ≤ length calls.now }
-    ensures { result ≡ stop_at calls.now at rows room }
+    ensures { stop_as result ≡ stop_at calls.now at rows room }
 {
     let left = calls.len() - at;
     if left == 0 {
-        return WHOLE;
+        return Some(Stop::Whole);
     }
     if left < CALL {
-        return CUT;
+        return Some(Stop::Cut);
     }
     let c = call_at(calls, at);
     if left - CALL < c.tail as usize {
-        return CUT;
+        return Some(Stop::Cut);
     }
     stop_of(c, rows, room)
 }
@@ -76,7 +87,7 @@ pub fn past(p: Place, c: Call) -> Place
 {
     Place {
         at: p.at + CALL + c.tail as usize,
-        to: p.to + REPLY + asks_of(c).bytes,
+        to: p.to + REPLY + tail_length(c),
         done: p.done + 1,
     }
 }

@@ -1,30 +1,32 @@
 // An answer in one number, for the calls that are exported each for itself, and the numbers of its network in a row of three.
+#![tactic(auto)]
+
 ghost use Rattle.std.specs.Prelude.{◌≡◌, ◌≤◌};
 ghost use Rattle.calls_packed.specs.Packed.{bit, packed, row_after, first_of, second_of, line_reply};
 
 use calls_bytes::Reply;
-use nets::Net;
+use calls_bytes::records::NO_NET;
 
-const NO_NET: Net = Net {
-    family: 0,
-    hi: 0,
-    lo: 0,
-    len: 0,
-};
+// What the flag, the report, and the number of a refusal count for in it.
+const YES: u64 = 281474976710656;
+
+const CUT: u64 = 562949953421312;
+
+const REFUSED: u64 = 4294967296;
 
 fn one_if(flag: bool) -> u64
     ensures value { result ≡ bit flag }
     ensures upper_bound { result ≤ 1 }
 {
-    if flag { 1 } else { 0 }
+    u64::from(flag)
 }
 
 // The value in the low 32 bits, the refusal's number above it, then the flag and the report, a bit each.
 pub fn packed(r: Reply) -> u64
     ensures { result ≡ packed r }
 {
-    let low = r.x as u64 + 4294967296 * (r.no as u64);
-    low + 281474976710656 * one_if(r.flag) + 562949953421312 * one_if(r.y != 0)
+    let low = r.x as u64 + REFUSED * (r.no as u64);
+    low + YES * one_if(r.flag) + CUT * one_if(r.y != 0)
 }
 
 // The network of an answer that has one: high word, low word, length.
@@ -41,11 +43,10 @@ pub fn first_of(r: Reply) -> Reply
     ensures { result ≡ first_of r }
 {
     Reply {
-        no: r.no,
         flag: false,
-        x: r.x,
         y: 0,
         net: NO_NET,
+        ..r
     }
 }
 
@@ -54,11 +55,8 @@ pub fn second_of(r: Reply) -> Reply
     ensures { result ≡ second_of r }
 {
     Reply {
-        no: r.no,
-        flag: false,
         x: r.y,
-        y: 0,
-        net: NO_NET,
+        ..first_of(r)
     }
 }
 
@@ -66,12 +64,9 @@ pub fn second_of(r: Reply) -> Reply
 pub fn of_line(r: Reply) -> Reply
     ensures { result ≡ line_reply r }
 {
-    let net = r.net;
     Reply {
-        no: r.no,
         flag: r.no == 0,
-        x: net.family as u32,
-        y: r.y,
-        net,
+        x: r.net.family as u32,
+        ..r
     }
 }

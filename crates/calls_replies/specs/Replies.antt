@@ -11,7 +11,7 @@
 --   told_reply           the answers by a flag;  entry_reply: one number, and an entry of a page
 --   changed w k rs f    a changing call on set k: its answer, and the words that it leaves;  relisted w k a f: one that gives it a list
 --   reporting n w k rs f     a changing call that takes the network n in: with the report, where it is granted;  relisted_by n w k f: one that gives set k a list
-use Rattle.std.specs.Prelude.{Bool, false, cond, ◌&&◌, ◌||◌, List, ℕ, ◌+◌, ◌*◌, eqb}
+use Rattle.std.specs.Prelude.{Bool, false, cond, ◌&&◌, ◌||◌, List, ℕ, ◌+◌, ◌*◌, eqb, Result}
 use Rattle.nets.specs.Bits.{Bits}
 use Rattle.nets.specs.Networks.{net_words, no_net, has_bit_past}
 use Rattle.nets.specs.Refusals.{Rule}
@@ -21,10 +21,10 @@ use Rattle.pool_state.specs.States.{SetState, State}
 use Rattle.pool_state.specs.Decode.{decode}
 use Rattle.pool_state.specs.Rules.{told_as}
 use Rattle.pool_state.specs.Changes.{change_rule, words_after, relist_rules, relist_set, net_rules}
-use Rattle.pool_state.specs.declared.Told.{Told}
 use Rattle.lookup.specs.Rules.{Sought, Held}
 use Rattle.salvage.specs.declared.Counts.{Counts}
 use Rattle.calls_bytes.specs.declared.Reply.{Reply}
+use Rattle.nets.specs.declared.Refusal.{Refusal}
 
 abbrev pub reply : ℕ → Bool → ℕ → ℕ → Net → Reply
 reply k flag x y net = record { no = k; flag = flag; x = x; y = y; net = net }
@@ -81,7 +81,7 @@ compared_reply a = reply a.0 (eqb a.1.0 1 || eqb a.1.0 2) a.1.0 0 a.1.1
 abbrev pub salvage_reply : ℕ × Counts → Reply
 salvage_reply a = reply a.0 false a.1.bytes a.1.read (net_words 0 a.1.trimmed (4294967296 * a.1.long + a.1.covered) 0)
 
-abbrev pub told_reply : Told → Reply
+abbrev pub told_reply : Result Bool Refusal → Reply
 told_reply t = flag_reply (told_as t)
 
 unfoldable pub changed : List ℕ → ℕ → (State → List Rule) → (State → SetState) → Reply × List ℕ

@@ -6,17 +6,17 @@ use calls_bytes::{Call, Reply, table};
 use calls_replies::{
     of_answer, of_contained, of_covering, of_entry, of_follower, of_report, of_told,
 };
-use listing::From;
+use nets::Net;
 
 // From the start, or behind the network.
-fn from_of(c: Call) -> From
+fn from_of(c: Call) -> Option<Net>
     ensures { result ≡ from_of c }
 {
     if c.b == 0 {
-        return From::Start;
+        return None;
     }
     let net = c.net;
-    From::Past(net)
+    Some(net)
 }
 
 // Entry b mod 16 of a set's page.

@@ -16,7 +16,6 @@ use Rattle.nodes.specs.Words.{put}
 use Rattle.nodes.proofs.Put.{length-put}
 use Rattle.pool_state.specs.Decode.{Decoded, decode}
 use Rattle.pool_state.specs.Rules.{answer_as}
-use Rattle.pool_state.specs.declared.Answer.{Answer}
 use Rattle.pool_state.specs.Changes.{list_at}
 use Rattle.trie_paths.specs.Rows as listing
 use Rattle.trie_paths.proofs.RowForm.{put-over}
@@ -26,13 +25,11 @@ use Rattle.rangelist.specs.Calls as ranges
 use Rattle.listing.specs.Calls.{list_rules, rows_after, Listed}
 use Rattle.setfile.specs.Calls.{file_at, save_rules, bytes_after, Saved}
 use Rattle.salvage.specs.Calls.{saved_of, salvage_rules, salvaged_as, salvage_left, Salvages}
-use Rattle.salvage.specs.declared.Salvaged.{Salvaged}
 use Rattle.nets.specs.Refusals.{first_no}
 use Rattle.nets.proofs.Strings.{cond_both}
 use Rattle.text.specs.Answers.{none_written, written_as, over_bytes}
 use Rattle.text_either.specs.Either.{line_either, either_refusal, WroteEither}
 use Rattle.text_either.proofs.RoundTrip.{either_refusal-zero}
-use Rattle.text.specs.declared.Written.{Written}
 use Rattle.calls_bytes.specs.Bytes.{u64_bytes}
 use Rattle.calls_bytes.specs.Tails.{words_from, row_bytes}
 use Rattle.calls_bytes.specs.declared.Call.{Call}
@@ -40,6 +37,9 @@ use Rattle.calls_bytes.specs.declared.Reply.{Reply}
 use Rattle.calls_bytes.proofs.Rows.{take_put}
 use Rattle.calls_replies.specs.Replies.{one_reply, write_reply, salvage_reply}
 use Rattle.calls_tailed.specs.Tailed.{lent_rows, asks_ranges, rows_of, list_reply, lent_bytes, line_bytes, line_reply, save_bytes, save_reply, mend_bytes, mend_reply, RowsBy, Listing, Lining, Saving, Mending}
+use Rattle.std.specs.Prelude.{Result}
+use Rattle.nets.specs.declared.Refusal.{Refusal}
+use Rattle.salvage.specs.declared.Counts.{Counts}
 
 pub splice : (w : List ℕ) (p k : ℕ) (ys : List ℕ) → length ys ≡ k → p + k ≤ length w → take p w ++ (ys ++ drop k (drop p w)) ≡ put w p ys
 unfolding put
@@ -72,7 +72,7 @@ length-rows_by v d k true = left_on-either (λ u. length u ≡ length v) (ranges
 length-rows_by v d k false = left_on-either (λ u. length u ≡ length v) (list_rules k (length v)) v _ d refl (λ S. length-put v 0 (listing.rows_of S.family (list_at S k)))
 
 -- a call by its code
-module _ {w : List ℕ} {c : Call} {v u : List ℕ} {a : Answer} where
+module _ {w : List ℕ} {c : Call} {v u : List ℕ} {a : (Result ℕ Refusal)} where
   pub by-ranges : c.code ≡ 28 → ranges.Ranges w c.a v a u → RowsBy w c v a u
   by-ranges e h = let q = eq-eqb c.code 28 e in record { answer = rw q h.answer; rows = rw q h.rows }
 
@@ -81,7 +81,7 @@ module _ {w : List ℕ} {c : Call} {v u : List ℕ} {a : Answer} where
 
 -- the rows of a list, or of ranges
 module _ (w v : List ℕ) (c : Call) (o : List ℕ) (at : ℕ) (fits : c.b ≤ length v) where
-  pub listing-is : {v₁ u o' : List ℕ} {a : Answer} {r : Reply} → v₁ ≡ put v 0 (lent_rows c) → RowsBy w c (take c.b v₁) a u
+  pub listing-is : {v₁ u o' : List ℕ} {a : (Result ℕ Refusal)} {r : Reply} → v₁ ≡ put v 0 (lent_rows c) → RowsBy w c (take c.b v₁) a u
       → o' ≡ put o at (row_bytes u64_bytes (words_from (u ++ drop c.b v₁) 0 c.b)) → r ≡ one_reply (answer_as a) → Listing w v c o at r (u ++ drop c.b v₁) o'
   unfolding rows_of list_reply
   listing-is {v₁} {u} e l f g =
@@ -110,20 +110,20 @@ module _ (c : Call) (o o₁ : List ℕ) (at k : ℕ) (fits : at + c.b ≤ length
       let j : length o₁ ≡ length o = rw filled (length-put o at (lent_bytes c)) in
       splice o₁ at k new l (omega arith) ∙ rw filled (put-over o at (lent_bytes c) new (length-lent ∙ (sym all ∙ sym l)))
 
-  pub lining-is : {new : List ℕ} {a : Written} {r : Reply} → length new ≡ length (take k (drop at o₁)) → WroteEither c.net (take k (drop at o₁)) new a → r ≡ write_reply (written_as a)
+  pub lining-is : {new : List ℕ} {a : (Result (ℕ × Bool) Refusal)} {r : Reply} → length new ≡ length (take k (drop at o₁)) → WroteEither c.net (take k (drop at o₁)) new a → r ≡ write_reply (written_as a)
       → Lining c o at r (take at o₁ ++ (new ++ drop k (drop at o₁)))
   unfolding line_bytes line_reply
   lining-is {new} {a} m w g =
       let e : written_as a ≡ answered (either_refusal c.net c.b) none_written (length (line_either c.net), has_bit_past c.net) = w.answer ∙ rw (lent_is, length-lent) in
       record { reply = g ∙ ap write_reply e; tail = back_is new m ∙ ap (put o at) (w.bytes ∙ rw (lent_is, length-lent)) }
 
-  pub saving-is : {w new : List ℕ} {a : Answer} {r : Reply} → length new ≡ length (take k (drop at o₁)) → Saved w c.a (take k (drop at o₁)) a new → r ≡ one_reply (answer_as a)
+  pub saving-is : {w new : List ℕ} {a : (Result ℕ Refusal)} {r : Reply} → length new ≡ length (take k (drop at o₁)) → Saved w c.a (take k (drop at o₁)) a new → r ≡ one_reply (answer_as a)
       → Saving w c o at r (take at o₁ ++ (new ++ drop k (drop at o₁)))
   unfolding save_bytes save_reply
   saving-is {new = new} m s g =
       record { reply = g ∙ ap one_reply (s.answer ∙ rw (lent_is, length-lent)); tail = back_is new m ∙ ap (put o at) (s.bytes ∙ rw lent_is) }
 
-  pub mending-is : (s : List ℕ) {new : List ℕ} {a : Salvaged} {r : Reply} → length new ≡ length (take k (drop at o₁)) → Salvages (take (length s - 35) (drop 35 s)) (take k (drop at o₁)) a new → r ≡ salvage_reply (salvaged_as a)
+  pub mending-is : (s : List ℕ) {new : List ℕ} {a : (Result Counts Refusal)} {r : Reply} → length new ≡ length (take k (drop at o₁)) → Salvages (take (length s - 35) (drop 35 s)) (take k (drop at o₁)) a new → r ≡ salvage_reply (salvaged_as a)
       → Mending c s o at r (take at o₁ ++ (new ++ drop k (drop at o₁)))
   unfolding mend_bytes mend_reply
   mending-is s {new} m i g =

@@ -2,13 +2,12 @@
 --
 --   rows_of w c, line_bytes c, save_bytes w c, mend_bytes c s     the lent rows, or bytes, as the call leaves them; list_reply, line_reply, save_reply, mend_reply: its answer
 --   RowsBy, Listing, Lining, Saving, Mending    what the functions leave: the answer, and the tail at its place
-use Rattle.std.specs.Prelude.{Bool, cond, List, ◌≡◌, ℕ, ◌%◌, eqb, length, drop, replicate}
+use Rattle.std.specs.Prelude.{Bool, cond, List, ◌≡◌, ℕ, ◌%◌, eqb, length, drop, replicate, Result}
 use Rattle.nets.specs.Networks.{has_bit_past}
 use Rattle.nets.specs.Refusals.{answered}
 use Rattle.nodes.specs.Words.{put}
 use Rattle.pool_state.specs.Decode.{decode}
 use Rattle.pool_state.specs.Rules.{answer_as}
-use Rattle.pool_state.specs.declared.Answer.{Answer}
 use Rattle.listing.specs.Calls.{list_rule, rows_after}
 use Rattle.rangelist.specs.Calls as ranges
 use Rattle.setfile.specs.Calls.{save_rule, bytes_after}
@@ -20,6 +19,7 @@ use Rattle.calls_bytes.specs.Tails.{row_bytes}
 use Rattle.calls_bytes.specs.declared.Call.{Call}
 use Rattle.calls_bytes.specs.declared.Reply.{Reply}
 use Rattle.calls_replies.specs.Replies.{one_reply, write_reply, salvage_reply}
+use Rattle.nets.specs.declared.Refusal.{Refusal}
 
 -- the rows that are lent; networks or ranges, by the code
 abbrev pub lent_rows : Call → List ℕ
@@ -58,7 +58,7 @@ unfoldable pub mend_reply : Call → List ℕ → Reply
 mend_reply c s = salvage_reply (salvage_rule (drop 35 s) c.b)
 
 -- the rows v, lent for such a call, are u afterwards, and a is the answer
-pub record RowsBy (w : List ℕ) (c : Call) (v : List ℕ) (a : Answer) (u : List ℕ) : Type 0 where
+pub record RowsBy (w : List ℕ) (c : Call) (v : List ℕ) (a : Result ℕ Refusal) (u : List ℕ) : Type 0 where
   pub answer : answer_as a ≡ cond (asks_ranges c) (ranges.ranges_rule (decode w) c.a (length v)) (list_rule (decode w) c.a (length v))
   pub rows : u ≡ cond (asks_ranges c) (ranges.rows_after v (decode w) c.a) (rows_after v (decode w) c.a)
 

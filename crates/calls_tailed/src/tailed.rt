@@ -10,10 +10,10 @@ use calls_bytes::records::CALL;
 use calls_bytes::tails::{fill_bytes, fill_rows, put_rows, put_words};
 use calls_bytes::{Call, Reply, table};
 use calls_replies::{of_answer, of_salvaged, of_written, only};
-use pool_state::Answer;
+use nets::Refusal;
 
 // The networks of a set or its ranges, by the code, into rows that are lent for it.
-fn rows_by(pool: &[u32], c: Call, rows: &mut [u64]) -> Answer
+fn rows_by(pool: &[u32], c: Call, rows: &mut [u64]) -> Result<u32, Refusal>
     ensures { RowsBy pool.now c rows.old result rows.new }
 {
     if c.code == table::RANGES {

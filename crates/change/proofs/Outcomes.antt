@@ -10,15 +10,16 @@ use Rattle.pool_state.proofs.Decoded.{decode-state}
 use Rattle.pool_state.proofs.Leaves.{RelistLeaves, relist-leaves}
 use Rattle.change_ask.specs.Calls.{list_with, list_without, Added, Removed}
 use Rattle.change.specs.Calls.{noted_as, Reports}
-use Rattle.change.specs.declared.Noted.{Noted}
 use Rattle.change_edit.proofs.Lists.{add-list, remove-list}
 use Rattle.change.proofs.Reported.{reports-one}
+use Rattle.std.specs.Prelude.{Result, Bool}
+use Rattle.nets.specs.declared.Refusal.{Refusal}
 
 -- One outcome.
-pub add-one : {w v u : List ℕ} {k : ℕ} {r x : Noted} (n : Net) → Reports n (Added w k n) (noted_as r) v → Reports n (Added w k n) (noted_as x) u → (r ≡ x) × (v ≡ u)
+pub add-one : {w v u : List ℕ} {k : ℕ} {r x : (Result (ℕ × Bool) Refusal)} (n : Net) → Reports n (Added w k n) (noted_as r) v → Reports n (Added w k n) (noted_as x) u → (r ≡ x) × (v ≡ u)
 add-one n h g = reports-one h g
 
-pub remove-one : {w v u : List ℕ} {k : ℕ} {r x : Noted} (n : Net) → Reports n (Removed w k n) (noted_as r) v → Reports n (Removed w k n) (noted_as x) u → (r ≡ x) × (v ≡ u)
+pub remove-one : {w v u : List ℕ} {k : ℕ} {r x : (Result (ℕ × Bool) Refusal)} (n : Net) → Reports n (Removed w k n) (noted_as r) v → Reports n (Removed w k n) (noted_as x) u → (r ≡ x) × (v ≡ u)
 remove-one n h g = reports-one h g
 
 -- What is left of a sound pool.

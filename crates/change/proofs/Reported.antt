@@ -14,8 +14,7 @@ use Rattle.pool_state.specs.States.{SetState, State}
 use Rattle.pool_state.specs.Changes.{Changed}
 use Rattle.pool_state.proofs.Determined.{changed-same}
 use Rattle.change.specs.Calls.{noted_as, Reports}
-use Rattle.change.specs.declared.Noted.{Noted}
-use Rattle.change.specs.declared.Noted.TheVariants as noted
+use Rattle.std.specs.Prelude.{Result, Ok, Err}
 
 module _ {n : Net} {C : ℕ × ℕ → List ℕ → Type 0} {v : List ℕ} where
   -- the returns
@@ -34,11 +33,11 @@ module _ {n : Net} {C : ℕ × ℕ → List ℕ → Type 0} {v : List ℕ} where
     granted-reports z = h.report ∙ rw z
 
 -- One answer.
-pub noted_as-one : (r s : Noted) → noted_as r ≡ noted_as s → r ≡ s
-noted_as-one (noted.Granted a b) (noted.Granted c d) e = let p : a ≡ c = ap (λ x. x.1.0) e in let q : b ≡ d = ap (λ x. x.1.1) e in cc
-noted_as-one (noted.Granted a b) (noted.Refused y) e = absurd (number-some y (sym (ap (λ p. p.0) e)))
-noted_as-one (noted.Refused x) (noted.Granted c d) e = absurd (number-some x (ap (λ p. p.0) e))
-noted_as-one (noted.Refused x) (noted.Refused y) e = ap noted.Refused (number-one x y (ap (λ p. p.0) e))
+pub noted_as-one : (r s : Result (ℕ × Bool) Refusal) → noted_as r ≡ noted_as s → r ≡ s
+noted_as-one (Ok (a, b)) (Ok (c, d)) e = let p : a ≡ c = ap (λ x. x.1.0) e in let q : b ≡ d = ap (λ x. x.1.1) e in cc
+noted_as-one (Ok (a, b)) (Err y) e = absurd (number-some y (sym (ap (λ p. p.0) e)))
+noted_as-one (Err x) (Ok (c, d)) e = absurd (number-some x (ap (λ p. p.0) e))
+noted_as-one (Err x) (Err y) e = ap Err (number-one x y (ap (λ p. p.0) e))
 
 -- two answers with one number and one count have one report
 reported-same : (t : Bool) (p q : ℕ × (ℕ × Bool)) → ◌≡◌ {A = ℕ × ℕ} (p.0, p.1.0) (q.0, q.1.0) → p.1.1 ≡ (eqb p.0 0 && t) → q.1.1 ≡ (eqb q.0 0 && t) → p ≡ q
@@ -48,5 +47,5 @@ module _ {n : Net} {w v u : List ℕ} {k : ℕ} {rs : State → List Rule} {f : 
   pub reports-same : {p q : ℕ × (ℕ × Bool)} → Reports n (Changed w k rs f) p v → Reports n (Changed w k rs f) q u → (p ≡ q) × (v ≡ u)
   reports-same {p} {q} h g = let x = changed-same h.changed g.changed in (reported-same (has_bit_past n) p q x.0 h.report g.report, x.1)
 
-  pub reports-one : {r s : Noted} → Reports n (Changed w k rs f) (noted_as r) v → Reports n (Changed w k rs f) (noted_as s) u → (r ≡ s) × (v ≡ u)
+  pub reports-one : {r s : (Result (ℕ × Bool) Refusal)} → Reports n (Changed w k rs f) (noted_as r) v → Reports n (Changed w k rs f) (noted_as s) u → (r ≡ s) × (v ≡ u)
   reports-one {r} {s} h g = let x = reports-same h g in (noted_as-one r s x.0, x.1)

@@ -4,21 +4,15 @@ ghost use Rattle.pool_state.specs.Rules.{share_in};
 ghost use Rattle.pool_state.specs.Steps.{Surveyed, survey_with};
 ghost use Rattle.change_add.specs.Steps.{Admits, Grows};
 
-use change_ask::{Asked, ask_found};
+use change_ask::ask_found;
 use change_edit::{edit, size_with};
 use inner_nets::walks::is_clear;
 use nets::{Net, PrefixBits, Refusal};
 use pool_change::judging::{is_public, judge};
 use pool_change::relinking::granted;
+use pool_header::FAMILY;
 use pool_sets::claims::claim_at;
-use pool_state::{Survey, Verdict};
-
-// The network is added, with what a pass over the pool finds now; or it is refused, and nothing changed.
-#[derive(Clone, Copy)]
-pub enum Grown {
-    Grew(Survey),
-    Refused(Refusal),
-}
+use pool_state::Survey;
 
 // What a pass over the pool finds once the surveyed set has n nodes.
 fn survey_with(pool: &[u32], set: u32, found: Survey, n: u32) -> Survey
@@ -29,7 +23,6 @@ fn survey_with(pool: &[u32], set: u32, found: Survey, n: u32) -> Survey
     let old = claim_at(pool, s, found.held);
     let new = claim_at(pool, s, n);
     Survey {
-        sound: true,
         used: found.used - found.held + n,
         claimed: found.claimed - old + new,
         at: found.at,
@@ -45,30 +38,20 @@ fn is_admitted(pool: &[u32], set: u32, found: Survey, s: PrefixBits) -> bool
     if !is_public(pool, set, found) {
         return true;
     }
-    is_clear(s, pool[1])
+    is_clear(s, pool[FAMILY])
 }
 
 // Adds a network to the surveyed set. Nothing is read but the network's path, the words of the header and the records.
-pub fn add_found(pool: &mut [u32], set: u32, found: Survey, net: Net) -> Grown
+pub fn add_found(pool: &mut [u32], set: u32, found: Survey, net: Net) -> Result<Survey, Refusal>
     requires { Surveyed pool.old set found }
     ensures { Grows pool.old set net result pool.new }
 {
-    let asked = ask_found(pool, set, found, net);
-    match asked {
-        Asked::Refused(no) => Grown::Refused(no),
-        Asked::Go(v, s) => {
-            let clear = is_admitted(pool, set, v, s);
-            let n = size_with(pool, v, s, net, true);
-            let verdict = judge(pool, set, v, clear, n);
-            match verdict {
-                Verdict::No(no) => Grown::Refused(no),
-                Verdict::Fits => {
-                    let then = survey_with(pool, set, v, n);
-                    edit(pool, v, s, net, true);
-                    granted(pool, set, v, n);
-                    Grown::Grew(then)
-                }
-            }
-        }
-    }
+    let (v, s) = ask_found(pool, set, found, net)?;
+    let clear = is_admitted(pool, set, v, s);
+    let n = size_with(pool, v, s, net, true);
+    judge(pool, set, v, clear, n)?;
+    let then = survey_with(pool, set, v, n);
+    edit(pool, v, s, net, true);
+    let _ = granted(pool, set, v, n);
+    Ok(then)
 }

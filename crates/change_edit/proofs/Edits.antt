@@ -15,8 +15,6 @@ use Rattle.nets.specs.Tries.{Trie, size, list_of}
 use Rattle.nets.specs.declared.Net.{Net}
 use Rattle.nets.specs.declared.PrefixBits.{PrefixBits}
 use Rattle.nets.specs.declared.Refusal.{Refusal}
-use Rattle.nets.specs.declared.Entered.{Entered}
-use Rattle.nets.specs.declared.Entered.TheVariants as entering
 use Rattle.nets.proofs.Answers.{number-some, answered-granted}
 use Rattle.nets.proofs.Adding.{list_of-insert}
 use Rattle.nets.proofs.Removing.{list_of-remove}
@@ -54,6 +52,7 @@ use Rattle.change_ask.proofs.Listed.{enc_in-is}
 use Rattle.change_ask.specs.Steps.{Ready}
 use Rattle.change_edit.specs.Steps.{list_by, Counts, Edits, Edited}
 use Rattle.kept_change.proofs.Whole.{made-le}
+use Rattle.std.specs.Prelude.{Result, Ok, Err}
 
 -- a network that is right is one of the pool's family
 right-net : (n : Net) (S : State) → first_no (net_rules n S) ≡ 0 → (n.family ≡ S.family) × (refusal_of n ≡ 0)
@@ -198,10 +197,10 @@ module _ {w : List ℕ} {k : ℕ} {n : Net} {v : Survey} {s : PrefixBits} (h : R
           (rw q at y.wrote) ∙ ap (λ p. put w p (kept_enc (get_or w 1 0) [] made ++ behind S k)) (sym (kept-spot g F v.at)) ∙ ap (with_words w S k v) a ∙ sym words_are
 
 -- The network with the bits past its length cleared.
-pub entered-network : (n : Net) (r : Entered) → entered_as r ≡ entered n → (m : Net) (b : Bool) → r ≡ entering.Network m b → m ≡ cleared n
+pub entered-network : (n : Net) (r : Result (Net × Bool) Refusal) → entered_as r ≡ entered n → (m : Net) (b : Bool) → r ≡ Ok (m, b) → m ≡ cleared n
 entered-network n r e m b q = ap (λ p. p.0) (answered-granted (refusal_of n) no_entry (cleared n, has_bit_past n) (m, b) (sym (ap entered_as q) ∙ e)).1
 
-pub entered-refused : (n : Net) → refusal_of n ≡ 0 → (r : Entered) → entered_as r ≡ entered n → (x : Refusal) → r ≡ entering.Refused x → ⊥
+pub entered-refused : (n : Net) → refusal_of n ≡ 0 → (r : Result (Net × Bool) Refusal) → entered_as r ≡ entered n → (x : Refusal) → r ≡ Err x → ⊥
 entered-refused n z r e x q = number-some x (ap (λ p. p.0) (sym (ap entered_as q) ∙ e) ∙ z)
 
 module _ {w : List ℕ} {k : ℕ} {n : Net} {v : Survey} {s : PrefixBits} (h : Ready w k n v s) where

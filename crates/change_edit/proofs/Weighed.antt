@@ -1,6 +1,6 @@
 -- The result of a call with a network, counted, judged and written (`Counted` of pool_state's proofs/Counted.antt says what becomes of it). Assumes nothing.
 use mathlib.Core.Path.{◌≡◌, refl, ◌∙◌}
-use mathlib.Core.Bool.{Bool, true}
+use mathlib.Core.Bool.{Bool, true, false}
 use mathlib.Core.List.{List}
 use Prim.Native.Nat.{ℕ, ◌≤◌}
 use native.Mathlib.Omega.{arith}
@@ -15,8 +15,6 @@ use Rattle.pool_state.specs.Decode.{sound, decode}
 use Rattle.pool_state.specs.Changes.{set_at, list_at, net_rules, Relisted}
 use Rattle.pool_state.specs.Steps.{Judges, Settle, Settled}
 use Rattle.pool_state.specs.declared.Survey.{Survey}
-use Rattle.pool_state.specs.declared.Verdict.{Verdict}
-use Rattle.pool_state.specs.declared.Verdict.TheVariants as verdict
 use Rattle.pool_state.proofs.Decoded.{decode-state}
 use Rattle.pool_state.proofs.Seen.{seen, seen_as, seen-header, seen-figures, words_l}
 use Rattle.pool_state.proofs.Changed.{with_words}
@@ -27,6 +25,7 @@ use Rattle.change_ask.proofs.Admitted.{admits-remove}
 use Rattle.change_edit.proofs.Lists.{by-list}
 use Rattle.change_ask.proofs.Listed.{list-long, list-trie}
 use Rattle.change_edit.proofs.Edits.{words_are}
+use Rattle.std.specs.Prelude.{Result, Ok, Err}
 
 -- what is left when a network is removed is clear, always
 pub clear-remove : (w : List ℕ) (k : ℕ) (n : Net) (S : State) → decode w ≡ sound S → admits S.family (set_at S k) (remove_l (list_at S k) (net_bits n)) ≡ true
@@ -37,6 +36,10 @@ pub record Weighed (x : Bool) (w : List ℕ) (k : ℕ) (n : Net) (v : Survey) (s
   pub ready : Ready w k n v s
   pub clear : (S : State) → decode w ≡ sound S → admits S.family (set_at S k) (list_by x k n S) ≡ c
   pub counts : Counts w k x n m
+
+-- the list without the network
+pub weighed-remove : {w : List ℕ} {k : ℕ} {n : Net} {v : Survey} {s : PrefixBits} {m : ℕ} → Ready w k n v s → Counts w k false n m → Weighed false w k n v s true m
+weighed-remove {w} {k} {n} h q = record { ready = h; clear = clear-remove w k n; counts = q }
 
 module _ {x : Bool} {w : List ℕ} {k : ℕ} {n : Net} {v : Survey} {s : PrefixBits} {c : Bool} {m : ℕ} (h : Weighed x w k n v s c m) where
   result : (S : State) → decode w ≡ sound S → Counted w S k v (net_rules n) (list_by x k n) (words_l S (list_by x k n S)) c m
@@ -53,12 +56,12 @@ module _ {x : Bool} {w : List ℕ} {k : ℕ} {n : Net} {v : Survey} {s : PrefixB
   d : decode w ≡ sound S
   d = (seen h.ready.surveyed).1.decoded
 
-  module _ {r : Verdict} (j : Judges w k c m r) where
-    pub weighed-refused : (e : Refusal) → r ≡ verdict.No e → Relisted w k (net_rules n) (list_by x k n) (number e, 0) w
+  module _ {r : (Result Unit Refusal)} (j : Judges w k c m r) where
+    pub weighed-refused : (e : Refusal) → r ≡ Err e → Relisted w k (net_rules n) (list_by x k n) (number e, 0) w
     weighed-refused e z = counted-refused (result S d) j e z
 
     -- it is granted, and written
-    module _ (z : r ≡ verdict.Fits) where
+    module _ (z : r ≡ (Ok tt)) where
       pub weighed-few : m ≤ 4194304
       weighed-few = let g = (seen h.ready.surveyed).1 in omega (arith, counted-fits (result S d) j z, (seen-header g).nodes, (seen-figures g).nodes)
 

@@ -5,8 +5,9 @@ ghost use Rattle.change_ask.specs.Steps.{Ready};
 ghost use Rattle.change_edit.specs.Steps.{Counts, Edits, Edited};
 
 use kept_change::{change, change_size};
-use nets::{Entered, Net, PrefixBits};
+use nets::{Net, PrefixBits};
 use pool_check::seats::seat_in;
+use pool_header::{FORM, NODES};
 use pool_state::Survey;
 use trie_paths::halves::whole;
 
@@ -17,8 +18,8 @@ fn cut(net: Net) -> Net
 {
     let entered = net.to_network();
     match entered {
-        Entered::Network(n, _) => n,
-        Entered::Refused(_) => net,
+        Ok((n, _)) => n,
+        Err(_) => net,
     }
 }
 
@@ -42,7 +43,15 @@ fn second_size(pool: &[u32], v: Survey, net: Net, into: bool) -> u32
     let at = seat_in(pool, v);
     let q = cut(net);
     change_size(
-        pool, at.family, at.base, pool[3], at.first, at.end, 0, q, into,
+        pool,
+        at.family,
+        at.base,
+        pool[NODES],
+        at.first,
+        at.end,
+        0,
+        q,
+        into,
     ) as u32
 }
 
@@ -51,7 +60,7 @@ pub fn size_with(pool: &[u32], v: Survey, s: PrefixBits, net: Net, into: bool) -
     requires { (k : ℕ) × Ready pool.now k net v s }
     ensures { (k : ℕ) → Ready pool.now k net v s → Counts pool.now k into net result }
 {
-    if pool[5] == 0 {
+    if pool[FORM] == 0 {
         return first_size(pool, v, s, into);
     }
     second_size(pool, v, net, into)
@@ -79,7 +88,7 @@ fn second_edit(pool: &mut [u32], v: Survey, net: Net, into: bool)
     let at = seat_in(pool, v);
     let q = cut(net);
     let used = v.used as usize + 1;
-    let nodes = pool[3];
+    let nodes = pool[NODES];
     let root = whole(at.family);
     change(
         pool, at.family, at.base, nodes, at.first, at.end, used, root, q, into,
@@ -91,7 +100,7 @@ pub fn edit(pool: &mut [u32], v: Survey, s: PrefixBits, net: Net, into: bool)
     requires { (k : ℕ) × Edits pool.old k into net v s }
     ensures { (k : ℕ) → Edits pool.old k into net v s → Edited pool.old k into net v pool.new }
 {
-    if pool[5] == 0 {
+    if pool[FORM] == 0 {
         first_edit(pool, v, s, into);
         return;
     }

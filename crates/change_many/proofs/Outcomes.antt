@@ -18,7 +18,6 @@ use Rattle.pool_state.specs.States.{State}
 use Rattle.pool_state.specs.Decode.{sound, decode}
 use Rattle.pool_state.specs.Rules.{answer_as}
 use Rattle.pool_state.specs.Changes.{list_at}
-use Rattle.pool_state.specs.declared.Answer.{Answer}
 use Rattle.pool_state.proofs.Claims.{is_list-list_at}
 use Rattle.pool_state.proofs.Decoded.{decode-state}
 use Rattle.pool_state.proofs.Determined.{changed-one}
@@ -29,12 +28,14 @@ use Rattle.setfile.specs.Loading.{file_list}
 use Rattle.change_many.specs.Calls.{poured_l, file_rules, Poured, range_of, span_rules, RangeAdded}
 use Rattle.change_many.specs.declared.Span.{Span}
 use Rattle.change_many.proofs.Lists.{is_list-poured, poured_l-order}
+use Rattle.std.specs.Prelude.{Result}
+use Rattle.nets.specs.declared.Refusal.{Refusal}
 
 -- One outcome.
-pub poured-determined : {w v u : List ℕ} {k : ℕ} {r s : Answer} (x : Bool) (d : List ℕ) → Poured x w k d (answer_as r) v → Poured x w k d (answer_as s) u → (r ≡ s) × (v ≡ u)
+pub poured-determined : {w v u : List ℕ} {k : ℕ} {r s : (Result ℕ Refusal)} (x : Bool) (d : List ℕ) → Poured x w k d (answer_as r) v → Poured x w k d (answer_as s) u → (r ≡ s) × (v ≡ u)
 poured-determined x d h g = changed-one h g
 
-pub range-determined : {w v u : List ℕ} {k : ℕ} {r s : Answer} (p : Span) → RangeAdded w k p (answer_as r) v → RangeAdded w k p (answer_as s) u → (r ≡ s) × (v ≡ u)
+pub range-determined : {w v u : List ℕ} {k : ℕ} {r s : (Result ℕ Refusal)} (p : Span) → RangeAdded w k p (answer_as r) v → RangeAdded w k p (answer_as s) u → (r ≡ s) × (v ≡ u)
 range-determined p h g = changed-one h g
 
 -- The list of a file that is right for the pool is one of its width.

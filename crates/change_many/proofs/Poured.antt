@@ -9,11 +9,13 @@ use native.Mathlib.Omega.{arith}
 use lib.Dec.{leb}
 use lib.ListN.{length, get_or, take}
 use borrow.Author.Tests.{leb-true}
+use Rattle.std.specs.Prelude.{Result, Ok}
 use Rattle.nets.specs.Bits.{Bits}
 use Rattle.nets.specs.Tries.{Trie, size, list_of, trie_of}
 use Rattle.nets.specs.Lists.{within, exclude_l}
 use Rattle.nets.specs.Networks.{width}
 use Rattle.nets.specs.Refusals.{Rule}
+use Rattle.nets.specs.declared.Refusal.{Refusal}
 use Rattle.nets.proofs.Numbers.{width-le}
 use Rattle.nets.proofs.Strings.{and_left, and_right}
 use Rattle.nets.proofs.TrieOf.{is_list-within}
@@ -47,13 +49,14 @@ use Rattle.setfile_format.proofs.RoundTrip.{read_file-is}
 use Rattle.trie_pour.specs.Pour.{pour_t}
 use Rattle.trie_pour.proofs.Pour.{pour-size}
 use Rattle.setfile.specs.Loading.{file_list}
+use Rattle.setfile.specs.LoadSteps.{Admits}
 use Rattle.setfile_range.specs.Edges.{Rangeable, span_of, range_file}
 use Rattle.setfile_range.proofs.Files.{few-nets, range-reads}
 use Rattle.setfile_save.proofs.Outcomes.{take_put}
 use Rattle.setfile_save.proofs.Returns.{decode-few}
 use Rattle.change_many.specs.Calls.{poured_l, file_rules, range_of, span_rules}
 use Rattle.change_many.specs.declared.Span.{Span}
-use Rattle.change_many.specs.Steps.{FileReady, SpanReady, Admits, Pourable, Clear, SourcesIn, PoursIn, PourFits, with_poured}
+use Rattle.change_many.specs.Steps.{FileReady, AsksFile, SpanReady, AsksSpan, Pourable, Clear, SourcesIn, PoursIn, PourFits, with_poured}
 use Rattle.change_many.proofs.Lists.{list_of-poured, is_public-add_all}
 use Rattle.change_many.proofs.Asked.{file_rules-right}
 use Rattle.change_many.proofs.InForms.{held-few, takes, words_long, words-trie, words-within, Still, still-sources, still-pours}
@@ -232,11 +235,18 @@ module _ {w : List ℕ} {k : ℕ} {v : Survey} {d : List ℕ} {f : ℕ} {x : Boo
 
 -- the mark, where networks come in
 pub clear_of : {w : List ℕ} {k : ℕ} {v : Survey} {d : List ℕ} {f : ℕ} {a : State → List Rule} {g : State → List Bits} {c : Bool} → Pourable w k v d f true a g → Admits w k d f c → Clear w k g c
-clear_of {w} {k} h q S e = ap (admits S.family (set_at S k)) (h.result S e) ∙ sym (q S h.list e (h.family ∙ (decode-header w S e).family) h.reads)
+clear_of {w} {k} h q S e = ap (admits S.family (set_at S k)) (h.result S e) ∙ admits-add_all w S k e h.list ∙ sym (q S h.list e (h.family ∙ (decode-header w S e).family) h.reads)
 
 -- The calls: a file that is right, and a range.
 pub span-rangeable : {w : List ℕ} {k : ℕ} {s : Span} {v : Survey} → SpanReady w k s v → Rangeable s.family s.first s.last 4334
 span-rangeable h = record { family = h.is_family; order = h.order; high = h.high; room = omega arith }
+
+-- what the calls go on with
+pub file-asked : {w d : List ℕ} {k f : ℕ} {v : Survey} {r : Result (Survey × ℕ) Refusal} → AsksFile w k d r → r ≡ Ok (v, f) → FileReady w k d v f
+file-asked h e = rw e at h
+
+pub span-asked : {w : List ℕ} {k : ℕ} {s : Span} {v : Survey} {r : Result Survey Refusal} → AsksSpan w k s r → r ≡ Ok v → SpanReady w k s v
+span-asked h e = rw e at h
 
 pub file-pourable : {w : List ℕ} {k : ℕ} {d : List ℕ} {v : Survey} {f : ℕ} (x : Bool) → FileReady w k d v f
     → Pourable w k v d f x (file_rules (read_file d)) (λ S. poured_l x (list_at S k) (file_list (read_file d)))

@@ -2,19 +2,17 @@
 --
 --   FileReady w k d v f      the call with the file d goes on: v is what a pass over the pool found, and d is a file of the pool's family f;  AsksFile: that, or its refusal
 --   SpanReady w k s v        the call with the range s goes on;  AsksSpan: that, or its refusal
---   Admits w k d f c         c says whether set k may have the networks of the file d with its own, as far as its mark goes
 --   Pourable .. a g          what pouring asks: the rules a of the call's arguments are kept, and g is the list that the call is to leave
 --   Clear w k g c            c says whether set k may have the list g as far as its mark goes
 --   SourcesIn, PoursIn       what counting a result and writing it ask, in either form
 --   PourFits, with_poured        what writing a result asks, and the words that it leaves
-use Rattle.std.specs.Prelude.{Bool, true, List, ◌++◌, ◌≡◌, ℕ, ◌^◌, ◌≤◌, ◌<◌, length, get_or}
+use Rattle.std.specs.Prelude.{Bool, true, List, ◌++◌, ◌≡◌, ℕ, ◌^◌, ◌≤◌, ◌<◌, length, get_or, Result, Ok, Err}
 use Rattle.nets.specs.Bits.{Bits}
 use Rattle.nets.specs.Networks.{is_family, width}
 use Rattle.nets.specs.Refusals.{Rule, number, first_no}
 use Rattle.nets.specs.Tries.{Trie, list_of, trie_of}
 use Rattle.nodes.specs.Words.{put}
 use Rattle.nodes.specs.declared.seats.Seat.{Seat}
-use Rattle.ranges.specs.Blocks.{add_all}
 use Rattle.ranges.specs.Addresses.{address_of}
 use Rattle.pool_state.specs.Kept.{first, second, held_l}
 use Rattle.pool_state.specs.States.{State, room_of, admits}
@@ -28,10 +26,7 @@ use Rattle.setfile_pour.specs.Pouring as tries
 use Rattle.kept_pour.specs.Pouring as kept
 use Rattle.change_many.specs.Calls.{poured_l, file_rules, span_rules}
 use Rattle.change_many.specs.declared.Span.{Span}
-use Rattle.change_many.specs.declared.asking.AskedFile.{AskedFile}
-use Rattle.change_many.specs.declared.asking.AskedFile.TheVariants as asked
-use Rattle.change_many.specs.declared.asking.AskedSpan.{AskedSpan}
-use Rattle.change_many.specs.declared.asking.AskedSpan.TheVariants as ask
+use Rattle.nets.specs.declared.Refusal.{Refusal}
 
 pub record FileReady (w : List ℕ) (k : ℕ) (d : List ℕ) (v : Survey) (f : ℕ) : Type 0 where
   pub surveyed : Surveyed w k v
@@ -39,9 +34,9 @@ pub record FileReady (w : List ℕ) (k : ℕ) (d : List ℕ) (v : Survey) (f : �
   pub reads : read_file d ≡ file f list
   pub family : f ≡ get_or w 1 0
 
-abbrev pub AsksFile : List ℕ → ℕ → List ℕ → AskedFile → Type 0
-AsksFile w k d (asked.File v f) = FileReady w k d v f
-AsksFile w k d (asked.Refused x) = (g : State → List Bits) → Relisted w k (file_rules (read_file d)) g (number x, 0) w
+abbrev pub AsksFile : List ℕ → ℕ → List ℕ → Result (Survey × ℕ) Refusal → Type 0
+AsksFile w k d (Ok (v, f)) = FileReady w k d v f
+AsksFile w k d (Err x) = (g : State → List Bits) → Relisted w k (file_rules (read_file d)) g (number x, 0) w
 
 pub record SpanReady (w : List ℕ) (k : ℕ) (s : Span) (v : Survey) : Type 0 where
   pub surveyed : Surveyed w k v
@@ -51,12 +46,9 @@ pub record SpanReady (w : List ℕ) (k : ℕ) (s : Span) (v : Survey) : Type 0 w
   pub order : address_of s.first ≤ address_of s.last
   pub high : address_of s.last < 2 ^ width s.family
 
-abbrev pub AsksSpan : List ℕ → ℕ → Span → AskedSpan → Type 0
-AsksSpan w k s (ask.Range v) = SpanReady w k s v
-AsksSpan w k s (ask.Refused x) = (g : State → List Bits) → Relisted w k (span_rules s) g (number x, 0) w
-
-abbrev pub Admits : List ℕ → ℕ → List ℕ → ℕ → Bool → Type 0
-Admits w k d f c = (S : State) (l : List Bits) → decode w ≡ sound S → f ≡ S.family → read_file d ≡ file f l → c ≡ admits S.family (set_at S k) (add_all (list_at S k) l)
+abbrev pub AsksSpan : List ℕ → ℕ → Span → Result Survey Refusal → Type 0
+AsksSpan w k s (Ok v) = SpanReady w k s v
+AsksSpan w k s (Err x) = (g : State → List Bits) → Relisted w k (span_rules s) g (number x, 0) w
 
 pub record Pourable (w : List ℕ) (k : ℕ) (v : Survey) (d : List ℕ) (f : ℕ) (x : Bool) (a : State → List Rule) (g : State → List Bits) : Type 0 where
   pub surveyed : Surveyed w k v

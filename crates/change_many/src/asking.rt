@@ -8,44 +8,22 @@ ghost use Rattle.change_many.specs.Steps.{AsksFile, AsksSpan};
 use crate::Span;
 use nets::{IPV4, Refusal};
 use pool_check::seats::seat_of;
-use pool_state::{Seated, Survey};
+use pool_state::Survey;
 use ranges::addresses::Address;
-use setfile_order::{Checked, check};
-
-// A file that can be poured: what a pass over the pool found, and the family of the file. Or the refusal.
-#[derive(Clone, Copy)]
-pub enum AskedFile {
-    File(Survey, u8),
-    Refused(Refusal),
-}
-
-// A range that can be added: what a pass over the pool found. Or the refusal.
-#[derive(Clone, Copy)]
-pub enum AskedSpan {
-    Range(Survey),
-    Refused(Refusal),
-}
+use setfile_order::check;
 
 // The pool is sound, the set is there, and the file keeps its rules and is of the pool's family.
-pub fn ask_file(pool: &[u32], set: u32, bytes: &[u8]) -> AskedFile
+pub fn ask_file(pool: &[u32], set: u32, bytes: &[u8]) -> Result<(Survey, u8), Refusal>
     ensures { AsksFile pool.now set bytes.now result }
 {
-    let seated = seat_of(pool, set);
-    match seated {
-        Seated::Refused(no) => AskedFile::Refused(no),
-        Seated::At(found, seat) => {
-            let checked = check(bytes);
-            match checked {
-                Checked::Broken => AskedFile::Refused(Refusal::BadFile),
-                Checked::File(family, _) => {
-                    if family != seat.family {
-                        return AskedFile::Refused(Refusal::WrongFamily);
-                    }
-                    AskedFile::File(found, family)
-                }
-            }
-        }
+    let (found, seat) = seat_of(pool, set)?;
+    let Some((family, _)) = check(bytes) else {
+        return Err(Refusal::BadFile);
+    };
+    if family != seat.family {
+        return Err(Refusal::WrongFamily);
     }
+    Ok((found, family))
 }
 
 // Whether an address is within the family's width.
@@ -55,10 +33,7 @@ fn in_width(family: u8, a: Address) -> bool
     if family != IPV4 {
         return true;
     }
-    if a.hi != 0 {
-        return false;
-    }
-    a.lo < 0x1_0000_0000
+    (a.hi, a.lo) < (0, 0x1_0000_0000)
 }
 
 // Whether both ends of a range are addresses of its family.
@@ -77,30 +52,22 @@ fn is_backward(s: Span) -> bool
 {
     let a = s.first;
     let b = s.last;
-    if a.hi != b.hi {
-        return b.hi < a.hi;
-    }
-    b.lo < a.lo
+    (b.hi, b.lo) < (a.hi, a.lo)
 }
 
 // The pool is sound, the set is there, and the range is one of the pool's family whose first address is not above its last.
-pub fn ask_span(pool: &[u32], set: u32, s: Span) -> AskedSpan
+pub fn ask_span(pool: &[u32], set: u32, s: Span) -> Result<Survey, Refusal>
     ensures { AsksSpan pool.now set s result }
 {
-    let seated = seat_of(pool, set);
-    match seated {
-        Seated::Refused(no) => AskedSpan::Refused(no),
-        Seated::At(found, seat) => {
-            if s.family != seat.family {
-                return AskedSpan::Refused(Refusal::WrongFamily);
-            }
-            if !is_span(s) {
-                return AskedSpan::Refused(Refusal::BadNetwork);
-            }
-            if is_backward(s) {
-                return AskedSpan::Refused(Refusal::BadRange);
-            }
-            AskedSpan::Range(found)
-        }
+    let (found, seat) = seat_of(pool, set)?;
+    if s.family != seat.family {
+        return Err(Refusal::WrongFamily);
     }
+    if !is_span(s) {
+        return Err(Refusal::BadNetwork);
+    }
+    if is_backward(s) {
+        return Err(Refusal::BadRange);
+    }
+    Ok(found)
 }

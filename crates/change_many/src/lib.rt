@@ -4,8 +4,8 @@ ghost use Rattle.std.specs.Prelude.{◌≡◌};
 ghost use Rattle.pool_state.specs.Rules.{answer_as};
 ghost use Rattle.change_many.specs.Calls.{span_words, FileAdded, FileRemoved, RangeAdded};
 
-use asking::{AskedFile, AskedSpan, ask_file, ask_span};
-use pool_state::Answer;
+use asking::{ask_file, ask_span};
+use nets::Refusal;
 use pouring::{pour_found, pour_into};
 use ranges::addresses::Address;
 use setfile_range::{BYTES, range_file};
@@ -42,40 +42,27 @@ pub fn span_of(family: u8, first_hi: u64, first_lo: u64, last_hi: u64, last_lo: 
 }
 
 // Adds the networks of a set file to a set, as adding them one by one would. Answers the nodes of the set.
-pub fn add_file(pool: &mut [u32], set: u32, bytes: &[u8]) -> Answer
+pub fn add_file(pool: &mut [u32], set: u32, bytes: &[u8]) -> Result<u32, Refusal>
     ensures { FileAdded pool.old set bytes.now (answer_as result) pool.new }
 {
-    let asked = ask_file(pool, set, bytes);
-    match asked {
-        AskedFile::Refused(no) => Answer::Refused(no),
-        AskedFile::File(found, family) => { pour_into(pool, set, found, bytes, family) }
-    }
+    let (found, family) = ask_file(pool, set, bytes)?;
+    pour_into(pool, set, found, bytes, family)
 }
 
 // Removes the networks of a set file from a set, as removing them one by one would. Answers the nodes of the set. What is left of a public-only set is clear of the inner networks, as it was.
-pub fn remove_file(pool: &mut [u32], set: u32, bytes: &[u8]) -> Answer
+pub fn remove_file(pool: &mut [u32], set: u32, bytes: &[u8]) -> Result<u32, Refusal>
     ensures { FileRemoved pool.old set bytes.now (answer_as result) pool.new }
 {
-    let asked = ask_file(pool, set, bytes);
-    match asked {
-        AskedFile::Refused(no) => Answer::Refused(no),
-        AskedFile::File(found, family) => {
-            pour_found(pool, set, found, bytes, family, false, true)
-        }
-    }
+    let (found, family) = ask_file(pool, set, bytes)?;
+    pour_found(pool, set, found, bytes, family, false, true)
 }
 
 // Adds a range of addresses to a set: the fewest networks that have exactly these addresses, as adding them one by one would. Answers the nodes of the set.
-pub fn add_range(pool: &mut [u32], set: u32, span: Span) -> Answer
+pub fn add_range(pool: &mut [u32], set: u32, span: Span) -> Result<u32, Refusal>
     ensures { RangeAdded pool.old set span (answer_as result) pool.new }
 {
-    let asked = ask_span(pool, set, span);
-    match asked {
-        AskedSpan::Refused(no) => Answer::Refused(no),
-        AskedSpan::Range(found) => {
-            let mut local = [0u8; BYTES];
-            let n = range_file(span.family, span.first, span.last, &mut local);
-            pour_into(pool, set, found, &local[..n], span.family)
-        }
-    }
+    let found = ask_span(pool, set, span)?;
+    let mut local = [0u8; BYTES];
+    let n = range_file(span.family, span.first, span.last, &mut local);
+    pour_into(pool, set, found, &local[..n], span.family)
 }

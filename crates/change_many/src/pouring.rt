@@ -6,29 +6,16 @@ ghost use Rattle.nets.specs.Tries.{trie_of};
 ghost use Rattle.pool_state.specs.States.{State};
 ghost use Rattle.pool_state.specs.Changes.{list_at, Relisted};
 ghost use Rattle.pool_state.specs.Rules.{answer_as};
-ghost use Rattle.pool_state.specs.Steps.{Surveyed};
-ghost use Rattle.setfile_format.specs.Files.{read_file, file};
-ghost use Rattle.change_many.specs.Steps.{Admits, Pourable, Clear, PourFits, poured_of, with_poured};
+ghost use Rattle.change_many.specs.Steps.{Pourable, Clear, PourFits, poured_of, with_poured};
 
 use crate::by_form::{pour_seated, poured_nodes};
-use pool_change::judging::{is_public, judge};
+use nets::Refusal;
+use pool_change::judging::judge;
 use pool_change::relinking::{granted, shift_behind};
 use pool_check::seats::seat_in;
 use pool_header::stride_of;
-use pool_state::{Answer, Survey, Verdict};
-use setfile_clear::entries::file_is_clear;
-
-// Whether the surveyed set may have the networks of the file with its own as far as its mark goes: it is not public-only, or no network of the file overlaps an inner one.
-fn is_admitted(pool: &[u32], set: u32, v: Survey, bytes: &[u8], family: u8) -> bool
-    requires surveyed { Surveyed pool.now set v }
-    requires bytes_value { (l : List Bits) × (read_file bytes.now ≡ file family l) }
-    ensures { Admits pool.now set bytes.now family result }
-{
-    if !is_public(pool, set, v) {
-        return true;
-    }
-    file_is_clear(bytes, family)
-}
+use pool_state::Survey;
+use setfile::is_admitted;
 
 // Writes the result, of n nodes, in the place of the surveyed set; the sets behind it move, before it grows or after it has shrunk.
 fn write(pool: &mut [u32], set: u32, v: Survey, bytes: &[u8], family: u8, into: bool, n: u32)
@@ -57,25 +44,26 @@ pub fn pour_found(
     family: u8,
     into: bool,
     clear: bool,
-) -> Answer
+) -> Result<u32, Refusal>
     requires { (a : State → List Rule) × (g : State → List Bits) × Pourable pool.old set v bytes.now family into a g × Clear pool.old set g clear }
     ensures { (a : State → List Rule) (g : State → List Bits) → Pourable pool.old set v bytes.now family into a g
         → Clear pool.old set g clear → Relisted pool.old set a g (answer_as result) pool.new }
 {
     let at = seat_in(pool, v);
     let n = poured_nodes(pool, at, bytes, family, into) as u32;
-    let verdict = judge(pool, set, v, clear, n);
-    match verdict {
-        Verdict::No(no) => Answer::Refused(no),
-        Verdict::Fits => {
-            write(pool, set, v, bytes, family, into, n);
-            granted(pool, set, v, n)
-        }
-    }
+    judge(pool, set, v, clear, n)?;
+    write(pool, set, v, bytes, family, into, n);
+    granted(pool, set, v, n)
 }
 
 // Pours the networks of the file into the surveyed set.
-pub fn pour_into(pool: &mut [u32], set: u32, v: Survey, bytes: &[u8], family: u8) -> Answer
+pub fn pour_into(
+    pool: &mut [u32],
+    set: u32,
+    v: Survey,
+    bytes: &[u8],
+    family: u8,
+) -> Result<u32, Refusal>
     requires { (a : State → List Rule) × (g : State → List Bits) × Pourable pool.old set v bytes.now family true a g }
     ensures { (a : State → List Rule) (g : State → List Bits) → Pourable pool.old set v bytes.now family true a g
         → Relisted pool.old set a g (answer_as result) pool.new }

@@ -35,7 +35,6 @@ use Rattle.pool_state.specs.Decode.{base, sound, decode}
 use Rattle.pool_state.specs.Rules.{answer_on, answer_as, seat_of}
 use Rattle.pool_state.specs.Changes.{set_at, list_at, with_set, change_rule, set_with, grant_rules, relist_rules, relist_set, relist_no}
 use Rattle.pool_state.specs.Steps.{Refuses, Surveyed, spot_by, behind_at, Shiftable, Settle, Settled, stride_in, spot_in, enc_in}
-use Rattle.pool_state.specs.declared.Answer.{Answer}
 use Rattle.pool_state.specs.declared.Survey.{Survey}
 use Rattle.pool_state.proofs.Kept.{held_l-list_of, held_l-kept_of, size-trie_of, kept_size-trie_of}
 use Rattle.pool_state.proofs.Determined.{changed-one}
@@ -52,6 +51,7 @@ use Rattle.pool_state.proofs.OnKept.{kept_at, kept-room, kept-size, kept-held, k
 use Rattle.change_ask.proofs.Admitted.{admits-simplify}
 use Rattle.change_ask.proofs.Listed.{enc_in-is, list-long, list-trie}
 use Rattle.change_simplify.specs.Simplified.{list_simple, no_args, Simplifies, Shrunk, ShrunkTrie}
+use Rattle.std.specs.Prelude.{Result}
 
 -- The trie is simplified where it stands, and a leaf that the emission left is written.
 module _ {w u : List ℕ} {b i e fuel : ℕ} {t : Trie} {x : Emitted} (g : Source w b i e i fuel t) (d : Emits w u b i x (simplify_t t)) where
@@ -197,7 +197,7 @@ module _ {w : List ℕ} {S : State} {k : ℕ} {v : Survey} (h : Seen w S k v) {b
         changed (rw q.0 (relist-granted no_args (list_simple k) h refl (sym (grant-simplify w S k h.decoded h.known)) refl (g.nodes S h.decoded) simple-length closed q.1))
 
 -- One outcome.
-pub simplify-one : {w v u : List ℕ} {k : ℕ} {r s : Answer} → Simplifies w k (answer_as r) v → Simplifies w k (answer_as s) u → (r ≡ s) × (v ≡ u)
+pub simplify-one : {w v u : List ℕ} {k : ℕ} {r s : (Result ℕ Refusal)} → Simplifies w k (answer_as r) v → Simplifies w k (answer_as s) u → (r ≡ s) × (v ≡ u)
 simplify-one g h = changed-one g h
 
 -- What is left of a sound pool: a call on a set that is there is granted, and leaves the state with the list simplified.

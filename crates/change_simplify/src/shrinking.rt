@@ -8,7 +8,7 @@ ghost use Rattle.change_simplify.specs.Simplified.{Shrunk, ShrunkTrie};
 
 use kept_simplify::simplifying::simplify;
 use nodes::seats::Seat;
-use pool_header::most_levels;
+use pool_header::{FORM, NODES, most_levels};
 use pool_state::Survey;
 use trie_blocks::joining::next_join;
 use trie_blocks::simplifying;
@@ -32,10 +32,10 @@ pub fn shrink(w: &mut [u32], v: Survey, t: Seat) -> u32
     requires { (t ≡ seat_of w.old v) × ((k : ℕ) × Surveyed w.old k v) }
     ensures { (k : ℕ) → Surveyed w.old k v → Shrunk w.old k v result w.new }
 {
-    if w[5] == 0 {
+    if w[FORM] == 0 {
         let levels = most_levels(t.family as u32);
         return shrink_trie(w, t.base, v, levels);
     }
-    let nodes = w[3];
+    let nodes = w[NODES];
     simplify(w, t.family, t.base, nodes, t.first, t.end) as u32
 }

@@ -16,7 +16,6 @@ use Rattle.pool_state.specs.States.{State}
 use Rattle.pool_state.specs.Decode.{sound, decode}
 use Rattle.pool_state.specs.Rules.{answer_as}
 use Rattle.pool_state.specs.Changes.{list_at, grant_rules, relist_no, is_empty}
-use Rattle.pool_state.specs.declared.Answer.{Answer}
 use Rattle.pool_state.proofs.Claims.{is_list-list_at}
 use Rattle.pool_state.proofs.Decoded.{decode-state}
 use Rattle.pool_state.proofs.Judged.{change_no-zero}
@@ -24,9 +23,11 @@ use Rattle.pool_state.proofs.Determined.{changed-one}
 use Rattle.pool_state.proofs.Leaves.{RelistLeaves, relist-leaves}
 use Rattle.combine_sources.specs.Rules.{combine_rules, Combined}
 use Rattle.combine.specs.Rules.{Merged, Intersected, Excluded, ExcludedApart}
+use Rattle.std.specs.Prelude.{Result}
+use Rattle.nets.specs.declared.Refusal.{Refusal}
 
 -- One outcome.
-module _ (w : List ℕ) (to first second : ℕ) {r s : Answer} {u v : List ℕ} where
+module _ (w : List ℕ) (to first second : ℕ) {r s : (Result ℕ Refusal)} {u v : List ℕ} where
   pub merge-determined : Merged w to first second (answer_as r) u → Merged w to first second (answer_as s) v → (r ≡ s) × (u ≡ v)
   merge-determined h g = changed-one h g
 

@@ -1,4 +1,4 @@
--- A combination in the first form: what the sources mean, and then the result, counted and written (`Result` of pool_state's proofs/OnTries.antt says what
+-- A combination in the first form: what the sources mean, and then the result, counted and written (`TrieResult` of pool_state's proofs/OnTries.antt says what
 -- becomes of it). Assumes nothing.
 use mathlib.Core.Bool.{Bool, true}
 use mathlib.Core.List.{List}
@@ -16,18 +16,18 @@ use Rattle.pool_state.specs.Steps.{Judges, Settle, Settled}
 use Rattle.pool_state.specs.declared.Survey.{Survey}
 use Rattle.pool_state.proofs.Decoded.{decode-header}
 use Rattle.pool_state.proofs.Seen.{seen, seen_as, seen-figures}
-use Rattle.pool_state.proofs.OnTries.{form-first, shift-trie, trie_at, with_trie, behind-first, Result, result_fits, result-settles, result-granted}
-use Rattle.pool_state.specs.declared.Verdict.TheVariants.{Fits}
+use Rattle.pool_state.proofs.OnTries.{form-first, shift-trie, trie_at, with_trie, behind-first, TrieResult, result_fits, result-settles, result-granted}
 use Rattle.pool_state.proofs.Judged.{judge-none}
 use Rattle.combine_sources.specs.Rules.{combine_rules, Combined}
-use Rattle.combine_sources.specs.Steps.{combine_l, Ready, sources_of}
+use Rattle.combine_sources.specs.Steps.{combine_l, Ready, Started, sources_of}
 use Rattle.combine_write.specs.Steps.{Reads, Last, ResultFits, with_result}
-use Rattle.combine_first.specs.Steps.{Begun, most_nodes, Sure}
+use Rattle.combine_first.specs.Steps.{Admits, Begun, most_nodes, Sure}
 use Rattle.combine_sources.specs.declared.Sources.{Sources}
 use Rattle.combine_first.proofs.Sizes.{size-most}
 use Rattle.combine_sources.proofs.SetSources.{Source, source}
 use Rattle.combine_sources.proofs.Asked.{state, here, right}
 use Rattle.combine_sources.proofs.Operations.{list_of-op, size-op_on, few-levels}
+use Rattle.std.specs.Prelude.{Ok}
 
 -- The sources of a combination that goes on.
 module _ {w : List ℕ} {to first second : ℕ} {v : Survey} (h : Ready w to first second v) (form : get_or w 5 0 ≡ 0) where
@@ -53,6 +53,10 @@ module _ {w : List ℕ} {to first second : ℕ} {v : Survey} (h : Ready w to fir
       })
 
 -- A combination that has begun, whose result has m nodes.
+pub begins : {op : ℕ} {w : List ℕ} {to first second : ℕ} {v : Survey} {s : Sources} {b : Bool} → Started op w to first second v s → get_or w 5 0 ≡ 0 → Admits w op to s v b
+    → Begun op w to first second v s b
+begins h form clear = record { started = h; form = form; clear = clear }
+
 pub begun-clear : {op : ℕ} {w : List ℕ} {to first second : ℕ} {v : Survey} {s : Sources} {b : Bool} → b ≡ true → Begun op w to first second v s b → Begun op w to first second v s true
 begun-clear e h = rw e at h
 
@@ -85,7 +89,7 @@ module _ {op : ℕ} {w : List ℕ} {to first second : ℕ} {v : Survey} {s : Sou
   made-size = rw c.started.sources refl
 
   module _ {m : ℕ} (count : m ≡ size made) where
-    pub result : Result w S to v (combine_rules to first second) after made b m
+    pub result : TrieResult w S to v (combine_rules to first second) after made b m
     result = record {
       seen = here c.started.ready;
       form = form-first (here c.started.ready) c.form;
@@ -120,7 +124,7 @@ module _ {op : ℕ} {w : List ℕ} {to first second : ℕ} {v : Survey} {s : Sou
     made-most : size made ≤ most_nodes op s.nodes s.others
     made-most = let r = begun-reads in rw (r.nodes-t, r.nodes-u) (size-most op (suc (width (get_or w 1 0))) (trie_at S first) (trie_at S second))
 
-    sure-judged : {m : ℕ} → m ≡ size made → Judges w to b m Fits
+    sure-judged : {m : ℕ} → m ≡ size made → Judges w to b m (Ok tt)
     sure-judged n = record {
       verdict = λ T l d p e.
           judge-none (seen_as c.started.ready.surveyed T d) l p e clear (omega (arith, made-most, sure.limit)) refl (omega (arith, made-most, sure.room T d));

@@ -13,10 +13,11 @@ ghost use Rattle.pool_state.specs.Steps.{Surveyed};
 use combine_sources::{EXCLUDE, Sources};
 use combine_write::copying::is_copy;
 use combine_write::{append, count, write};
+use nets::Refusal;
 use pool_change::judging::{is_public, judge, room};
 use pool_change::relinking::granted;
-use pool_header::{HEAD, RECORD};
-use pool_state::{Answer, Survey, Verdict};
+use pool_header::{FAMILY, HEAD, LIMIT, RECORD};
+use pool_state::Survey;
 use trie_meets::combined::op_is_clear;
 
 // Whether the destination may have the result as far as its mark goes: it is not public-only, or the result overlaps no inner network. The sources tell, and nothing is built.
@@ -28,7 +29,7 @@ fn is_admitted(pool: &[u32], op: usize, to: u32, s: Sources, v: Survey) -> bool
     if !is_public(pool, to, v) {
         return true;
     }
-    op_is_clear(pool, s.base, op, s.first, s.second, s.levels, pool[1])
+    op_is_clear(pool, s.base, op, s.first, s.second, s.levels, pool[FAMILY])
 }
 
 // The most nodes that the result can have.
@@ -58,39 +59,41 @@ fn surely_fits(pool: &[u32], op: usize, to: u32, s: Sources, v: Survey, clear: b
         return false;
     }
     let n = most_nodes(op, s);
-    if (pool[HEAD + RECORD * (to as usize) + 2] as usize) < n {
+    if (pool[HEAD + RECORD * (to as usize) + LIMIT] as usize) < n {
         return false;
     }
     n <= room(pool, to, v) as usize
 }
 
 // A combination whose result surely fits.
-fn uncounted(pool: &mut [u32], op: usize, to: u32, s: Sources, v: Survey) -> Answer
+fn uncounted(pool: &mut [u32], op: usize, to: u32, s: Sources, v: Survey) -> Result<u32, Refusal>
     requires { ((first : ℕ) × (second : ℕ) × Begun op pool.old to first second v s true) × Sure pool.old op to s v }
     ensures { (first second : ℕ) → Begun op pool.old to first second v s true → Combined (combine_l op) pool.old to first second (answer_as result) pool.new }
 {
-    let n = append(pool, op, s, v);
-    granted(pool, to, v, n)
+    let nodes = append(pool, op, s, v);
+    granted(pool, to, v, nodes)
 }
 
 // A combination whose result is counted and judged before it is written; `clear` says whether the destination may have it as far as its mark goes.
-fn counted(pool: &mut [u32], op: usize, to: u32, s: Sources, v: Survey, clear: bool) -> Answer
+fn counted(
+    pool: &mut [u32],
+    op: usize,
+    to: u32,
+    s: Sources,
+    v: Survey,
+    clear: bool,
+) -> Result<u32, Refusal>
     requires { (first : ℕ) × (second : ℕ) × Begun op pool.old to first second v s clear }
     ensures { (first second : ℕ) → Begun op pool.old to first second v s clear → Combined (combine_l op) pool.old to first second (answer_as result) pool.new }
 {
     let n = count(pool, op, s) as u32;
-    let verdict = judge(pool, to, v, clear, n);
-    match verdict {
-        Verdict::No(no) => Answer::Refused(no),
-        Verdict::Fits => {
-            write(pool, op, s, v, n);
-            granted(pool, to, v, n)
-        }
-    }
+    judge(pool, to, v, clear, n)?;
+    write(pool, op, s, v, n);
+    granted(pool, to, v, n)
 }
 
 // A combination in a pool of the first form.
-pub fn by_nodes(pool: &mut [u32], op: usize, to: u32, s: Sources, v: Survey) -> Answer
+pub fn by_nodes(pool: &mut [u32], op: usize, to: u32, s: Sources, v: Survey) -> Result<u32, Refusal>
     requires { ((first : ℕ) × (second : ℕ) × Started op pool.old to first second v s) × (get_or pool.old 5 0 ≡ 0) }
     ensures { (first second : ℕ) → Started op pool.old to first second v s → Combined (combine_l op) pool.old to first second (answer_as result) pool.new }
 {

@@ -12,10 +12,11 @@ ghost use Rattle.combine_kept.specs.Steps.{KeptReads, KeptAdmits, KeptFits, with
 use combine_sources::{Sources, moved};
 use kept_emit::combining::{fill, op_size};
 use kept_meets::combined::op_is_clear;
+use nets::Refusal;
 use pool_change::judging::{is_public, judge};
 use pool_change::relinking::{granted, shift_behind};
-use pool_header::stride_of;
-use pool_state::{Answer, Survey, Verdict};
+use pool_header::{FAMILY, NODES, stride_of};
+use pool_state::Survey;
 
 // Whether the destination may have the result as far as its mark goes, as in the first form.
 fn is_admitted(pool: &[u32], op: usize, to: u32, s: Sources, v: Survey) -> bool
@@ -26,9 +27,16 @@ fn is_admitted(pool: &[u32], op: usize, to: u32, s: Sources, v: Survey) -> bool
     if !is_public(pool, to, v) {
         return true;
     }
-    let family = pool[1] as u8;
+    let family = pool[FAMILY] as u8;
     op_is_clear(
-        pool, family, s.base, pool[3], op, s.first, s.second, s.levels,
+        pool,
+        family,
+        s.base,
+        pool[NODES],
+        op,
+        s.first,
+        s.second,
+        s.levels,
     )
 }
 
@@ -37,9 +45,16 @@ fn count(pool: &[u32], op: usize, s: Sources) -> usize
     requires { (v : Survey) × (t : Trie) × (u : Trie) × KeptReads pool.now s v t u }
     ensures { (v : Survey) (t u : Trie) → KeptReads pool.now s v t u → result ≡ kept_size (op_on op s.levels t u) }
 {
-    let family = pool[1] as u8;
+    let family = pool[FAMILY] as u8;
     op_size(
-        pool, family, s.base, pool[3], op, s.first, s.second, s.levels,
+        pool,
+        family,
+        s.base,
+        pool[NODES],
+        op,
+        s.first,
+        s.second,
+        s.levels,
     )
 }
 
@@ -49,8 +64,8 @@ fn write(pool: &mut [u32], op: usize, s: Sources, v: Survey, n: u32)
     ensures { (t u : Trie) → KeptFits pool.old op s v n t u → pool.new ≡ with_kept pool.old op s v n t u }
 {
     let at = v.at as usize;
-    let family = pool[1] as u8;
-    let nodes = pool[3];
+    let family = pool[FAMILY] as u8;
+    let nodes = pool[NODES];
     let stride = stride_of(pool);
     shift_behind(pool, s.base, stride, v, n);
     let a = moved(at, n, s.first);
@@ -70,18 +85,13 @@ fn write(pool: &mut [u32], op: usize, s: Sources, v: Survey, n: u32)
 }
 
 // Writes what an operation makes of two sets into an empty one. Answers its nodes.
-pub fn combine(pool: &mut [u32], op: usize, to: u32, s: Sources, v: Survey) -> Answer
+pub fn combine(pool: &mut [u32], op: usize, to: u32, s: Sources, v: Survey) -> Result<u32, Refusal>
     requires { ((first : ℕ) × (second : ℕ) × Started op pool.old to first second v s) × (get_or pool.old 5 0 ≡ 0 → ⊥) }
     ensures { (first second : ℕ) → Started op pool.old to first second v s → Combined (combine_l op) pool.old to first second (answer_as result) pool.new }
 {
     let clear = is_admitted(pool, op, to, s, v);
     let n = count(pool, op, s) as u32;
-    let verdict = judge(pool, to, v, clear, n);
-    match verdict {
-        Verdict::No(no) => Answer::Refused(no),
-        Verdict::Fits => {
-            write(pool, op, s, v, n);
-            granted(pool, to, v, n)
-        }
-    }
+    judge(pool, to, v, clear, n)?;
+    write(pool, op, s, v, n);
+    granted(pool, to, v, n)
 }

@@ -19,9 +19,9 @@ use Rattle.pool_state.proofs.Decoded.{decode-header}
 use Rattle.pool_state.proofs.Seen.{Seen, seen, seen-empty, seen-some}
 use Rattle.pool_state.proofs.Returns.{is_empty-some, change-seat, change-args, changed}
 use Rattle.combine_sources.specs.Rules.{combine_rules}
-use Rattle.combine_sources.specs.Steps.{Ready, Asks, sources_of}
-use Rattle.combine_sources.specs.declared.Destination.TheVariants.{Empty, Refused}
+use Rattle.combine_sources.specs.Steps.{Operation, Ready, Asks, Started, sources_of}
 use Rattle.combine_sources.specs.declared.Sources.{Sources}
+use Rattle.std.specs.Prelude.{Result, Ok, Err}
 
 -- The number that the three sets get.
 module _ (to first second : ℕ) (S : State) where
@@ -44,28 +44,36 @@ module _ (to first second : ℕ) (S : State) where
       all_right e = rw (lt-leb (length S.sets) first lt, lt-leb (length S.sets) second ls, e)
 
 -- What `ask` finds.
-pub ask-refused : {w : List ℕ} {to : ℕ} (first second : ℕ) (x : Refusal) → Refuses (decode w) to (number x) → Asks w to first second (Refused x)
+pub ask-refused : {w : List ℕ} {to : ℕ} (first second : ℕ) (x : Refusal) → Refuses (decode w) to (number x) → Asks w to first second (Err x)
 ask-refused {w} {to} first second x h f = changed (change-seat (combine_rules to first second) f w to h)
 
 module _ {w : List ℕ} {to : ℕ} {v : Survey} (first second : ℕ) (h : Surveyed w to v) where
-  ask-args : (x : Refusal) → ((S : State) → Seen w S to v → get_or w 2 0 ≡ length S.sets → first_no (combine_rules to first second S) ≡ number x) → Asks w to first second (Refused x)
+  ask-args : (x : Refusal) → ((S : State) → Seen w S to v → get_or w 2 0 ≡ length S.sets → first_no (combine_rules to first second S) ≡ number x) → Asks w to first second (Err x)
   ask-args x q f =
       let (S, g) = seen h in
       changed (change-args (combine_rules to first second) f g (q S g (decode-header w S g.decoded).sets) (number-some x))
 
-  pub ask-first : get_or w 2 0 ≤ first → Asks w to first second (Refused NoSet)
+  pub ask-first : get_or w 2 0 ≤ first → Asks w to first second (Err NoSet)
   ask-first le = ask-args NoSet (λ S g n. no-first to first second S (omega arith))
 
   module _ (lf : first < get_or w 2 0) where
-    pub ask-second : get_or w 2 0 ≤ second → Asks w to first second (Refused NoSet)
+    pub ask-second : get_or w 2 0 ≤ second → Asks w to first second (Err NoSet)
     ask-second le = ask-args NoSet (λ S g n. no_second to first second S (omega arith) (omega arith))
 
     module _ (ls : second < get_or w 2 0) where
-      pub ask-occupied : (v.held ≡ 0 → ⊥) → Asks w to first second (Refused Occupied)
+      pub ask-occupied : (v.held ≡ 0 → ⊥) → Asks w to first second (Err Occupied)
       ask-occupied ne = ask-args Occupied (λ S g n. no-empty to first second S (omega arith) (omega arith) (seen-some g ne))
 
-      pub ask-empty : v.held ≡ 0 → Asks w to first second (Empty v)
+      pub ask-empty : v.held ≡ 0 → Asks w to first second (Ok v)
       ask-empty z = record { surveyed = h; known = (lf, ls); empty = z }
+
+-- What a call has that goes on.
+pub asked : {w : List ℕ} {to first second : ℕ} {r : Result Survey Refusal} {v : Survey} → Asks w to first second r → r ≡ Ok v → Ready w to first second v
+asked h e = rw e at h
+
+pub starts : {op : ℕ} {w : List ℕ} {to first second : ℕ} {r : Result Survey Refusal} {v : Survey} {s : Sources} → Operation op → Asks w to first second r → r ≡ Ok v
+    → s ≡ sources_of w first second → Started op w to first second v s
+starts o h e q = record { operation = o; ready = asked h e; sources = q }
 
 -- A combination that goes on.
 module _ {w : List ℕ} {to first second : ℕ} {v : Survey} (h : Ready w to first second v) where

@@ -6,7 +6,7 @@
 --   moved_to o n i                the number of node i after n nodes were put in before node o
 --   AdmitsBy R w op to s v c     c says whether the set `to` may have what the operation makes of the sources, as far as its mark goes
 --   Started                      a combination that goes on
-use Rattle.std.specs.Prelude.{Bool, cond, List, ◌≡◌, ℕ, zero, suc, ◌+◌, ◌≤◌, ◌<◌, ltb, get_or}
+use Rattle.std.specs.Prelude.{Bool, cond, List, ◌≡◌, ℕ, zero, suc, ◌+◌, ◌≤◌, ◌<◌, ltb, get_or, Result, Ok, Err}
 use Rattle.nets.specs.Bits.{Bits}
 use Rattle.nets.specs.Lists.{merge_l, intersect_l, difference_l, exclude_l}
 use Rattle.nets.specs.Tries.{Trie, list_of}
@@ -20,9 +20,8 @@ use Rattle.pool_state.specs.Changes.{set_at, Relisted}
 use Rattle.pool_state.specs.Steps.{Surveyed}
 use Rattle.pool_state.specs.declared.Survey.{Survey}
 use Rattle.combine_sources.specs.Rules.{combine_rules}
-use Rattle.combine_sources.specs.declared.Destination.{Destination}
-use Rattle.combine_sources.specs.declared.Destination.TheVariants.{Empty, Refused}
 use Rattle.combine_sources.specs.declared.Sources.{Sources}
+use Rattle.nets.specs.declared.Refusal.{Refusal}
 
 pub data Operation : ℕ → Type 0 where
   merging : Operation 0
@@ -42,9 +41,9 @@ pub record Ready (w : List ℕ) (to first second : ℕ) (v : Survey) : Type 0 wh
   pub empty : v.held ≡ 0
 
 -- a refusal is that of every operation
-abbrev pub Asks : List ℕ → ℕ → ℕ → ℕ → Destination → Type 0
-Asks w to first second (Empty v) = Ready w to first second v
-Asks w to first second (Refused x) = (f : State → List Bits) → Relisted w to (combine_rules to first second) f (number x, 0) w
+abbrev pub Asks : List ℕ → ℕ → ℕ → ℕ → Result Survey Refusal → Type 0
+Asks w to first second (Ok v) = Ready w to first second v
+Asks w to first second (Err x) = (f : State → List Bits) → Relisted w to (combine_rules to first second) f (number x, 0) w
 
 abbrev pub sources_of : List ℕ → ℕ → ℕ → Sources
 sources_of w first second =

@@ -7,10 +7,11 @@ ghost use Rattle.combine_sources.specs.Steps.{Ready, Asks, sources_of, moved_to}
 
 use nets::Refusal;
 use pool_check::seats::seat_of;
-use pool_header::{HEAD, RECORD, most_levels};
-use pool_state::{Seated, Survey};
+use pool_header::{FAMILY, HEAD, RECORD, SETS, most_levels};
+use pool_state::Survey;
 
-// The operations, by the numbers that emission knows them by.
+// The operations, by the numbers that emission knows them by. They stay numbers: the functions on tries that take one (`trie_combine::op_size`, `emit`, ..)
+// promise their answer for every number (`op_on`: each from 2 on excludes, 3 alone leaves members apart), and a type of four would ask more of their callers.
 pub const MERGE: usize = 0;
 
 pub const INTERSECT: usize = 1;
@@ -18,13 +19,6 @@ pub const INTERSECT: usize = 1;
 pub const EXCLUDE: usize = 2;
 
 pub const EXCLUDE_APART: usize = 3;
-
-// The destination of a combination, which is empty: what a pass over the pool found for it. Or the refusal.
-#[derive(Clone, Copy)]
-pub enum Destination {
-    Empty(Survey),
-    Refused(Refusal),
-}
 
 // What a combination reads: the nodes from the word `base` on, the roots of its sources, 0 where one is empty, the nodes of the first and those of the other, and the levels that a trie may have.
 #[derive(Clone, Copy)]
@@ -38,26 +32,21 @@ pub struct Sources {
 }
 
 // The pool is sound, the three sets are there, and the destination is empty.
-pub fn ask(pool: &[u32], to: u32, first: u32, second: u32) -> Destination
+pub fn ask(pool: &[u32], to: u32, first: u32, second: u32) -> Result<Survey, Refusal>
     ensures { Asks pool.now to first second result }
 {
-    let seated = seat_of(pool, to);
-    match seated {
-        Seated::Refused(no) => Destination::Refused(no),
-        Seated::At(found, _) => {
-            let sets = pool[2];
-            if sets <= first {
-                return Destination::Refused(Refusal::NoSet);
-            }
-            if sets <= second {
-                return Destination::Refused(Refusal::NoSet);
-            }
-            if found.held != 0 {
-                return Destination::Refused(Refusal::Occupied);
-            }
-            Destination::Empty(found)
-        }
+    let (found, _) = seat_of(pool, to)?;
+    let sets = pool[SETS];
+    if sets <= first {
+        return Err(Refusal::NoSet);
     }
+    if sets <= second {
+        return Err(Refusal::NoSet);
+    }
+    if found.held != 0 {
+        return Err(Refusal::Occupied);
+    }
+    Ok(found)
 }
 
 // The nodes of a set: the next set that is not empty begins behind them, or the nodes in use end there.
@@ -69,14 +58,12 @@ fn nodes_of(pool: &[u32], set: u32, v: Survey) -> usize
     if root == 0 {
         return 0;
     }
-    let sets = pool[2] as usize;
-    let mut s = set as usize + 1;
-    while s < sets {
+    let sets = pool[SETS] as usize;
+    for s in set as usize + 1..sets {
         let next = pool[HEAD + RECORD * s] as usize;
         if next != 0 {
             return next - root;
         }
-        s += 1;
     }
     v.used as usize + 1 - root
 }
@@ -87,12 +74,12 @@ pub fn sources_of(pool: &[u32], first: u32, second: u32, v: Survey) -> Sources
     ensures { result ≡ sources_of pool.now first second }
 {
     Sources {
-        base: HEAD + RECORD * (pool[2] as usize),
+        base: HEAD + RECORD * (pool[SETS] as usize),
         first: pool[HEAD + RECORD * (first as usize)] as usize,
         nodes: nodes_of(pool, first, v),
         second: pool[HEAD + RECORD * (second as usize)] as usize,
         others: nodes_of(pool, second, v),
-        levels: most_levels(pool[1]) as usize,
+        levels: most_levels(pool[FAMILY]) as usize,
     }
 }
 

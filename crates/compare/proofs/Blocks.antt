@@ -1,5 +1,5 @@
 -- Words that agree, counted and in blocks: one word more, and one block behind another. Assumes nothing.
-use mathlib.Core.Bool.{Bool, true, false, cond}
+use mathlib.Core.Bool.{Bool, true, false, cond, not}
 use mathlib.Core.List.{List}
 use mathlib.Core.Path.{◌≡◌, refl, ap, sym, ◌∙◌}
 use Prim.Native.Nat.{ℕ, ◌+◌, ◌-◌, ◌*◌, ◌≤◌}
@@ -10,8 +10,14 @@ use lib.Dec.{eqb, ltb}
 use lib.ListN.{length, get_or}
 use borrow.Author.Count.{below_more}
 use borrow.Author.Tests.{eq-eqb, ne_eqb, ltb-true, ltb-false}
+use Rattle.std.specs.Int.{from_bool}
 use Rattle.pool_state.specs.Steps.{spot_by}
 use Rattle.compare.specs.Rules.{Agree, Nodes}
+
+-- the number of a test that two words differ
+pub from-other : (t : Bool) {c : ℕ} → c ≡ from_bool (not t) → c ≡ cond t 0 1
+from-other true e = e
+from-other false e = e
 
 pub few : (t : Bool) {c : ℕ} → c ≡ cond t 0 1 → c ≤ 1
 few true e = omega arith

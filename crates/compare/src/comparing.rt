@@ -1,30 +1,19 @@
 // Comparing words.
-ghost use Rattle.std.specs.Prelude.{eqb, cond, ◌≡◌, ◌+◌, ◌*◌, ◌≤◌, length};
+ghost use Rattle.std.specs.Prelude.{eqb, ◌≡◌, ◌+◌, ◌*◌, ◌≤◌, length};
 ghost use Rattle.compare.specs.Rules.{Agree, Nodes};
 ghost use Rattle.pool_state.specs.Steps.{spot_by};
 
 // How many words are compared before it is asked whether one differed.
 const BLOCK: usize = 64;
 
-fn one_if_other(x: u32, y: u32) -> u32
-    ensures { result ≡ cond (eqb x y) 0 1 }
-{
-    if x == y {
-        return 0;
-    }
-    1
-}
-
 // How many of the n words from place p on are not those from place q on. With no way out of the loop, several words are compared in one step.
 fn others(w: &[u32], p: usize, q: usize, n: usize) -> u32
     requires { (p + n ≤ length w.now) × (q + n ≤ length w.now) × (n ≤ 64) }
     ensures { Agree w.now p q n (eqb result 0) }
 {
-    let mut k = 0;
     let mut count: u32 = 0;
-    while k < n {
-        count += one_if_other(w[p + k], w[q + k]);
-        k += 1;
+    for k in 0..n {
+        count += u32::from(w[p + k] != w[q + k]);
     }
     count
 }

@@ -11,12 +11,11 @@ use Rattle.lines.specs.Reading.{fed, finished, fed_all, all_read}
 use Rattle.lines_reader.specs.declared.Reader.{Reader}
 use Rattle.salvage.specs.Calls.{salvaged_as, Salvages}
 use Rattle.salvage.specs.declared.Counts.{Counts}
-use Rattle.salvage.specs.declared.Salvaged.{Salvaged}
-use Rattle.salvage.specs.declared.Salvaged.TheVariants as salvaged
 use Rattle.calls_bytes.specs.declared.Reply.{Reply}
 use Rattle.calls_replies.specs.Replies.{no_reply, salvage_reply}
 use Rattle.calls_packed.specs.Packed.{packed, row_after, first_of}
 use Rattle.exports.specs.Exported.{Tells, WithRow, ReadsLines, counts_after, SavesCounts}
+use Rattle.std.specs.Prelude.{Result, Ok, Err}
 
 pub tells : {A : Type 0} {C : A → List ℕ → Type 0} {f : A → Reply} (a : A) {v : List ℕ} {x : Reply} {r : ℕ} → C a v → x ≡ f a → r ≡ packed x → Tells C f r v
 tells a c e h = record { answer = a; call = c; number = h ∙ ap packed e }
@@ -33,16 +32,16 @@ lines-told {w} {w₁} {w₂} {s} {r₀} {r₁} {r₂} z e f h k =
     record { number = k ∙ ap packed h ∙ ap (λ (x : Reader × List ℕ). packed (no_reply x.0.no)) g; words = ap (λ (x : Reader × List ℕ). x.1) g; counts = ap (λ (x : Reader × List ℕ). x.0.number ∷ x.0.trimmed ∷ []) g }
 
 -- the counts of a salvage: a refusal has a number above 0, so they stay
-pub counts-file : (c : List ℕ) {a : Salvaged} (x : Counts) → a ≡ salvaged.File x → (x.read ∷ x.trimmed ∷ x.long ∷ x.covered ∷ []) ≡ counts_after c (salvaged_as a)
+pub counts-file : (c : List ℕ) {a : (Result Counts Refusal)} (x : Counts) → a ≡ Ok x → (x.read ∷ x.trimmed ∷ x.long ∷ x.covered ∷ []) ≡ counts_after c (salvaged_as a)
 unfolding counts_after
 counts-file c x e = rw e
 
-pub counts-refused : (c : List ℕ) {a : Salvaged} (y : Refusal) → a ≡ salvaged.Refused y → c ≡ counts_after c (salvaged_as a)
+pub counts-refused : (c : List ℕ) {a : (Result Counts Refusal)} (y : Refusal) → a ≡ Err y → c ≡ counts_after c (salvaged_as a)
 unfolding counts_after
 counts-refused c y e = rw (e, ne_eqb (number y) 0 (number-some y))
 
 -- the answer of a salvage, and its counts
-pub saves-told : {d v c u k : List ℕ} {a : Salvaged} {x y : Reply} {r : ℕ} → Salvages d v a u → k ≡ counts_after c (salvaged_as a) → x ≡ salvage_reply (salvaged_as a) → y ≡ first_of x → r ≡ packed y
+pub saves-told : {d v c u k : List ℕ} {a : (Result Counts Refusal)} {x y : Reply} {r : ℕ} → Salvages d v a u → k ≡ counts_after c (salvaged_as a) → x ≡ salvage_reply (salvaged_as a) → y ≡ first_of x → r ≡ packed y
     → SavesCounts d v c r u k
 saves-told {c = c} s h e f g =
     record { number = g ∙ ap packed (f ∙ ap first_of (e ∙ ap salvage_reply s.answer)); bytes = s.bytes; counts = h ∙ ap (counts_after c) s.answer }

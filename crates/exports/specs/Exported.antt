@@ -7,17 +7,17 @@
 --                      were trimmed
 --   SavesCounts d v c r u k    the file d salvaged over the bytes v, which are u afterwards: r has the refusal and the bytes written, and the four counts c are k afterwards
 --   counts_after c a    four counts c after an answer a: those of a file, else as they were
-use Rattle.std.specs.Prelude.{cond, List, [], ◌∷◌, ◌≡◌, ℕ, eqb, length}
+use Rattle.std.specs.Prelude.{cond, List, [], ◌∷◌, ◌≡◌, ℕ, eqb, length, Result, Bool}
 use Rattle.lines.specs.Reading.{all_read}
 use Rattle.calls_bytes.specs.declared.Reply.{Reply}
 use Rattle.nets.specs.declared.Net.{Net}
 use Rattle.text.specs.Answers.{written_as}
 use Rattle.text_either.specs.Either.{WroteEither}
-use Rattle.text.specs.declared.Written.{Written}
 use Rattle.salvage.specs.Calls.{salvage_rule, salvage_left}
 use Rattle.salvage.specs.declared.Counts.{Counts}
 use Rattle.calls_replies.specs.Replies.{no_reply, write_reply, salvage_reply}
 use Rattle.calls_packed.specs.Packed.{packed, row_after, first_of}
+use Rattle.nets.specs.declared.Refusal.{Refusal}
 
 pub record Tells {A : Type 0} (C : A → List ℕ → Type 0) (f : A → Reply) (r : ℕ) (v : List ℕ) : Type 0 where
   pub answer : A
@@ -30,7 +30,7 @@ pub record WithRow (q : Reply) (r : ℕ) (v u : List ℕ) : Type 0 where
 
 -- text_either::write_line, whose answer goes by its own type
 pub record WritesLine (n : Net) (r : ℕ) (v u : List ℕ) : Type 0 where
-  pub answer : Written
+  pub answer : Result (ℕ × Bool) Refusal
   pub call : WroteEither n v u answer
   pub number : r ≡ packed (write_reply (written_as answer))
 

@@ -8,7 +8,8 @@ ghost use Rattle.exports.specs.Exported.{WithRow, counts_after, SavesCounts};
 
 use calls_packed::{first_of, packed, put_row};
 use calls_replies::{of_compared, of_salvaged};
-use salvage::Salvaged;
+use nets::Refusal;
+use salvage::Counts;
 
 // Whether two files cover different addresses. The row has the smallest on which they differ. The value is the file that holds it, 1 or 2; or 3 where they cover the same,
 // and 4 where the second is the shortest that does.
@@ -22,11 +23,11 @@ pub extern "C" fn marlbrace_compare(first: &[u8], second: &[u8], row: &mut [u64;
 }
 
 // The counts of a salvage that has written a file.
-fn put_counts(counts: &mut [u64; 4], a: Salvaged)
+fn put_counts(counts: &mut [u64; 4], a: Result<Counts, Refusal>)
     ensures { counts.new ≡ counts_after counts.old (salvaged_as a) }
 {
     match a {
-        Salvaged::File(c) => {
+        Ok(c) => {
             *counts = [
                 c.read as u64,
                 c.trimmed as u64,
@@ -34,7 +35,7 @@ fn put_counts(counts: &mut [u64; 4], a: Salvaged)
                 c.covered as u64,
             ];
         }
-        Salvaged::Refused(_) => {}
+        Err(_) => {}
     }
 }
 

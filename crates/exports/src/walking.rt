@@ -1,9 +1,8 @@
 // The networks of a set, one by one or all at once.
-ghost use Rattle.std.specs.Prelude.{◌≡◌, length};
+ghost use Rattle.std.specs.Prelude.{◌≡◌, length, Some, None};
 ghost use Rattle.nets.specs.Networks.{net_words};
 ghost use Rattle.pool_state.specs.Decode.{decode};
 ghost use Rattle.listing.specs.Calls.{list_rule, rows_after, next_rule};
-ghost use Rattle.listing.specs.declared.From.TheVariants.{Start, Past};
 ghost use Rattle.rangelist.specs.Calls.{ranges_rule};
 ghost use Rattle.rangelist.specs.Calls as ranges;
 ghost use Rattle.setfile.specs.Calls.{save_rule, bytes_after};
@@ -14,14 +13,13 @@ ghost use Rattle.exports.specs.Exported.{WithRow};
 
 use calls_packed::{packed, put_row};
 use calls_replies::{of_answer, of_follower};
-use listing::From;
 
 // The first network of a set, in the row where there is one.
 #[unsafe(no_mangle)]
 pub extern "C" fn marlbrace_first(pool: &[u32], set: u32, row: &mut [u64; 3]) -> u64
-    ensures { WithRow (found_reply (next_rule (decode pool.now) set Start)) result row.old row.new }
+    ensures { WithRow (found_reply (next_rule (decode pool.now) set None)) result row.old row.new }
 {
-    let a = of_follower(listing::next(pool, set, From::Start));
+    let a = of_follower(listing::next(pool, set, None));
     put_row(row, a);
     packed(a)
 }
@@ -37,9 +35,9 @@ pub extern "C" fn marlbrace_next(
     len: u8,
     row: &mut [u64; 3],
 ) -> u64
-    ensures { WithRow (found_reply (next_rule (decode pool.now) set (Past (net_words family hi lo len)))) result row.old row.new }
+    ensures { WithRow (found_reply (next_rule (decode pool.now) set (Some (net_words family hi lo len)))) result row.old row.new }
 {
-    let a = of_follower(listing::next(pool, set, From::Past(crate::net(family, hi, lo, len))));
+    let a = of_follower(listing::next(pool, set, Some(crate::net(family, hi, lo, len))));
     put_row(row, a);
     packed(a)
 }

@@ -22,7 +22,6 @@ use Rattle.compare.specs.Rules.{same_list, equal_rule}
 use Rattle.trie_paths.specs.Rows.{rows_of}
 use Rattle.listing.specs.Calls.{list_rules, list_rule, rows_after, place_from, nothing, next_rules, next_rule}
 use Rattle.listing.specs.Calls.{found_as as follows_as}
-use Rattle.listing.specs.declared.From.{From}
 use Rattle.netrows.specs.Rows.{filled, row_rules, row_rule, row_after}
 use Rattle.ranges.specs.Addresses.{range_rows}
 use Rattle.rangelist.specs.Calls.{ranges_at, ranges_rules, ranges_rule}
@@ -32,6 +31,7 @@ use Rattle.setfile.specs.Calls.{file_at, save_rules, save_rule, bytes_after}
 use Rattle.histories.specs.Calls.{Call}
 use Rattle.histories.specs.Histories.{state_from, History}
 use Rattle.histories.proofs.Histories.{history-sound}
+use Rattle.std.specs.Prelude.{Option}
 
 module _ {w : List ℕ} {S : State} (d : decode w ≡ sound S) {cs : List Call} {rs : List (ℕ × ℕ)} {v : List ℕ} (h : History w cs rs v) where
   abbrev now : State
@@ -95,7 +95,7 @@ module _ {w : List ℕ} {S : State} (d : decode w ≡ sound S) {cs : List Call} 
     history-ranges u = (answer-is _ 0 _, left_is _ u _)
 
     -- one network of it
-    pub history-next : (x : From) → next_rule (decode v) k x ≡ answered (first_no (next_rules k x now)) nothing (follows_as now.family (next_l list (place_from x)))
+    pub history-next : (x : Option Net) → next_rule (decode v) k x ≡ answered (first_no (next_rules k x now)) nothing (follows_as now.family (next_l list (place_from x)))
     unfolding next_rule
     history-next x = answer-is _ nothing _
 

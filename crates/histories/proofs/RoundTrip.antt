@@ -36,7 +36,6 @@ use Rattle.pool_state.specs.States.{SetState, State, claimed, claimed_but}
 use Rattle.pool_state.specs.Decode.{sound, decode}
 use Rattle.pool_state.specs.Rules.{setup, empty_state}
 use Rattle.pool_state.specs.Changes.{list_at, with_set, change_rules, relist_rules, relist_set, net_rules}
-use Rattle.pool_state.specs.declared.Answer.TheVariants.{Granted}
 use Rattle.pool_state.proofs.Claims.{is_list-list_at}
 use Rattle.pool_state.proofs.Decoded.{decode-state}
 use Rattle.rangelist.specs.Calls.{ranges_at, Ranges}
@@ -46,6 +45,7 @@ use Rattle.histories.specs.Histories.{state_from, answers_from, History, begin, 
 use Rattle.histories.specs.Imports.{spans_in, granted_on}
 use Rattle.histories.proofs.Histories.{state_from-numbers, lists-valid, only-written, lists-stay, lists-marked}
 use Rattle.histories.proofs.MergeOrder.{granted-list, refused-state}
+use Rattle.std.specs.Prelude.{Ok}
 
 -- the list l is what the call c made of the state after a history in which the calls gs had been granted on set x
 abbrev pub Made : List ℕ → State → ℕ → Relist → List Relist → List Bits → Type 0
@@ -124,7 +124,7 @@ range_of-spans f (r ∷ rs) (a ∷ b ∷ []) h = absurd (omega arith)
 range_of-spans f (r ∷ rs) (a ∷ b ∷ c ∷ []) h = absurd (omega arith)
 range_of-spans f (r ∷ rs) (a ∷ b ∷ c ∷ d ∷ v) h = rw (address-words r.first, address-words r.last, range_of-spans f rs v (omega arith))
 
-exported : {w : List ℕ} {S : State} → decode w ≡ sound S → (k : ℕ) {v u : List ℕ} {n : ℕ} → Ranges w k v (Granted n) u
+exported : {w : List ℕ} {S : State} → decode w ≡ sound S → (k : ℕ) {v u : List ℕ} {n : ℕ} → Ranges w k v (Ok n) u
     → (k < length S.sets) × (map range_of (spans_in S.family n u) ≡ ranges_at S k)
 exported {w} {S} d k {v} {u} {n} r = go (dec_lt k (length S.sets)) (dec_lt (length v) (4 * length (ranges_at S k)))
   where
@@ -179,7 +179,7 @@ range-in [] p m = absurd (Memᴰ.not-nil m)
 range-in (q ∷ ps) p (Memᴰ.head e) = Memᴰ.head (ap range_of e)
 range-in (q ∷ ps) p (Memᴰ.tail m) = Memᴰ.tail (range-in ps p m)
 
-pub exported-right : {w : List ℕ} {S : State} → decode w ≡ sound S → (k : ℕ) {v u : List ℕ} {n : ℕ} → Ranges w k v (Granted n) u
+pub exported-right : {w : List ℕ} {S : State} → decode w ≡ sound S → (k : ℕ) {v u : List ℕ} {n : ℕ} → Ranges w k v (Ok n) u
     → (T : State) → T.family ≡ S.family → (p : Span) → Memᴰ p (spans_in S.family n u) → first_no (span_rules p T) ≡ 0
 unfolding span_rules is_span
 exported-right {w} {S} d k {v} {u} {n} r T fam p m =
@@ -197,7 +197,7 @@ exported-right {w} {S} d k {v} {u} {n} r T fam p m =
 -- "Ranges of an exported set, imported unrefused into an empty set and simplified, give the simplified list." Export set k of any sound words w; take the
 -- ranges that the rows now have, in any order, into an empty set x of any sound words z of the family, the same pool or another, each granted; simplify. Any
 -- other calls may stand between, granted on other sets or refused.
-pub history-round-trip : {w : List ℕ} {S : State} → decode w ≡ sound S → (k : ℕ) {v u : List ℕ} {n : ℕ} → Ranges w k v (Granted n) u
+pub history-round-trip : {w : List ℕ} {S : State} → decode w ≡ sound S → (k : ℕ) {v u : List ℕ} {n : ℕ} → Ranges w k v (Ok n) u
     → {z : List ℕ} {T : State} → decode z ≡ sound T → T.family ≡ S.family → (x : ℕ) → list_at T x ≡ []
     → {cs : List Call} {rs : List (ℕ × ℕ)} {y : List ℕ} → History z cs rs y → (ps : List Span) → granted_on x cs rs ≡ simplify x ∷ map (add_range x) ps
     → ((p : Span) → Memᴰ p ps ↔ Memᴰ p (spans_in S.family n u)) → list_at (state_from T cs) x ≡ simplify_l (list_at S k)

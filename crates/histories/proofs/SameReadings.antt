@@ -16,8 +16,6 @@ use Rattle.lookup.specs.Rules.{supernet_rule, contains_rule, empty_rule}
 use Rattle.lookup.proofs.OnLists.{supernet_rule-sound, contains_rule-sound, empty_rule-sound}
 use Rattle.compare.specs.Rules.{equal_rule}
 use Rattle.listing.specs.Calls.{list_rules, list_rule, rows_after, nothing, next_rules, next_rule}
-use Rattle.listing.specs.declared.From.{From}
-use Rattle.listing.specs.declared.From.TheVariants.{Start, Past}
 use Rattle.netrows.specs.Rows.{row_rules, row_rule, row_after}
 use Rattle.rangelist.specs.Calls.{ranges_at, ranges_rules, ranges_rule}
 use Rattle.rangelist.specs.Calls.{rows_after as ranges_after}
@@ -26,6 +24,7 @@ use Rattle.setfile.specs.Calls.{save_rules, save_rule, bytes_after}
 use Rattle.histories.specs.Histories.{SameList}
 use Rattle.histories.specs.Readings.{SameReadings}
 use Rattle.histories.proofs.Step.{net-same}
+use Rattle.std.specs.Prelude.{Option, Some, None}
 
 -- What is decoded as two states is answered alike where rules and values are the same.
 module _ {D E : Decoded} {S T : State} (d : D ≡ sound S) (q : E ≡ sound T) where
@@ -59,10 +58,10 @@ module _ {k : ℕ} {S T : State} (s : SameList k S T) where
   unfolding save_rules
   save-same n = rw (s.known, s.family, s.list)
 
-  next-same : (x : From) → next_rules k x S ≡ next_rules k x T
+  next-same : (x : Option Net) → next_rules k x S ≡ next_rules k x T
   unfolding next_rules
-  next-same Start = rw s.known
-  next-same (Past n) = rw (s.known, net-same n k S T s)
+  next-same None = rw s.known
+  next-same (Some n) = rw (s.known, net-same n k S T s)
 
 module _ (u v : List ℕ) {S T : State} (here : decode u ≡ sound S) (there : decode v ≡ sound T) {k : ℕ} (s : SameList k S T) where
   empty-alike : empty_rule u k ≡ empty_rule v k
@@ -97,7 +96,7 @@ module _ (u v : List ℕ) {S T : State} (here : decode u ≡ sound S) (there : d
     leaves here there _ x _ (ranges-same s (length x)) (rw (ranges-at s)),
   )
 
-  next-alike : (x : From) → next_rule (decode u) k x ≡ next_rule (decode v) k x
+  next-alike : (x : Option Net) → next_rule (decode u) k x ≡ next_rule (decode v) k x
   unfolding next_rule
   next-alike x = answers here there _ nothing _ (next-same s x) (rw (s.family, s.list))
 

@@ -3,12 +3,11 @@
 --   SameReadings u v k      the calls that tell of the list of set k alone, the lookups aside, answer alike and leave a lent row alike
 --   SoughtAlike r t         the answers r and t of supernet are the same but for the nodes that were read, of which t counts no more than r
 --   HeldAlike, ReportAlike  the same of the answers of contains, and of held, which counts the nodes of a set
-use Rattle.std.specs.Prelude.{List, ◌≡◌, ℕ, ◌≤◌, length}
+use Rattle.std.specs.Prelude.{List, ◌≡◌, ℕ, ◌≤◌, length, Option}
 use Rattle.nets.specs.declared.Net.{Net}
 use Rattle.pool_state.specs.Decode.{decode}
 use Rattle.lookup.specs.Rules.{Sought, Held, empty_rule}
 use Rattle.listing.specs.Calls.{list_rule, rows_after, next_rule}
-use Rattle.listing.specs.declared.From.{From}
 use Rattle.netrows.specs.Rows.{row_rule, row_after}
 use Rattle.rangelist.specs.Calls.{ranges_rule}
 use Rattle.rangelist.specs.Calls.{rows_after as ranges_after}
@@ -22,7 +21,7 @@ pub record SameReadings (u v : List ℕ) (k : ℕ) : Type 0 where
   pub save : (x : List ℕ) → (save_rule (decode u) k (length x) ≡ save_rule (decode v) k (length x)) × (bytes_after x (decode u) k ≡ bytes_after x (decode v) k)
   pub ranges : (x : List ℕ) → (ranges_rule (decode u) k (length x) ≡ ranges_rule (decode v) k (length x))
       × (ranges_after x (decode u) k ≡ ranges_after x (decode v) k)
-  pub next : (x : From) → next_rule (decode u) k x ≡ next_rule (decode v) k x
+  pub next : (x : Option Net) → next_rule (decode u) k x ≡ next_rule (decode v) k x
   pub nth : (i : ℕ) → nth_rule (decode u) k i ≡ nth_rule (decode v) k i
   pub last : last_rule (decode u) k ≡ last_rule (decode v) k
 

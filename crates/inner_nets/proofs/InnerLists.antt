@@ -5,7 +5,7 @@ use mathlib.Core.List.{[], ◌∷◌, map}
 use mathlib.Core.Path.{◌≡◌, refl}
 use Prim.Native.Nat.{ℕ, ◌+◌, ◌*◌}
 use lib.Dec.{eqb}
-use lib.ListN.{length, take}
+use lib.ListN.{take}
 use Rattle.nets.specs.Bits.{Bits, bits, before}
 use Rattle.nets.specs.Lists.{is_list}
 use Rattle.nets.specs.Networks.{width, net_bits}

@@ -1,29 +1,32 @@
 -- The inner networks by their numbers: each of them is a network, past the last there is none, and a search through them ends where none is left. Assumes
 -- nothing.
-use mathlib.Core.Bool.{Bool, true, false, cond, ◌&&◌, ◌||◌, or-false}
-use mathlib.Core.List.{List, [], ◌∷◌, map}
+use mathlib.Core.Bool.{Bool, true, false, cond, not, ◌&&◌, ◌||◌, or-false}
+use mathlib.Core.List.{List, [], ◌∷◌}
 use mathlib.Core.Path.{◌≡◌, refl, ap, sym, ◌∙◌}
 use Prim.Native.Nat.{ℕ, zero, suc, ◌+◌, ◌≤◌, ◌<◌}
-use native.Mathlib.Decide.{dec_lt}
 use native.Mathlib.Numerals.{add-one}
 use native.Mathlib.Omega.{arith}
-use borrow.Author.Tests.{eqb-true, eq-eqb, ne_eqb}
-use lib.Dec.{eqb}
-use lib.ListN.{length, drop, get_or, length-map, drop_of_length-le, get_or-map, get_or-eq_default}
+use borrow.Author.Tests.{eqb-true, eq-eqb, ne_eqb, leb-true}
+use lib.Dec.{eqb, leb}
+use lib.ListN.{length, drop, get_or, length-map, drop_of_length-le, get_or-map}
 use lib.Seq.{drop-cons}
-use Rattle.nets.specs.Bits.{Bits, bits}
-use Rattle.nets.specs.Lists.{any_of}
+use Rattle.std.proofs.lemmas.List.{get_or_default}
+use Rattle.nets.specs.Bits.{Bits}
+use Rattle.nets.specs.Lists.{any_of, within}
 use Rattle.nets.specs.Networks.{width, net_bits, no_net, in_range, refusal_of, bits_left, no_bits, start_of, prefix_as}
 use Rattle.nets.specs.Refusals.{number, answered}
 use Rattle.nets.specs.declared.Net.{Net}
-use Rattle.nets.specs.declared.Prefix.{Prefix}
-use Rattle.nets.specs.declared.Prefix.TheVariants as prefix
 use Rattle.nets.specs.declared.PrefixBits.{PrefixBits}
 use Rattle.nets.specs.declared.Refusal.{Refusal}
 use Rattle.nets.proofs.Strings.{and_left, and_right}
+use Rattle.nets.proofs.TrieOf.{is_list-within}
+use Rattle.nets.proofs.Handing.{length-bits_left}
+use Rattle.inner_nets.proofs.InnerLists.{is_list-inner}
 use Rattle.nets.proofs.Numbers.{start_of-few, bits_left-start}
 use Rattle.nets.proofs.Answers.{number-some, prefix-bits, prefix-refused}
 use Rattle.inner_nets.specs.Inner.{overlap, overlaps_one, overlaps, inner_nets4, inner_nets6, inner_nets, inner, is_public}
+use Rattle.std.specs.Prelude.{Result, Ok, Err, IsOk}
+use borrow.Author.Rules.{rules}
 
 module _ (f : ℕ) where
   pub inner_nets-4 : f ≡ 4 → inner_nets f ≡ inner_nets4
@@ -53,69 +56,92 @@ every-inner f = go (eqb f 4)
     go true = refl
     go false = refl
 
--- Their bits, where the bits of n are asked for.
-module _ (f i : ℕ) (n : Net) (en : n ≡ get_or (inner_nets f) i no_net) (p : Prefix) (e : prefix_as p ≡ answered (refusal_of n) no_bits (start_of n)) where
-  pub bits-found : (s : PrefixBits) → p ≡ prefix.Bits s → (s.len ≤ 128) × (bits_left s ≡ get_or (inner f) i [])
-  unfolding inner net_bits
-  bits-found s h =
-      let (z, q) = prefix-bits n p s e h in
-      rw q (start_of-few n z, bits_left-start n z ∙ ap net_bits en ∙ sym (get_or-map net_bits (inner_nets f) i no_net))
+within-at : (w : ℕ) (l : List Bits) (i : ℕ) → within w l ≡ true → length (get_or l i []) ≤ w
+within-at w [] i h = omega arith
+within-at w (p ∷ l) zero h = leb-true (length p) w (and_left (leb (length p) w) (within w l) h)
+within-at w (p ∷ l) (suc i) h = within-at w l i (and_right (leb (length p) w) (within w l) h)
 
-  pub bits_none : (x : Refusal) → p ≡ prefix.Refused x → bits_left no_bits ≡ get_or (inner f) i []
-  unfolding bits_left inner
-  bits_none x h =
-      elim (dec_lt i (length (inner_nets f))) [
-        | yes l ↦ absurd (number-some x (sym (prefix-refused n p x e h) ∙ rw en (every-at (inner_nets f) i (every-inner f) l)))
-        | no l ↦ sym (get_or-eq_default (map net_bits (inner_nets f)) [] (omega (arith, length-map (inner_nets f) net_bits)))
-      ]
+short : (f i : ℕ) (s : PrefixBits) → s.len ≤ 128 → bits_left s ≡ get_or (inner f) i [] → s.len ≤ width f
+short f i s h e = omega (arith, length-bits_left s h, ap length e, within-at (width f) (inner f) i (is_list-within (width f) (inner f) (is_list-inner f)))
+
+-- The network at number k, whose bits are asked for: it has some, s.
+pub record Turn (f k : ℕ) (s : PrefixBits) : Type 0 where
+  pub within : k < length (inner_nets f)
+  pub few : s.len ≤ 128
+  pub fits : s.len ≤ width f
+  pub here : bits_left s ≡ get_or (inner f) k []
+
+IsOk-some : (p : Result PrefixBits Refusal) → ((x : Refusal) → p ≡ Err x → ⊥) → IsOk p
+IsOk-some (Ok s) h = search rules
+IsOk-some (Err x) h = absurd (h x refl)
+
+module _ (f k : ℕ) (xs : List Net) (d : Net) (p : Result PrefixBits Refusal) (eq : xs ≡ inner_nets f) (lt : k < length xs)
+    (e : prefix_as p ≡ answered (refusal_of (get_or xs k d)) no_bits (start_of (get_or xs k d))) where
+  same : get_or xs k d ≡ get_or (inner_nets f) k no_net
+  same = get_or_default xs k d no_net lt ∙ ap (λ l. get_or l k no_net) eq
+
+  inside : k < length (inner_nets f)
+  inside = rw eq at lt
+
+  some : (x : Refusal) → p ≡ Err x → ⊥
+  some x h = number-some x (sym (prefix-refused _ p x e h) ∙ ap refusal_of same ∙ every-at (inner_nets f) k (every-inner f) inside)
+
+  pub turn-ok : IsOk p
+  turn-ok = IsOk-some p some
+
+  pub turn : (s : PrefixBits) → p ≡ Ok s → Turn f k s
+  unfolding inner net_bits
+  turn s h =
+      let n = get_or xs k d in
+      let (z, q) = prefix-bits n p s e h in
+      let few : s.len ≤ 128 = rw q (start_of-few n z) in
+      let here : bits_left s ≡ get_or (inner f) k [] = rw q (bits_left-start n z ∙ ap net_bits same ∙ sym (get_or-map net_bits (inner_nets f) k no_net)) in
+      record { within = inside; few = few; fits = short f k s few here; here = here }
 
 -- A search through the inner networks for one of which g holds: those from number k on are left.
 pub record Left (f : ℕ) (g : Bits → Bool) (k : ℕ) : Type 0 where
   pub same : any_of g (inner f) ≡ any_of g (drop k (inner f))
 
-module _ (f : ℕ) (g : Bits → Bool) where
-  pub left-start : Left f g 0
-  left-start = record { same = refl }
+pub left-start : (f : ℕ) (g : Bits → Bool) → Left f g 0
+left-start f g = record { same = refl }
 
-  module _ (k n : ℕ) (d : Left f g k) (en : n ≡ length (inner_nets f)) where
-    count : length (inner f) ≡ n
-    unfolding inner
-    count = length-map (inner_nets f) net_bits ∙ sym en
+count : (f : ℕ) → length (inner f) ≡ length (inner_nets f)
+unfolding inner
+count f = length-map (inner_nets f) net_bits
 
-    pub left-done : n ≤ k → any_of g (inner f) ≡ false
-    left-done h = d.same ∙ rw (drop_of_length-le (inner f) {i = k} (omega (arith, count)))
+module _ {f : ℕ} {g : Bits → Bool} {k : ℕ} (o : Left f g k) where
+  pub left-done : {xs : List Net} → xs ≡ inner_nets f → length xs ≤ k → true ≡ not (any_of g (inner f))
+  left-done e h =
+      let past : length (inner f) ≤ k = omega (arith, count f, ap length e) in
+      rw (o.same, drop_of_length-le (inner f) {i = k} past)
 
-    module _ (q : Bits) (eq : q ≡ get_or (inner f) k []) (h : k < n) where
-      next : any_of g (inner f) ≡ (g q || any_of g (drop (suc k) (inner f)))
-      next = d.same ∙ rw (drop-cons (inner f) k [] (omega (arith, count)), eq)
+  module _ {s : PrefixBits} (u : Turn f k s) where
+    next : any_of g (inner f) ≡ (g (bits_left s) || any_of g (drop (suc k) (inner f)))
+    next = o.same ∙ rw (drop-cons (inner f) k [] (omega (arith, count f, u.within)), u.here)
 
-      pub left-found : g q ≡ true → any_of g (inner f) ≡ true
-      left-found e = next ∙ rw e
+    pub left-found : g (bits_left s) ≡ true → false ≡ not (any_of g (inner f))
+    left-found e = rw (next, e)
 
-      pub left-next : g q ≡ false → Left f g (k + 1)
-      left-next e = record { same = rw add-one (next ∙ rw e) }
+    pub left-next : g (bits_left s) ≡ false → Left f g (k + 1)
+    left-next e = record { same = rw add-one (next ∙ rw e) }
 
 -- Whether a list is public, by such a search.
-pub is_public-found : (f : ℕ) (l : List Bits) → any_of (overlaps_one l) (inner f) ≡ true → false ≡ is_public f l
+pub is_public-none : (f : ℕ) (l : List Bits) (r : Bool) → r ≡ not (any_of (overlaps_one l) (inner f)) → r ≡ is_public f l
 unfolding is_public overlaps
-is_public-found f l e = rw e
+is_public-none f l r e = e
 
-pub is_public-none : (f : ℕ) (l : List Bits) → any_of (overlaps_one l) (inner f) ≡ false → true ≡ is_public f l
-unfolding is_public overlaps
-is_public-none f l e = rw e
-
-pub overlaps_one-one : (p q : Bits) → overlaps_one (p ∷ []) q ≡ overlap p q
-overlaps_one-one p q = or-false (overlap p q)
+pub overlaps_one-of : (p q : Bits) (r : Bool) → r ≡ overlap p q → r ≡ overlaps_one (p ∷ []) q
+overlaps_one-of p q r e = e ∙ sym (or-false (overlap p q))
 
 -- Of a network.
-module _ (n : Net) (p : Prefix) (e : prefix_as p ≡ answered (refusal_of n) no_bits (start_of n)) where
-  pub net-few : (s : PrefixBits) → p ≡ prefix.Bits s → s.len ≤ 128
+module _ (n : Net) (p : Result PrefixBits Refusal) (e : prefix_as p ≡ answered (refusal_of n) no_bits (start_of n)) where
+  pub net-few : (s : PrefixBits) → p ≡ Ok s → s.len ≤ 128
   net-few s h = let (z, q) = prefix-bits n p s e h in rw q (start_of-few n z)
 
-  pub net-clear : (s : PrefixBits) → p ≡ prefix.Bits s → (r : Bool) → r ≡ is_public n.family (bits_left s ∷ []) → r ≡ (eqb (refusal_of n) 0 && is_public n.family (net_bits n ∷ []))
+  pub net-clear : (s : PrefixBits) → p ≡ Ok s → (r : Bool) → r ≡ is_public n.family (bits_left s ∷ []) → r ≡ (eqb (refusal_of n) 0 && is_public n.family (net_bits n ∷ []))
   net-clear s h r k = let (z, q) = prefix-bits n p s e h in k ∙ rw (eq-eqb (refusal_of n) 0 z, q, bits_left-start n z)
 
-  pub net-refused : (x : Refusal) → p ≡ prefix.Refused x → false ≡ (eqb (refusal_of n) 0 && is_public n.family (net_bits n ∷ []))
+  pub net-refused : (x : Refusal) → p ≡ Err x → false ≡ (eqb (refusal_of n) 0 && is_public n.family (net_bits n ∷ []))
   net-refused x h = rw (prefix-refused n p x e h, ne_eqb (number x) 0 (number-some x))
 
 -- and where the numbers are known to be a network

@@ -1,31 +1,13 @@
 // The bits of the inner networks, and whether two networks overlap, by the words of their bits.
-ghost use Rattle.std.specs.Prelude.{◌≡◌, [], ◌∷◌, ◌≤◌, ◌/◌, ◌^◌, min, eqb, get_or};
-ghost use Rattle.nets.specs.Networks.{bits_left};
+ghost use Rattle.std.specs.Prelude.{◌≡◌, not, [], ◌∷◌, ◌≤◌, ◌/◌, ◌^◌, Bool, eqb};
+ghost use Rattle.nets.specs.Bits.{Bits};
+ghost use Rattle.nets.specs.Lists.{any_of};
+ghost use Rattle.nets.specs.Networks.{width, bits_left};
 ghost use Rattle.inner_nets.specs.Inner.{overlap, inner, is_public};
+ghost use Rattle.inner_nets.specs.Parts.{Tests};
 
-use crate::{inner_count, inner_net};
-use nets::{Prefix, PrefixBits};
-
-// The bits of the inner network number i of the family, and none past the last.
-pub fn inner_bits(family: u32, i: usize) -> PrefixBits
-    ensures { (result.len ≤ 128) × (bits_left result ≡ get_or (inner family) i []) }
-{
-    let p = inner_net(family, i).prefix_bits();
-    match p {
-        Prefix::Bits(s) => s,
-        Prefix::Refused(_) => PrefixBits {
-            hi: 0,
-            lo: 0,
-            len: 0,
-        },
-    }
-}
-
-fn least(x: u8, y: u8) -> u8
-    ensures { result ≡ min x y }
-{
-    if x < y { x } else { y }
-}
+use crate::inner_nets;
+use nets::PrefixBits;
 
 // Two words agree in all but their k low bits.
 fn agree(x: u64, y: u64, k: u8) -> bool
@@ -39,7 +21,7 @@ pub fn overlap(p: PrefixBits, q: PrefixBits) -> bool
     requires { (p.len ≤ 128) × (q.len ≤ 128) }
     ensures { result ≡ overlap (bits_left p) (bits_left q) }
 {
-    let k = 128 - least(p.len, q.len);
+    let k = 128 - p.len.min(q.len);
     if k < 64 {
         if p.hi != q.hi {
             return false;
@@ -49,19 +31,23 @@ pub fn overlap(p: PrefixBits, q: PrefixBits) -> bool
     agree(p.hi, q.hi, k - 64)
 }
 
+// No inner network of the family meets the test, which is asked of the bits of one after another.
+pub fn none_meets<F: Fn(PrefixBits) -> bool>(family: u32, meets: F) -> bool
+    requires { (s : _) → s.len ≤ 128 → s.len ≤ width family → F.pre meets s }
+    ensures { (g : Bits → Bool) → Tests (F.post meets) g → result ≡ not (any_of g (inner family)) }
+{
+    for net in inner_nets(family) {
+        if meets(net.prefix_bits().unwrap()) {
+            return false;
+        }
+    }
+    true
+}
+
 // The network of these bits overlaps no inner network of the family.
 pub fn is_clear(s: PrefixBits, family: u32) -> bool
     requires { s.len ≤ 128 }
     ensures { result ≡ is_public family (bits_left s ∷ []) }
 {
-    let n = inner_count(family);
-    let mut k = 0;
-    while k < n {
-        let q = inner_bits(family, k);
-        if overlap(s, q) {
-            return false;
-        }
-        k += 1;
-    }
-    true
+    none_meets(family, |q| overlap(s, q))
 }

@@ -42,6 +42,7 @@ fn blocks(w: &mut [u32], family: u8, b: usize, i: usize, path: Net, q: Net)
         → w.new ≡ put w.old (spot family b i) (kept_enc family p (remove_t r leaf)) }
 {
     let mut k = i;
+    // The network itself counts the turns: it is a bit longer after each.
     let mut x = path;
     while x.len + 1 < q.len {
         let bit = bit_at(q, x.len);

@@ -1,6 +1,6 @@
 -- The network of the first bits of a network: it is granted, and clearing leaves just those bits. Assumes nothing.
 use mathlib.Core.List.{◌++◌}
-use mathlib.Core.Path.{◌≡◌, sym, ap, ◌∙◌}
+use mathlib.Core.Path.{◌≡◌, refl, sym, ap, ◌∙◌}
 use Prim.Native.Nat.{ℕ, ◌≤◌}
 use native.Mathlib.Omega.{arith}
 use lib.ListN.{length, take, length-append}
@@ -9,13 +9,13 @@ use Rattle.nets.specs.Bits.{Bits, bits}
 use Rattle.nets.specs.Networks.{width, address, net_bits, net_from, refusal_of, no_net, taken_as, with_len, with_len_no, cleared}
 use Rattle.nets.specs.Refusals.{answered}
 use Rattle.nets.specs.declared.Net.{Net}
-use Rattle.nets.specs.declared.Taken.{Taken}
-use Rattle.nets.specs.declared.Taken.TheVariants as taken
 use Rattle.nets.specs.declared.Refusal.{Refusal}
 use Rattle.nets.proofs.Numbers.{net_bits-net_from, refusal_of-net_from, refusal_of-is, is-refusal_of, width-le}
 use Rattle.nets.proofs.Answers.{number-some, taken-network, with_len_no-net}
 use Rattle.trie_paths.proofs.Paths.{path-is}
 use Rattle.kept_build.specs.Building.{Begins}
+use Rattle.std.specs.Prelude.{Result, Ok, Err}
+use Rattle.std.specs.Result.{result_unwrap_or}
 
 net_bits-with : (n : Net) (k : ℕ) → k ≤ n.len → net_bits (with_len n k) ≡ take k (net_bits n)
 unfolding net_bits
@@ -45,9 +45,16 @@ module _ {f : ℕ} {n : Net} {s : Bits} (g : Begins f n s) where
         let x : net_bits (with_len n k) ≡ s = net_bits-with n k few ∙ ap (take k) b ∙ take_at s g.behind k (sym e) in
         rw (x, (path-is n f (s ++ g.behind) g.net).1)
 
-    module _ {t : Taken} (a : taken_as t ≡ answered (with_len_no n k) no_net (cleared (with_len n k))) where
-      pub begins-taken : (m : Net) → t ≡ taken.Network m → m ≡ net_from f s
+    module _ (t : Result Net Refusal) (a : taken_as t ≡ answered (with_len_no n k) no_net (cleared (with_len n k))) where
+      begins-taken : (m : Net) → t ≡ Ok m → m ≡ net_from f s
       begins-taken m h = (taken-network t (with_len_no n k) (cleared (with_len n k)) m a h).1 ∙ cleared-is
 
-      pub begins-refused : (x : Refusal) → t ≡ taken.Refused x → ⊥
+      begins-refused : (x : Refusal) → t ≡ Err x → ⊥
       begins-refused x h = number-some x (ap (λ p. p.0) (sym (ap taken_as h) ∙ a) ∙ granted)
+
+      pub begins-or : result_unwrap_or t n ≡ net_from f s
+      begins-or = go t refl
+        where
+          go : (r : Result Net Refusal) → t ≡ r → result_unwrap_or t n ≡ net_from f s
+          go (Ok m) h = rw h (begins-taken m h)
+          go (Err x) h = absurd (begins-refused x h)

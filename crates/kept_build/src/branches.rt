@@ -8,7 +8,7 @@ ghost use Rattle.kept_writing.specs.Writes.{Writable};
 ghost use Rattle.kept_build.specs.Building.{Begins};
 
 use kept_writing::write_node;
-use nets::{Net, Taken};
+use nets::Net;
 use setfile_order::Head;
 
 // The network of the first bits of a network, so many.
@@ -16,11 +16,7 @@ fn leading(n: Net, len: u8) -> Net
     requires { (f : ℕ) × (s : Bits) × Begins f n s × (len ≡ length s) }
     ensures { (f : ℕ) (s : Bits) → Begins f n s → len ≡ length s → result ≡ net_from f s }
 {
-    let t = n.with_new_prefix(len);
-    match t {
-        Taken::Network(m) => m,
-        Taken::Refused(_) => n,
-    }
+    n.with_new_prefix(len).unwrap_or(n)
 }
 
 // Writes at node i the branch point at which the head leaves the network before it; its first child is at node m.

@@ -19,7 +19,7 @@ use nets::Net;
 fn flat_size(full: bool) -> usize
     ensures { result ≡ flat_size full }
 {
-    if full { 1 } else { 0 }
+    usize::from(full)
 }
 
 // The nodes of the half that is not on the side of the bit, below the branch point i, whose first half begins at node m.
@@ -56,8 +56,12 @@ pub fn change_size(
         Plan::Flat => flat_size(into),
         Plan::Halve => 2 * (q.len - d) as usize - 1,
         Plan::Fork(_) => e - i + 2,
-        Plan::Drop(bit, m) => other_size(bit, i, m, e),
-        Plan::Down(bit, a, m) => {
+        Plan::Drop { bit, first: m } => other_size(bit, i, m, e),
+        Plan::Down {
+            bit,
+            second: a,
+            first: m,
+        } => {
             let h = half_of(bit, a, m, e);
             let k = change_size(w, family, b, n, h.from, h.to, d + 1, q, into);
             k + (e - i) - (h.to - h.from)
@@ -89,8 +93,12 @@ pub fn change(
         Plan::Flat => flat(w, family, b, i, e, u, q, into),
         Plan::Halve => halve(w, family, b, i, e, u, path, q),
         Plan::Fork(bit) => fork(w, family, b, i, e, u, path, q, bit),
-        Plan::Drop(bit, m) => drop_half(w, family, b, i, m, e, u, bit),
-        Plan::Down(bit, a, m) => {
+        Plan::Drop { bit, first: m } => drop_half(w, family, b, i, m, e, u, bit),
+        Plan::Down {
+            bit,
+            second: a,
+            first: m,
+        } => {
             let h = half_of(bit, a, m, e);
             let z = change(w, family, b, n, h.from, h.to, u, child(path, bit), q, into);
             relink(w, family, b, i, a, m, e, z, bit, path)

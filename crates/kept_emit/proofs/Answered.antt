@@ -17,6 +17,7 @@ use Rattle.nets.proofs.Listing.{leaf-is}
 use Rattle.nodes.specs.Words.{put}
 use Rattle.nodes.proofs.Put.{put-nil, put-swap, put-before-at}
 use Rattle.nodes.proofs.Tries.{some}
+use Rattle.trie_emit.specs.Answers.{is_full}
 use Rattle.trie_emit.proofs.Answers.{by_kind, by-glue}
 use Rattle.trie_paths.specs.Spans.{snoc}
 use Rattle.trie_paths.proofs.Paths.{path-is, length-snoc}
@@ -25,9 +26,9 @@ use Rattle.branch_points.proofs.Sizes.{kept_size-some, kept_size-none, kept_size
 use Rattle.kept_nodes.specs.Parse.{KeptRoom}
 use Rattle.kept_nodes.specs.Words.{stride, node_words, distance, kept_enc, spot}
 use Rattle.kept_nodes.proofs.Places.{spot_on, spot-next, spot-within, spot-before, room-put, length-node_words, length-kept_enc, kept_enc-leaf, kept_enc-none}
-use Rattle.kept_emit.specs.Answers.{answer, body, Emits, size_of, rest_of, is_full, Both, Pending, top_words}
-use Rattle.kept_emit.specs.declared.emitting.Emitted.{Emitted}
-use Rattle.kept_emit.specs.declared.emitting.Emitted.TheVariants.{Empty, Full, Node}
+use Rattle.kept_emit.specs.Answers.{answer, body, Emits, size_of, rest_of, Both, Pending, top_words}
+use Rattle.trie_emit.specs.declared.emitting.Emitted.{Emitted}
+use Rattle.trie_emit.specs.declared.emitting.Emitted.TheVariants.{Empty, Full, Node}
 
 answer-node : (l r : Trie) → bare l r ≡ false → answer (node l r) ≡ Node (kept_size (node l r))
 unfolding answer
@@ -40,6 +41,12 @@ size-answer = by_kind (λ t. size_of (answer t) ≡ kept_size t) refl refl (λ l
 full-answer : (t : Trie) → is_full (answer t) ≡ is_leaf t
 unfolding answer
 full-answer = by_kind (λ t. is_full (answer t) ≡ is_leaf t) refl refl (λ l r e. rw (answer-node l r e, e))
+
+-- no answer but a leaf's leaves words to write
+pub rest-none : (f : ℕ) (p : Bits) (x : Emitted) → (x ≡ Full → ⊥) → rest_of f p x ≡ []
+rest-none f p Empty n = refl
+rest-none f p Full n = absurd (n refl)
+rest-none f p (Node k) n = refl
 
 pub size_is : (x : Emitted) (t : Trie) → x ≡ answer t → size_of x ≡ kept_size t
 size_is x t e = rw e (size-answer t)

@@ -30,8 +30,8 @@ use Rattle.kept_nodes.proofs.Places.{spot_on, spot-le, spot-end, length-kept_enc
 use Rattle.kept_sources.specs.Sources.{KeptHere, KeptMeans, nothing, everything, standing}
 use Rattle.kept_emit.specs.Answers.{said, answer, body, Emits, size_of, Both, Pending}
 use Rattle.kept_emit.specs.Combine.{Inputs, KeptGap}
-use Rattle.kept_emit.specs.declared.emitting.Emitted.{Emitted}
-use Rattle.kept_emit.specs.declared.emitting.Emitted.TheVariants.{Empty, Full}
+use Rattle.trie_emit.specs.declared.emitting.Emitted.{Emitted}
+use Rattle.trie_emit.specs.declared.emitting.Emitted.TheVariants.{Empty, Full}
 use Rattle.kept_emit.proofs.Answered.{size_is}
 
 module _ {f : ℕ} {w : List ℕ} {b n o e : ℕ} {p : Bits} where
@@ -118,6 +118,12 @@ pub record Halving (f : ℕ) (w : List ℕ) (b n op a c o e : ℕ) (p : Bits) (f
   pub mixes : verdict (op_of op) (kind_of t) (kind_of u) ≡ mixed
   pub left : KeptMeans f w b n o e (snoc p false) al (half false t) × KeptMeans f w b n o e (snoc p false) cl (half false u)
   pub right : KeptMeans f w b n o e (snoc p true) ar (half true t) × KeptMeans f w b n o e (snoc p true) cr (half true u)
+
+pub halving : {f : ℕ} {w : List ℕ} {b n a c o e : ℕ} {p : Bits} {fuel : ℕ} {t u : Trie} {al cl ar cr : ℕ} → Inputs f w b n a c o e p fuel t u → (op v : ℕ)
+    → v ≡ rank (verdict (op_of op) (kind_of t) (kind_of u)) → (v ≡ 0 → ⊥) → (v ≡ 2 → ⊥)
+    → KeptMeans f w b n o e (snoc p false) al (half false t) × KeptMeans f w b n o e (snoc p false) cl (half false u)
+    → KeptMeans f w b n o e (snoc p true) ar (half true t) × KeptMeans f w b n o e (snoc p true) cr (half true u) → Halving f w b n op a c o e p fuel t u al cl ar cr
+halving s op v told nz nf l r = record { src = s; mixes = op-mixed s op v told nz nf; left = l; right = r }
 
 module _ {f : ℕ} {w : List ℕ} {b n op a c o e : ℕ} {p : Bits} {fuel : ℕ} {t u : Trie} {al cl ar cr : ℕ} (d : Halving f w b n op a c o e p fuel t u al cl ar cr) where
   deeper : 1 ≤ fuel - 1

@@ -15,8 +15,8 @@ use Rattle.trie_emit.specs.Answers.{body_of}
 use Rattle.trie_paths.specs.Spans.{snoc}
 use Rattle.branch_points.specs.KeptTries.{kept_size}
 use Rattle.kept_nodes.specs.Words.{node_words, own_words, kept_enc, spot}
-use Rattle.kept_emit.specs.declared.emitting.Emitted.{Emitted}
-use Rattle.kept_emit.specs.declared.emitting.Emitted.TheVariants.{Empty, Full, Node}
+use Rattle.trie_emit.specs.declared.emitting.Emitted.{Emitted}
+use Rattle.trie_emit.specs.declared.emitting.Emitted.TheVariants.{Empty, Full, Node}
 
 abbrev pub said : Kind → ℕ → Emitted
 said (flat false) k = Empty
@@ -33,7 +33,7 @@ pub record Emits (f : ℕ) (w v : List ℕ) (b : ℕ) (p : Bits) (e : ℕ) (x : 
   pub answers : x ≡ answer t
   pub wrote : v ≡ put w (spot f b (e - kept_size t)) (body f p t)
 
--- what an answer says: the size, the words that are left to write, and that it is a leaf
+-- what an answer says: the size, and the words that are left to write; trie_emit says that it is a leaf
 abbrev pub size_of : Emitted → ℕ
 size_of Empty = 0
 size_of Full = 1
@@ -43,11 +43,6 @@ abbrev pub rest_of : ℕ → Bits → Emitted → List ℕ
 rest_of f p Empty = []
 rest_of f p Full = node_words f p 0
 rest_of f p (Node k) = []
-
-abbrev pub is_full : Emitted → Bool
-is_full Empty = false
-is_full Full = true
-is_full (Node k) = false
 
 -- x and y are the answers of l and r
 pub record Both (x y : Emitted) (l r : Trie) : Type 0 where

@@ -15,11 +15,12 @@ ghost use Rattle.kept_sources.specs.Sources.{KeptMeans};
 ghost use Rattle.kept_emit.specs.Answers.{answer, Emits};
 ghost use Rattle.kept_emit.specs.Combine.{Inputs, KeptGap};
 
-use crate::emitting::{Emitted, answer_over, beginning_before, finish, settle, size_of};
+use crate::emitting::{answer_over, finish, settle, size_of};
 use kept_reading::strings::child;
 use kept_sources::{kind, piece};
 use nets::Net;
 use trie_emit::combining::{EMPTY, FULL, Pair, settled};
+use trie_emit::emitting::Emitted;
 use trie_paths::halves::whole;
 
 // What the operation makes of the kinds of what two numbers mean below a string of d bits, where that settles it.
@@ -139,7 +140,8 @@ pub fn emit(
     let q = halves(w, family, b, n, a, c, d, true);
     let first = child(path, false);
     let l = emit(w, family, b, n, op, p.a, p.c, e, first, fuel - 1);
-    let m = beginning_before(l, e);
+    // 0 where it has no place, being a leaf that will be joined.
+    let m = e.saturating_sub(size_of(l));
     let second = child(path, true);
     let r = emit(w, family, b, n, op, q.a, q.c, m, second, fuel - 1);
     finish(w, family, b, op != 3, e, l, r, path)

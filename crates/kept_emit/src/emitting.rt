@@ -6,19 +6,12 @@ ghost use Rattle.nets.specs.Tries.{Trie, glue};
 ghost use Rattle.nets.specs.Networks.{width, net_from};
 ghost use Rattle.nodes.specs.Words.{put};
 ghost use Rattle.kept_nodes.specs.Words.{spot, stride};
-ghost use Rattle.kept_emit.specs.Answers.{answer, Emits, size_of, rest_of, is_full, Both, Pending, top_words};
+ghost use Rattle.kept_emit.specs.Answers.{answer, Emits, size_of, rest_of, Both, Pending, top_words};
 
 use kept_reading::strings::child;
 use kept_writing::write_node;
 use nets::Net;
-
-// What was written of a trie: nothing, as it is empty; nothing, as it is a single leaf; or that many nodes.
-#[derive(Clone, Copy)]
-pub enum Emitted {
-    Empty,
-    Full,
-    Node(usize),
-}
+use trie_emit::emitting::{Emitted, joins};
 
 // How many nodes the trie has.
 pub fn size_of(x: Emitted) -> usize
@@ -29,40 +22,6 @@ pub fn size_of(x: Emitted) -> usize
         Emitted::Full => 1,
         Emitted::Node(k) => k,
     }
-}
-
-// Where the trie begins that ends before node e; 0 where it has no place, being a leaf that will be joined.
-pub fn beginning_before(x: Emitted, e: usize) -> usize
-    ensures { result ≡ e - size_of x }
-{
-    let k = size_of(x);
-    if e < k {
-        return 0;
-    }
-    e - k
-}
-
-fn is_full(x: Emitted) -> bool
-    ensures { result ≡ is_full x }
-{
-    match x {
-        Emitted::Empty => false,
-        Emitted::Full => true,
-        Emitted::Node(_) => false,
-    }
-}
-
-// Two full halves that are to be joined.
-fn joins(joined: bool, l: Emitted, r: Emitted) -> bool
-    ensures { result ≡ (joined && (is_full l && is_full r)) }
-{
-    if !joined {
-        return false;
-    }
-    if !is_full(l) {
-        return false;
-    }
-    is_full(r)
 }
 
 // The answer of a node by the answers of its children.
@@ -92,10 +51,8 @@ pub fn settle(w: &mut [u32], family: u8, b: usize, i: usize, s: Net, x: Emitted)
     requires { (x ≡ Emitted.Full → (1 ≤ i) × (spot family b i + stride family ≤ length w.old)) × ((i < 1073741824) × (b < 1073741824)) }
     ensures { (p : Bits) → s ≡ net_from family p → length p ≤ width family → w.new ≡ put w.old (spot family b i) (rest_of family p x) }
 {
-    match x {
-        Emitted::Empty => {}
-        Emitted::Full => write_node(w, family, b, i, s, 0),
-        Emitted::Node(_) => {}
+    if let Emitted::Full = x {
+        write_node(w, family, b, i, s, 0);
     }
 }
 
@@ -132,8 +89,8 @@ pub fn finish(
         Emitted::Empty => x,
         Emitted::Full => x,
         Emitted::Node(_) => {
-            let m = beginning_before(l, e);
-            let o = beginning_before(r, m);
+            let m = e.saturating_sub(size_of(l));
+            let o = m.saturating_sub(size_of(r));
             let first = child(path, false);
             settle(w, family, b, m, first, l);
             let second = child(path, true);

@@ -9,7 +9,8 @@ use kept_reading::reading::{distance, net_at};
 use kept_reading::strings::{bit_at, leads};
 use nets::Net;
 
-// What a path shows: a member of that length, or nothing, each with how many nodes read lead the query; or damage.
+// What a path shows: a member of that length, or nothing, each with how many nodes read lead the query; or damage. Three outcomes, two of them with that
+// number: a Result of an Option would hold it in two places.
 #[derive(Clone, Copy)]
 pub enum Shown {
     Member(u8, u8),

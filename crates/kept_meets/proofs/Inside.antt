@@ -1,6 +1,6 @@
 -- The part of what a number means inside a network: down, bit by bit; and that the number of the part tells whether the network is overlapped. Assumes
 -- nothing.
-use mathlib.Core.Bool.{Bool, true, false}
+use mathlib.Core.Bool.{Bool, true, false, not}
 use mathlib.Core.List.{List, [], ◌∷◌, ◌++◌, append-nil, append_assoc}
 use mathlib.Core.Logic.{inr}
 use mathlib.Core.Path.{◌≡◌, refl, ap, sym, ◌∙◌}
@@ -64,11 +64,14 @@ module _ {f : ℕ} {w : List ℕ} {b n i at d : ℕ} {q p : Bits} (v : Way f w b
 
 -- The part is nothing exactly where the network is not overlapped.
 module _ {f : ℕ} {w : List ℕ} {b n o g r : ℕ} (q : Bits) (t : Trie) (m : KeptMeans f w b n o g q r (down q t)) where
+  pub part-told : not (eqb r 0) ≡ overlaps_one (list_of t) q
+  part-told = ap not (means-zero r (down q t) m) ∙ sym (overlaps_one-list_of t q)
+
   pub part_none : r ≡ 0 → overlaps_one (list_of t) q ≡ false
-  part_none z = overlaps_one-list_of t q ∙ rw (← means-zero r (down q t) m, z)
+  part_none z = sym part-told ∙ ap not (eq-eqb r 0 z)
 
   pub part-some : (r ≡ 0 → ⊥) → overlaps_one (list_of t) q ≡ true
-  part-some z = overlaps_one-list_of t q ∙ rw (← means-zero r (down q t) m, ne_eqb r 0 z)
+  part-some z = sym part-told ∙ ap not (ne_eqb r 0 z)
 
 -- A trie that stands among the nodes of a pool.
 pub stands-means : {f : ℕ} {w : List ℕ} {b n i : ℕ} (t : Trie) → 1 ≤ i → KeptStands f w b n [] i t → (t ≡ none → ⊥) → KeptMeans f w b n 0 0 [] i t

@@ -1,8 +1,8 @@
 -- A set operation on the parts of its two sources inside a network, in the second form: what its sources are, and what one step of it says. Assumes nothing.
-use mathlib.Core.Bool.{true, false, not}
+use mathlib.Core.Bool.{Bool, true, false, not}
 use mathlib.Core.List.{List, []}
-use mathlib.Core.Path.{◌≡◌, refl}
-use Prim.Native.Nat.{ℕ, ◌-◌, ◌<◌}
+use mathlib.Core.Path.{◌≡◌, refl, ap, ◌∙◌}
+use Prim.Native.Nat.{ℕ, ◌+◌, ◌-◌, ◌<◌}
 use native.Mathlib.Omega.{arith}
 use lib.ListN.{length}
 use Rattle.nets.specs.Bits.{Bits}
@@ -11,10 +11,12 @@ use Rattle.nets.specs.TrieOps.{kind_of, verdict}
 use Rattle.trie_emit.specs.Combine.{op_of, op_on, rank}
 use Rattle.inner_nets.specs.Parts.{down}
 use Rattle.trie_meets.proofs.Operation.{levels-down}
+use Rattle.trie_paths.specs.Spans.{snoc}
+use Rattle.trie_paths.proofs.Paths.{length-snoc}
 use Rattle.kept_sources.specs.Sources.{KeptMeans}
 use Rattle.kept_emit.specs.Answers.{answer}
 use Rattle.kept_emit.specs.Combine.{Inputs}
-use Rattle.kept_emit.specs.declared.emitting.Emitted.TheVariants.{Empty, Full}
+use Rattle.trie_emit.specs.declared.emitting.Emitted.TheVariants.{Empty, Full}
 use Rattle.kept_emit.proofs.Steps.{op-none, op-full}
 
 -- What an answer says of a trie.
@@ -38,6 +40,9 @@ module _ {f : ℕ} {w : List ℕ} {b n a c : ℕ} {p : Bits} {fuel : ℕ} {t u :
 
   pub leaves-full : v ≡ 2 → true ≡ not (is_none (op_on op fuel t u))
   leaves-full e = rw (answer-full (op_on op fuel t u) (op-full s op v told e).answers)
+
+pub deeper : {d : ℕ} (p : Bits) (x : Bool) → length p ≡ d → length (snoc p x) ≡ d + 1
+deeper p x q = length-snoc p x ∙ ap (λ (k : ℕ). k + 1) q
 
 -- The parts of the sources inside the network q.
 pub down-inputs : {f : ℕ} {w : List ℕ} {b n a c fuel : ℕ} {t u : Trie} → Inputs f w b n a c 0 0 [] fuel t u → (q : Bits) (k : ℕ) → k ≡ length q → k < fuel

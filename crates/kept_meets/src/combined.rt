@@ -9,8 +9,7 @@ ghost use Rattle.trie_emit.specs.Combine.{op_on};
 ghost use Rattle.kept_emit.specs.Combine.{Inputs};
 
 use crate::standing::inside;
-use inner_nets::inner_count;
-use inner_nets::walks::inner_bits;
+use inner_nets::walks::none_meets;
 use kept_emit::combining::{halves, outcome};
 use nets::PrefixBits;
 use trie_emit::combining::{EMPTY, FULL};
@@ -81,14 +80,8 @@ pub fn op_is_clear(
     requires inputs { (t : Trie) × (u : Trie) × Inputs family w.now b n first second 0 0 [] fuel t u }
     ensures { (t u : Trie) → Inputs family w.now b n first second 0 0 [] fuel t u → result ≡ is_public family (list_of (op_on op fuel t u)) }
 {
-    let m = inner_count(family as u32);
-    let mut k = 0;
-    while k < m {
-        let s = inner_bits(family as u32, k);
-        if meets(w, family, b, n, op, first, second, fuel, s) {
-            return false;
-        }
-        k += 1;
-    }
-    true
+    none_meets(
+        family as u32,
+        |s| meets(w, family, b, n, op, first, second, fuel, s),
+    )
 }

@@ -2,15 +2,14 @@
 ghost use Rattle.std.specs.Prelude.{◌≡◌, [], ℕ, ◌≤◌};
 ghost use Rattle.nets.specs.Networks.{bits_left};
 ghost use Rattle.nets.specs.Tries.{Trie, none, list_of};
-ghost use Rattle.inner_nets.specs.Inner.{is_public};
+ghost use Rattle.inner_nets.specs.Inner.{overlaps_one, is_public};
 ghost use Rattle.inner_nets.specs.Parts.{down};
 ghost use Rattle.kept_nodes.specs.Parse.{KeptRoom, KeptStands};
 ghost use Rattle.kept_sources.specs.Sources.{KeptMeans};
 
-use inner_nets::inner_count;
-use inner_nets::walks::inner_bits;
+use inner_nets::walks::none_meets;
 use kept_sources::piece;
-use nets::{NextBit, PrefixBits};
+use nets::PrefixBits;
 
 // The number of the part of what the number i means that lies inside the network of these bits. Where nothing is left the way ends.
 pub fn inside(w: &[u32], family: u8, b: usize, n: u32, i: usize, s: PrefixBits) -> usize
@@ -25,8 +24,8 @@ pub fn inside(w: &[u32], family: u8, b: usize, n: u32, i: usize, s: PrefixBits) 
         }
         let next = left.next();
         match next {
-            NextBit::End => return at,
-            NextBit::Bit(bit, later) => {
+            None => return at,
+            Some((bit, later)) => {
                 at = piece(w, family, b, n, at, s.len - left.len, bit);
                 left = later;
             }
@@ -34,21 +33,20 @@ pub fn inside(w: &[u32], family: u8, b: usize, n: u32, i: usize, s: PrefixBits) 
     }
 }
 
+// What the number i means overlaps the network of these bits.
+fn overlaps(w: &[u32], family: u8, b: usize, n: u32, i: usize, s: PrefixBits) -> bool
+    requires { (s.len ≤ 128) × (KeptRoom family w.now b n × ((o : ℕ) × (g : ℕ) × (t : Trie) × KeptMeans family w.now b n o g [] i t)) }
+    ensures { (o g : ℕ) (t : Trie) → KeptMeans family w.now b n o g [] i t → result ≡ overlaps_one (list_of t) (bits_left s) }
+{
+    inside(w, family, b, n, i, s) != 0
+}
+
 // What the number i means overlaps no inner network of the family.
 pub fn is_public(w: &[u32], family: u8, b: usize, n: u32, i: usize) -> bool
     requires { KeptRoom family w.now b n × ((o : ℕ) × (g : ℕ) × (t : Trie) × KeptMeans family w.now b n o g [] i t) }
     ensures { (o g : ℕ) (t : Trie) → KeptMeans family w.now b n o g [] i t → result ≡ is_public family (list_of t) }
 {
-    let m = inner_count(family as u32);
-    let mut k = 0;
-    while k < m {
-        let s = inner_bits(family as u32, k);
-        if inside(w, family, b, n, i, s) != 0 {
-            return false;
-        }
-        k += 1;
-    }
-    true
+    none_meets(family as u32, |s| overlaps(w, family, b, n, i, s))
 }
 
 // The trie that stands at node i, of the nodes 1..=n that stand from b on, overlaps no inner network of the family.

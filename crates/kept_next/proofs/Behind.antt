@@ -1,21 +1,21 @@
 -- The next member of the same length, from the node of a member on: what follows it in the list, since the members rise in address order from the last node
 -- to the first. Assumes nothing.
-use mathlib.Core.Bool.{Bool, true, false, not, or-true, false≢true}
+use mathlib.Core.Bool.{Bool, true, false, not, ◌&&◌, or-true, false≢true}
 use mathlib.Core.List.{List, [], ◌∷◌, ◌++◌}
 use mathlib.Core.Logic.{◌⊎◌, inl, inr}
 use mathlib.Core.Path.{◌≡◌, refl, sym, ap, ◌∙◌}
 use Prim.Native.Nat.{ℕ, zero, suc, ◌+◌, ◌-◌, ◌≤◌, ◌<◌, ◌^◌}
 use native.Mathlib.Decide.{dec_lt, ℕ_discrete}
 use native.Mathlib.Omega.{arith}
-use borrow.Author.Tests.{eq-eqb, ne_eqb, leb-true}
-use lib.Dec.{leb}
+use borrow.Author.Tests.{eq-eqb, ne_eqb, eqb-true, leb-true}
+use lib.Dec.{eqb, leb}
 use lib.ListN.{length}
 use Rattle.nets.specs.Bits.{Bits, equal, before}
 use Rattle.nets.specs.Lists.{member, next_l}
 use Rattle.nets.specs.Networks.{is_family, width, has_bit_past, net_words, net_bits}
 use Rattle.nets.specs.Tries.{Trie, list_of}
 use Rattle.nets.specs.declared.Net.{Net}
-use Rattle.nets.proofs.Strings.{and_left, or_cases}
+use Rattle.nets.proofs.Strings.{and_left, and_right, or_cases}
 use Rattle.nets.proofs.Listing.{member-list_of}
 use Rattle.nets.proofs.Members.{any_of-append}
 use Rattle.nets.proofs.Order.{key, key_one, key-shorter, before-lt, lt-before}
@@ -27,29 +27,30 @@ use Rattle.address_order.proofs.AddressOrder.{earlier-self, earlier-not}
 use Rattle.address_order.proofs.Rising.{Heads, Rise, member-cons, member-first, member-later}
 use Rattle.address_order.proofs.Flat.{member-flat, rise-flat}
 use Rattle.address_order.proofs.Lengths.{key-earlier}
-use Rattle.kept_nodes.specs.Parse.{head_at, len_at, dist_at, net_at, string_at}
-use Rattle.kept_nodes.proofs.NodeWords.{family-at, len-at}
+use Rattle.kept_nodes.specs.Parse.{head_at, dist_at, net_at, string_at}
 use Rattle.kept_reading.specs.NodeStrings.{IsString}
 use Rattle.kept_list.specs.Listed.{KeptHolds, KeptNode}
 use Rattle.kept_list.proofs.Scanned.{own, scanned, scanned-split, all-scanned, each-node}
 use Rattle.kept_list.proofs.Turns.{rest, rest-member, node-len}
 use Rattle.trie_next.specs.Following.{next_as}
-use Rattle.trie_next.specs.declared.following.Next.TheVariants.{Network}
 use Rattle.kept_next.specs.Nearest.{place_at}
 use Rattle.kept_next.specs.Lanes.{InLane, Behind}
 use Rattle.kept_next.proofs.Nearer.{follows-first}
+use Rattle.std.specs.Prelude.{Option, Some}
 
--- By the tests of the code: what node k says is the network x.
+-- Networks that the derived test takes for equal are one.
 same-net : (y x : Net) → y.family ≡ x.family → y.hi ≡ x.hi → y.lo ≡ x.lo → y.len ≡ x.len → y ≡ x
 same-net y x a c d e =
     ap (λ z. net_words z y.hi y.lo y.len) a ∙ ap (λ z. net_words x.family z y.lo y.len) c
     ∙ ap (λ z. net_words x.family x.hi z y.len) d ∙ ap (net_words x.family x.hi x.lo) e
 
-pub read_same : (f : ℕ) (w : List ℕ) (b k : ℕ) {x y : Net} → y ≡ net_at f w b k → x.family ≡ f → head_at f w b k ≡ x.len → x.len < 256 → y.hi ≡ x.hi
-    → y.lo ≡ x.lo → net_at f w b k ≡ x
-read_same f w b k {x} {y} is fam len few hi lo =
-    let l : len_at f w b k ≡ x.len = omega arith in
-    sym is ∙ same-net y x (ap (λ z. z.family) is ∙ family-at f w b k ∙ sym fam) hi lo (ap (λ z. z.len) is ∙ len-at f w b k ∙ l)
+pub equal-net : (y x : Net) → (eqb y.family x.family && (eqb y.hi x.hi && (eqb y.lo x.lo && eqb y.len x.len))) ≡ true → y ≡ x
+equal-net y x e =
+    let f = and_right (eqb y.family x.family) (eqb y.hi x.hi && (eqb y.lo x.lo && eqb y.len x.len)) e in
+    let g = and_right (eqb y.hi x.hi) (eqb y.lo x.lo && eqb y.len x.len) f in
+    same-net y x (eqb-true y.family x.family (and_left (eqb y.family x.family) (eqb y.hi x.hi && (eqb y.lo x.lo && eqb y.len x.len)) e))
+    (eqb-true y.hi x.hi (and_left (eqb y.hi x.hi) (eqb y.lo x.lo && eqb y.len x.len) f))
+    (eqb-true y.lo x.lo (and_left (eqb y.lo x.lo) (eqb y.len x.len) g)) (eqb-true y.len x.len (and_right (eqb y.lo x.lo) (eqb y.len x.len) g))
 
 pub entry-string : {f : ℕ} {x : Net} → is_family f ≡ true → Entry f x → x.lo < 2 ^ 64 → IsString x
 unfolding is_clean
@@ -240,7 +241,6 @@ module _ {f : ℕ} {w : List ℕ} {b n i e : ℕ} {t : Trie} (h : KeptHolds f w 
       }
 
 -- it is what follows
-pub behind-follows : {f : ℕ} {w : List ℕ} {b i e : ℕ} {t : Trie} {n : Net} {r : ℕ} → Behind f w b i e t n r → (y : Net) → y ≡ net_at f w b r → (x : Bool)
-    → x ≡ true
-    → Network y ≡ next_as f (next_l (list_of t) (place_at x n))
-behind-follows {t = t} g y is x on = rw (is, on) (follows-first t g.first (λ q. member-flat q t ∙ sym (member-list_of t q)))
+pub behind-follows : {f : ℕ} {w : List ℕ} {b i e : ℕ} {t : Trie} {n : Net} {r : ℕ} → Behind f w b i e t n r → (y : Net) → y ≡ net_at f w b r
+    → (last : Option Net) → last ≡ Some n → Some y ≡ next_as f (next_l (list_of t) (place_at last))
+behind-follows {t = t} g y is last on = rw (is, on) (follows-first t g.first (λ q. member-flat q t ∙ sym (member-list_of t q)))

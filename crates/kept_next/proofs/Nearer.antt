@@ -1,5 +1,5 @@
 -- One string more, and the nearest of all members: what follows in the list. Assumes nothing.
-use mathlib.Core.Bool.{Bool, true, false, not, ◌||◌, false≢true}
+use mathlib.Core.Bool.{Bool, true, false, ◌||◌, false≢true}
 use mathlib.Core.List.{List, ◌∷◌, ◌++◌}
 use mathlib.Core.Path.{◌≡◌, refl, sym, ap, ◌∙◌}
 use Prim.Native.Nat.{ℕ, suc, ◌+◌, ◌-◌, ◌≤◌, ◌<◌}
@@ -19,12 +19,11 @@ use Rattle.address_order.proofs.Flat.{member-flat}
 use Rattle.setfile_format.proofs.Written.{is_clean-net_from}
 use Rattle.setfile_entries.specs.Entries.{Entry}
 use Rattle.trie_next.specs.Following.{next_as}
-use Rattle.trie_next.specs.declared.following.Next.TheVariants.{Network, End}
 use Rattle.kept_nodes.specs.Parse.{net_at, string_at}
 use Rattle.kept_list.specs.Listed.{KeptHolds}
 use Rattle.kept_list.proofs.Scanned.{own, scanned, each-node, all-scanned}
-use Rattle.kept_next.specs.Nearest.{own_of, First, Nearest, Looks}
-use Rattle.kept_next.specs.declared.Best.{Best}
+use Rattle.kept_next.specs.Nearest.{comes_first, own_of, First, Nearest, Looks}
+use Rattle.std.specs.Prelude.{Option, Some, None}
 
 pub entry_of : (f : ℕ) (s : Bits) → is_family f ≡ true → length s ≤ width f → Entry f (net_from f s)
 unfolding net_from
@@ -33,8 +32,15 @@ entry_of f s fam le = record { family = refl; clean = is_clean-net_from f s le; 
 never_both : {X : Type 0} (x : Bool) → x ≡ true → x ≡ false → X
 never_both x a c = absurd (false≢true (sym c ∙ a))
 
+-- the nearest is n
+nearest-is : {f : ℕ} {p : Place} {ms : List Bits} {c : Option Net} (n : Net) → c ≡ Some n → First f p ms n → Nearest f p ms c
+nearest-is {f} {p} {ms} {c} n e h = rw e (record { none = λ o. absurd (cc o); first = λ m o. same m (cc o) })
+  where
+    same : (m : Net) → n ≡ m → First f p ms m
+    same m i = rw (← i) h
+
 -- s comes to ms
-module _ {f : ℕ} {p : Place} {ms : List Bits} {c : Best} (g : Nearest f p ms c) (s : Bits) where
+module _ {f : ℕ} {p : Place} {ms : List Bits} {c : Option Net} (g : Nearest f p ms c) (s : Bits) where
   -- what holds of s and of each of ms holds of each of both
   each : (P : Bits → Type 0) → P s → ((q : Bits) → member q ms ≡ true → P q) → (q : Bits) → member q (s ∷ ms) ≡ true → P q
   each P a h q e = go (equal q s) refl e
@@ -53,7 +59,7 @@ module _ {f : ℕ} {p : Place} {ms : List Bits} {c : Best} (g : Nearest f p ms c
   pub nearest-before : is_past p s ≡ false → Nearest f p (s ∷ ms) c
   nearest-before z = record {
     none = λ e. each (λ q. is_past p q ≡ false) z (g.none e);
-    first = λ e. let h = g.first e in record {
+    first = λ n e. let h = g.first n e in record {
       bits = h.bits;
       net = h.net;
       short = h.short;
@@ -63,18 +69,15 @@ module _ {f : ℕ} {p : Place} {ms : List Bits} {c : Best} (g : Nearest f p ms c
     };
   }
 
-  pub nearest-behind : (e : c.some ≡ true) → before s (g.first e).bits ≡ false → Nearest f p (s ∷ ms) c
-  nearest-behind e z = record {
-    none = λ o. never_both c.some e o;
-    first = λ _. let h = g.first e in record {
-      bits = h.bits;
-      net = h.net;
-      short = h.short;
-      among = more h.bits h.among;
-      past = h.past;
-      least = each (λ q. is_past p q ≡ true → before q h.bits ≡ false) (λ y. z) h.least;
-    };
-  }
+  pub nearest-behind : (n : Net) (e : c ≡ Some n) → before s (g.first n e).bits ≡ false → Nearest f p (s ∷ ms) c
+  nearest-behind n e z = nearest-is n e (let h = g.first n e in record {
+    bits = h.bits;
+    net = h.net;
+    short = h.short;
+    among = more h.bits h.among;
+    past = h.past;
+    least = each (λ q. is_past p q ≡ true → before q h.bits ≡ false) (λ y. z) h.least;
+  })
 
   module _ (n : Net) (is : n ≡ net_from f s) (le : length s ≤ width f) (on : is_past p s ≡ true) where
     self : before s s ≡ false
@@ -84,59 +87,56 @@ module _ {f : ℕ} {p : Place} {ms : List Bits} {c : Best} (g : Nearest f p ms c
         not-lt true e = absurd (omega (arith, before-lt s s e))
         not-lt false e = e
 
-    new : ((q : Bits) → member q ms ≡ true → is_past p q ≡ true → before q s ≡ false) → Nearest f p (s ∷ ms) (record { some = true; net = n })
-    new h = record {
-      none = λ o. absurd (false≢true (sym o));
-      first = λ _. record {
-        bits = s;
-        net = is;
-        short = le;
-        among = rw (equal-refl s);
-        past = on;
-        least = each (λ q. is_past p q ≡ true → before q s ≡ false) (λ y. self) h;
-      };
-    }
+    new : ((q : Bits) → member q ms ≡ true → is_past p q ≡ true → before q s ≡ false) → Nearest f p (s ∷ ms) (Some n)
+    new h = nearest-is n refl (record {
+      bits = s;
+      net = is;
+      short = le;
+      among = rw (equal-refl s);
+      past = on;
+      least = each (λ q. is_past p q ≡ true → before q s ≡ false) (λ y. self) h;
+    })
 
-    pub nearest-new : c.some ≡ false → Nearest f p (s ∷ ms) (record { some = true; net = n })
+    pub nearest-new : c ≡ None → Nearest f p (s ∷ ms) (Some n)
     nearest-new e = new (λ q m y. never_both (is_past p q) y (g.none e q m))
 
-    pub nearest-nearer : (e : c.some ≡ true) → before s (g.first e).bits ≡ true → Nearest f p (s ∷ ms) (record { some = true; net = n })
-    nearest-nearer e z = new (λ q m y. far q ((g.first e).least q m y))
+    pub nearest-nearer : (m : Net) (e : c ≡ Some m) → before s (g.first m e).bits ≡ true → Nearest f p (s ∷ ms) (Some n)
+    nearest-nearer m e z = new (λ q i y. far q ((g.first m e).least q i y))
       where
-        far : (q : Bits) → before q (g.first e).bits ≡ false → before q s ≡ false
+        far : (q : Bits) → before q (g.first m e).bits ≡ false → before q s ≡ false
         far q h = go (before q s) refl
           where
             go : (x : Bool) → before q s ≡ x → before q s ≡ false
-            go true k = absurd (omega (arith, before-lt q s k, before-lt s (g.first e).bits z, before-le q (g.first e).bits h))
+            go true k = absurd (omega (arith, before-lt q s k, before-lt s (g.first m e).bits z, before-le q (g.first m e).bits h))
             go false k = k
 
-pub near-entry : {f : ℕ} {p : Place} {ms : List Bits} {c : Best} → Nearest f p ms c → is_family f ≡ true → c.some ≡ true → Entry f c.net
-near-entry {f} g fam e = rw (g.first e).net (entry_of f (g.first e).bits fam (g.first e).short)
+pub near-entry : {f : ℕ} {p : Place} {ms : List Bits} {c : Option Net} → Nearest f p ms c → is_family f ≡ true → (n : Net) → c ≡ Some n → Entry f n
+near-entry {f} g fam n e = let h = g.first n e in rw h.net (entry_of f h.bits fam h.short)
 
 -- By the tests of the code: x says that s comes before the nearest so far.
-module _ {f : ℕ} {p : Place} {ms : List Bits} {c : Best} (g : Nearest f p ms c) (s : Bits) (x : Bool) (ex : x ≡ (not c.some || before s (net_bits c.net))) where
-  net-bits : (e : c.some ≡ true) → net_bits c.net ≡ (g.first e).bits
-  net-bits e = rw (g.first e).net (net_bits-net_from f (g.first e).bits (g.first e).short)
-
-  test-is : (e : c.some ≡ true) → x ≡ before s (g.first e).bits
-  test-is e = ex ∙ ap (λ y. not y || before s (net_bits c.net)) e ∙ ap (before s) (net-bits e)
+module _ {f : ℕ} {p : Place} {ms : List Bits} {c : Option Net} (g : Nearest f p ms c) (s : Bits) (x : Bool) (ex : x ≡ comes_first s c) where
+  test-is : (n : Net) (e : c ≡ Some n) → x ≡ before s (g.first n e).bits
+  test-is n e =
+      let h = g.first n e in
+      let b : net_bits n ≡ h.bits = ap net_bits h.net ∙ net_bits-net_from f h.bits h.short in
+      ex ∙ ap (comes_first s) e ∙ ap (before s) b
 
   pub turn-far : x ≡ false → Nearest f p (s ∷ ms) c
-  turn-far z = go c.some refl
+  turn-far z = go c refl
     where
-      go : (y : Bool) → c.some ≡ y → Nearest f p (s ∷ ms) c
-      go true e = nearest-behind g s e (sym (test-is e) ∙ z)
-      go false e = never_both x (ex ∙ ap (λ y. not y || before s (net_bits c.net)) e) z
+      go : (y : Option Net) → c ≡ y → Nearest f p (s ∷ ms) c
+      go (Some n) e = nearest-behind g s n e (sym (test-is n e) ∙ z)
+      go None e = never_both x (ex ∙ ap (comes_first s) e) z
 
-  pub turn_near : x ≡ true → (n : Net) → n ≡ net_from f s → length s ≤ width f → is_past p s ≡ true → Nearest f p (s ∷ ms) (record { some = true; net = n })
-  turn_near z n is le on = go c.some refl
+  pub turn_near : x ≡ true → (n : Net) → n ≡ net_from f s → length s ≤ width f → is_past p s ≡ true → Nearest f p (s ∷ ms) (Some n)
+  turn_near z n is le on = go c refl
     where
-      go : (y : Bool) → c.some ≡ y → Nearest f p (s ∷ ms) (record { some = true; net = n })
-      go true e = nearest-nearer g s n is le on e (sym (test-is e) ∙ z)
-      go false e = nearest-new g s n is le on e
+      go : (y : Option Net) → c ≡ y → Nearest f p (s ∷ ms) (Some n)
+      go (Some m) e = nearest-nearer g s n is le on m e (sym (test-is m e) ∙ z)
+      go None e = nearest-new g s n is le on e
 
 -- Node k, as it is read.
-module _ {f : ℕ} {w : List ℕ} {b n k : ℕ} {x : Bool} {last : Net} (h : Looks f w b n k x last) {y : Net} (is : y ≡ net_at f w b k) where
+module _ {f : ℕ} {w : List ℕ} {b n k : ℕ} {last : Option Net} (h : Looks f w b n k last) {y : Net} (is : y ≡ net_at f w b k) where
   pub read-net : y ≡ net_from f (string_at f w b k)
   read-net = is ∙ h.node.net
 
@@ -148,10 +148,10 @@ module _ {f : ℕ} {w : List ℕ} {b n k : ℕ} {x : Bool} {last : Net} (h : Loo
 
 -- The first of all is what follows.
 pub follows-first : {f : ℕ} {p : Place} {ms : List Bits} {n : Net} (t : Trie) → First f p ms n → ((q : Bits) → member q ms ≡ member q (list_of t))
-    → Network n ≡ next_as f (next_l (list_of t) p)
+    → Some n ≡ next_as f (next_l (list_of t) p)
 follows-first {f} {p} {n = n} t h same = go (next_l (list_of t) p) refl
   where
-    go : (x : Found) → next_l (list_of t) p ≡ x → Network n ≡ next_as f x
+    go : (x : Found) → next_l (list_of t) p ≡ x → Some n ≡ next_as f x
     go missing k = never_both (is_past p h.bits) h.past (next_l-missing (list_of t) p k h.bits (sym (same h.bits) ∙ h.among))
     go (found m) k =
         let o = next_l-found (list_of t) p m (from-list_of t) k in
@@ -159,39 +159,46 @@ follows-first {f} {p} {n = n} t h same = go (next_l (list_of t) p) refl
         let d = before-le m h.bits (h.least m (same m ∙ o.0) o.1) in
         rw (h.net, key_one h.bits m (omega arith))
 
-module _ {f : ℕ} {p : Place} {ms : List Bits} {c : Best} (t : Trie) (g : Nearest f p ms c) (same : (q : Bits) → member q ms ≡ member q (list_of t)) where
-  pub follows-none : c.some ≡ false → End ≡ next_as f (next_l (list_of t) p)
+module _ {f : ℕ} {p : Place} {ms : List Bits} {c : Option Net} (t : Trie) (g : Nearest f p ms c) (same : (q : Bits) → member q ms ≡ member q (list_of t)) where
+  pub follows-none : c ≡ None → None ≡ next_as f (next_l (list_of t) p)
   follows-none e = go (next_l (list_of t) p) refl
     where
-      go : (x : Found) → next_l (list_of t) p ≡ x → End ≡ next_as f x
+      go : (x : Found) → next_l (list_of t) p ≡ x → None ≡ next_as f x
       go missing k = refl
       go (found m) k = let h = next_l-found (list_of t) p m (from-list_of t) k in never_both (is_past p m) h.1 (g.none e m (same m ∙ h.0))
 
-  pub follows-some : c.some ≡ true → Network c.net ≡ next_as f (next_l (list_of t) p)
-  follows-some e = follows-first t (g.first e) same
+  pub follows-some : (n : Net) → c ≡ Some n → Some n ≡ next_as f (next_l (list_of t) p)
+  follows-some n e = follows-first t (g.first n e) same
+
+  pub follows : c ≡ next_as f (next_l (list_of t) p)
+  follows = go c refl
+    where
+      go : (y : Option Net) → c ≡ y → c ≡ next_as f (next_l (list_of t) p)
+      go (Some n) e = e ∙ follows-some n e
+      go None e = e ∙ follows-none e
 
 -- The loop over the nodes.
-pub record Searches (f : ℕ) (w : List ℕ) (b i e : ℕ) (p : Place) (c : Best) (k : ℕ) : Type 0 where
+pub record Searches (f : ℕ) (w : List ℕ) (b i e : ℕ) (p : Place) (c : Option Net) (k : ℕ) : Type 0 where
   pub from : i ≤ k
   pub to : k ≤ e
   pub near : Nearest f p (scanned f w b i (k - i)) c
 
 module _ {f : ℕ} {w : List ℕ} {b n i e : ℕ} {t : Trie} (h : KeptHolds f w b n i e t) (p : Place) where
-  pub search-start : (c : Best) → c.some ≡ false → Searches f w b i e p c i
+  pub search-start : Searches f w b i e p None i
   unfolding scanned
-  search-start c z =
+  search-start =
       let q : i - i ≡ 0 = omega arith in
       record {
         from = omega arith;
         to = omega (arith, h.end);
-        near = rw q (record { none = λ _ r m. absurd (false≢true m); first = λ o. never_both c.some o z });
+        near = rw q (record { none = λ _ r m. absurd (false≢true m); first = λ n o. absurd (cc o) });
       }
 
-  module _ {c : Best} {k : ℕ} (g : Searches f w b i e p c k) where
-    pub search-looks : k < e → (x : Bool) (last : Net) → (x ≡ true → Entry f last) → Looks f w b n k x last
-    search-looks lt x last en = record { node = each-node h k g.from lt; entry = en }
+  module _ {c : Option Net} {k : ℕ} (g : Searches f w b i e p c k) where
+    pub search-looks : k < e → (last : Option Net) → ((y : Net) → last ≡ Some y → Entry f y) → Looks f w b n k last
+    search-looks lt last en = record { node = each-node h k g.from lt; entry = en }
 
-    pub search-turn : k < e → {d : Best} → Nearest f p (own_of f w b k ++ scanned f w b i (k - i)) d → Searches f w b i e p d (k + 1)
+    pub search-turn : k < e → {d : Option Net} → Nearest f p (own_of f w b k ++ scanned f w b i (k - i)) d → Searches f w b i e p d (k + 1)
     unfolding scanned own
     search-turn lt y =
         let q : k + 1 - i ≡ suc (k - i) = omega (arith, g.from) in

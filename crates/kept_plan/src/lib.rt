@@ -10,17 +10,28 @@ use kept_reading::strings::{bit_at, leads};
 use kept_steps::{View, look};
 use nets::Net;
 
-// All stays. All becomes the network or nothing. A member gives way to the blocks beside the network. The network comes to stand beside what is there, on the
-// side of the bit. The half on that side goes, with the branch point over it, whose first half begins at that node. Or that half is gone into: where the
-// second begins, or would, and where the first.
+// What is to be done; a bit says on which side.
 #[derive(Clone, Copy)]
 pub enum Plan {
+    // All stays.
     Stay,
+    // All becomes the network or nothing.
     Flat,
+    // A member gives way to the blocks beside the network.
     Halve,
+    // The network comes to stand beside what is there.
     Fork(bool),
-    Drop(bool, usize),
-    Down(bool, usize, usize),
+    // A half goes, with the branch point over it, whose first half begins at node `first`.
+    Drop {
+        bit: bool,
+        first: usize,
+    },
+    // A half is gone into: the nodes where the second begins, or would, and where the first.
+    Down {
+        bit: bool,
+        second: usize,
+        first: usize,
+    },
 }
 
 // A half: its first node and its end.
@@ -68,15 +79,27 @@ fn inward(
         return Plan::Stay;
     }
     if into {
-        return Plan::Down(bit, a, m);
+        return Plan::Down {
+            bit,
+            second: a,
+            first: m,
+        };
     }
     if a == i {
-        return Plan::Down(bit, a, m);
+        return Plan::Down {
+            bit,
+            second: a,
+            first: m,
+        };
     }
     if leads(q, net_at(w, family, b, n, h.from as u32)) {
-        return Plan::Drop(bit, m);
+        return Plan::Drop { bit, first: m };
     }
-    Plan::Down(bit, a, m)
+    Plan::Down {
+        bit,
+        second: a,
+        first: m,
+    }
 }
 
 // The plan for the trie from node i up to node e, below a string of d bits.

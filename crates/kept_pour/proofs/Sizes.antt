@@ -1,4 +1,5 @@
 -- How many nodes of the second form what is poured has, and what has been cut: never more than what it becomes. Assumes nothing.
+use mir.Val.{bool_byte}
 use mathlib.Core.Bool.{Bool, true, false, cond, ◌||◌, false≢true}
 use mathlib.Core.Path.{◌≡◌, refl, sym}
 use Prim.Native.Nat.{◌+◌, ◌≤◌}
@@ -91,6 +92,6 @@ pour-fresh (node l r) = go (bare l r) refl (pour-fresh l) (pour-fresh r)
     go false e f g = rw (f, g) (glue-inner l r e)
 
 -- A full trie, or none.
-pub flat-nodes : (x : Bool) → kept_size (flat_t x) ≡ cond x 1 0
-flat-nodes true = kept_size-leaf
-flat-nodes false = glue-none
+pub flat-byte : (x : Bool) → bool_byte x ≡ kept_size (flat_t x)
+flat-byte true = sym kept_size-leaf
+flat-byte false = sym glue-none

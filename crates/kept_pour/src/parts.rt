@@ -79,10 +79,7 @@ pub fn nodes_of(i: usize, e: usize) -> usize
 pub fn flat_size(full: bool) -> usize
     ensures { result ≡ kept_size (flat_t full) }
 {
-    if full {
-        return 1;
-    }
-    0
+    usize::from(full)
 }
 
 // The nodes over halves of x and y nodes: one more where both have some.

@@ -36,9 +36,7 @@ pub fn write_ranges(
     ensures { (t : Trie) → KeptHolds family w.now b n i e t → Ranged family t rows.old rows.new result }
 {
     let mut at = Open { n: 0, hi: 0, lo: 0 };
-    let mut k = e;
-    while i < k {
-        k -= 1;
+    for k in (i..e).rev() {
         at = take_node(w, family, b, n, k as u32, at, rows);
     }
     at.n

@@ -28,18 +28,11 @@ pub fn distance(w: &[u32], family: u8, b: usize, n: u32, i: u32) -> u32
     head(w, family, b, n, i) / 256
 }
 
-fn wide(x: u32) -> u64
-    ensures { (result ≡ x) × (result < 2 ^ 32) }
-{
-    x as u64
-}
-
 // The number of two words.
-fn pair(h: u64, l: u64) -> u64
-    requires { (h < 2 ^ 32) × (l < 2 ^ 32) }
-    ensures { result ≡ h * 2 ^ 32 + l }
+fn pair(high: u32, low: u32) -> u64
+    ensures { result ≡ high * 2 ^ 32 + low }
 {
-    h * 4294967296 + l
+    u64::from(high) * 0x1_0000_0000 + u64::from(low)
 }
 
 // The string of the node of family 4 whose words begin at p.
@@ -47,13 +40,11 @@ fn short_net(w: &[u32], family: u8, p: usize) -> Net
     requires { (p + 2 ≤ length w.now) × (family ≡ 4) }
     ensures { FoundAs family w.now p result }
 {
-    let len = (w[p] % 256) as u8;
-    let lo = wide(w[p + 1]);
     Net {
         family,
         hi: 0,
-        lo,
-        len,
+        lo: u64::from(w[p + 1]),
+        len: (w[p] % 256) as u8,
     }
 }
 
@@ -62,16 +53,11 @@ fn long_net(w: &[u32], family: u8, p: usize) -> Net
     requires { (p + 5 ≤ length w.now) × (family ≡ 4 → ⊥) }
     ensures { FoundAs family w.now p result }
 {
-    let len = (w[p] % 256) as u8;
-    let a = wide(w[p + 1]);
-    let b = wide(w[p + 2]);
-    let c = wide(w[p + 3]);
-    let d = wide(w[p + 4]);
     Net {
         family,
-        hi: pair(a, b),
-        lo: pair(c, d),
-        len,
+        hi: pair(w[p + 1], w[p + 2]),
+        lo: pair(w[p + 3], w[p + 4]),
+        len: (w[p] % 256) as u8,
     }
 }
 

@@ -1,6 +1,8 @@
 // What is left of a trie of the second form, moved to the low end of its place. A mark in the head of a node, bit 31, says that nothing is left of the trie
 // that begins there. The nodes are gone through forward: what is left of the second half, then of the first, each behind what is before it; a branch point
 // that has lost a half is left out, and each mark that is met is taken away.
+#![tactic(auto)]
+
 ghost use Rattle.std.specs.Prelude.{[], ◌∷◌, ◌≡◌, ◌+◌, ◌-◌, ◌≤◌, ◌<◌, length};
 ghost use Rattle.nets.specs.Bits.{Bits};
 ghost use Rattle.nets.specs.Networks.{width, net_from};

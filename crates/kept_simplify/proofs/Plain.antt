@@ -2,8 +2,7 @@
 use mathlib.Core.Bool.{true, false, false≢true}
 use mathlib.Core.List.{List}
 use mathlib.Core.Path.{◌≡◌, refl, sym, ap, ◌∙◌}
-use Prim.Native.Nat.{ℕ, ◌+◌, ◌/◌, ◌%◌, ◌≤◌, ◌<◌}
-use native.Mathlib.Decide.{dec_lt}
+use Prim.Native.Nat.{ℕ, ◌+◌, ◌/◌, ◌%◌, ◌≤◌}
 use native.Mathlib.Omega.{arith}
 use borrow.Author.Tests.{eq-eqb, ne_eqb}
 use lib.Dec.{eqb}
@@ -44,19 +43,9 @@ module _ (f : ℕ) (w : List ℕ) (b j : ℕ) {x : ℕ} (ex : x ≡ head_at f w 
     unfolding is_join
     join_first ey e ez = rw (eq-eqb (dist_at f w b j) 2 (rw (← ex) near), eq-eqb (head_at f w b (j + 1)) (len_at f w b j + 1) (rw (← ey, ← ex) e), ez, ex)
 
--- What is known of some nodes: of fewer, of one more, of all, and where words are written before them.
+-- What is known of some nodes: of fewer, and where words are written before them.
 pub apart-within : {f : ℕ} {w : List ℕ} {b k e r k' e' r' : ℕ} → Apart f w b k e r → k ≤ k' → e' ≤ e → (r' ≤ r) → Apart f w b k' e' r'
 apart-within a le end up = record { no = λ j l t fit. a.no j (omega arith) (omega arith) (omega arith) }
-
-pub apart_more : {f : ℕ} {w : List ℕ} {b k e n : ℕ} → Apart f w b k e n → is_join f w b n ≡ false → Apart f w b k e (n + 1)
-apart_more {f} {w} {b} {k} {e} {n} a h = record { no = λ j le lt fit. go j le lt fit (dec_lt j n) }
-  where
-    go : (j : ℕ) → k ≤ j → j < n + 1 → j + 2 < e → Dec (j < n) → is_join f w b j ≡ false
-    go j le lt fit (yes x) = a.no j le x fit
-    go j le lt fit (no x) = let q : j ≡ n = omega arith in rw q h
-
-pub apart-end : {f : ℕ} {w : List ℕ} {b k e n : ℕ} → Apart f w b k e n → e ≤ n + 2 → Apart f w b k e e
-apart-end a q = record { no = λ j le lt fit. a.no j le (omega arith) fit }
 
 pub apart-put : {f : ℕ} {w : List ℕ} {b m e r : ℕ} (q : ℕ) (ys : List ℕ) → q + length ys ≤ spot f b m → Apart f w b m e r → Apart f (put w q ys) b m e r
 unfolding is_join

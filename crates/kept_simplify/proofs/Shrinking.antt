@@ -95,6 +95,10 @@ pub record Forked (f : ℕ) (w : List ℕ) (b n i e o : ℕ) (p : Bits) (t : Tri
   pub ahead : m ≡ i + dist_at f w b i
   pub second : ReadAs f w b (i + 1) y
 
+pub forked : {f : ℕ} {w : List ℕ} {b n i e o : ℕ} {p : Bits} {t : Trie} {x : Net} {m : ℕ} {y : Net} → Source f w b n i e o p t → (e - i ≡ 1 → ⊥)
+    → ReadAs f w b i x × ((m ≡ i + dist_at f w b i) × ReadAs f w b (i + 1) y) → Forked f w b n i e o p t x m y
+forked s many h = record { src = s; many = many; path = h.0; ahead = h.1.0; second = h.1.1 }
+
 module _ {f : ℕ} {w : List ℕ} {b n i e o : ℕ} {p : Bits} {t : Trie} {x : Net} {m : ℕ} {y : Net} (d : Forked f w b n i e o p t x m y) where
   abbrev pub k : Root f w b n i p t
   k = root d.src d.many

@@ -4,6 +4,7 @@ ghost use Rattle.kept_nodes.specs.Parse.{KeptRoom};
 ghost use Rattle.kept_simplify.specs.Joins.{is_join, Apart};
 
 use kept_reading::reading::head;
+use trie_emit::joining;
 
 // The distance from a branch point to its first child where its second has one node.
 const NEXT: u32 = 2;
@@ -31,14 +32,7 @@ pub fn next_join(w: &[u32], family: u8, b: usize, n: u32, k: usize, e: usize) ->
     requires le_k { (1 ≤ k) × (k ≤ suc n) × (e ≤ suc n) }
     ensures { Apart family w.now b k e result }
 {
-    let mut j = k;
-    while j + 2 < e {
-        if is_join(w, family, b, n, j) {
-            return j;
-        }
-        j += 1;
-    }
-    e
+    joining::next_join(k, e, |j| is_join(w, family, b, n, j))
 }
 
 // The same from node m on, where it is known up to node `next`.

@@ -24,10 +24,7 @@ fn is_full(s: Net, x: Net, k: usize) -> bool
     requires { s.len ≤ 128 }
     ensures { result ≡ (eqb k 1 && eqb x.len (s.len + 1)) }
 {
-    if k != 1 {
-        return false;
-    }
-    x.len == s.len + 1
+    k == 1 && x.len == s.len + 1
 }
 
 // Whether both halves below the string s are full, the second of m nodes and the first of k; x and y are the strings of their first nodes.
@@ -35,10 +32,7 @@ fn joins(s: Net, x: Net, y: Net, m: usize, k: usize) -> bool
     requires { s.len ≤ 128 }
     ensures { result ≡ ((eqb m 1 && eqb x.len (s.len + 1)) && (eqb k 1 && eqb y.len (s.len + 1))) }
 {
-    if !is_full(s, x, m) {
-        return false;
-    }
-    is_full(s, y, k)
+    is_full(s, x, m) && is_full(s, y, k)
 }
 
 // Writes node i with the string s, where k nodes are one.
@@ -47,10 +41,9 @@ fn settle(w: &mut [u32], family: u8, b: usize, i: usize, s: Net, k: usize)
     ensures { (p : Bits) → s ≡ net_from family p → length p ≤ width family
         → w.new ≡ put w.old (spot family b i) (rest_of family p k) }
 {
-    if k != 1 {
-        return;
+    if k == 1 {
+        write_node(w, family, b, i, s, 0);
     }
-    write_node(w, family, b, i, s, 0);
 }
 
 // Writes node o with the string s over its halves, the second of m nodes and the first of k; x and y are the strings of their first nodes. Answers the nodes
@@ -85,10 +78,9 @@ fn block(w: &mut [u32], family: u8, b: usize, i: usize, o: usize, k: usize)
     ensures { (xs : List ℕ) → Has w.old (spot family b i) xs → length xs ≡ stride family * k
         → w.new ≡ put w.old (spot family b o) xs }
 {
-    if i == o {
-        return;
+    if i != o {
+        move_nodes(w, family, b, i, o, k);
     }
-    move_nodes(w, family, b, i, o, k);
 }
 
 // A branch point: its string, the node where its first half begins, and the string of the first node of its second half.

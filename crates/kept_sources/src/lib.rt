@@ -1,5 +1,7 @@
 // The sources of a set operation in the second form: a number means nothing (0), everything (ALL), or the trie that stands at that node below a string of d bits, which may end in the
 // middle of the node's edge.
+#![tactic(auto)]
+
 ghost use Rattle.std.specs.Prelude.{◌≡◌, ℕ, length};
 ghost use Rattle.nets.specs.Bits.{Bits};
 ghost use Rattle.nets.specs.Tries.{Trie, side};

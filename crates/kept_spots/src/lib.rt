@@ -21,8 +21,7 @@ pub fn go_on(pool: &[u32], s: Spot) -> Spot
         n,
         seat.first,
         seat.end,
-        s.begun,
-        s.net,
+        s.begun.then_some(s.net),
     );
     arrive(s, x)
 }

@@ -16,16 +16,23 @@ fn end(pool: &mut [u32], g: Going) -> Going
     ensures { Leads (ended pool.old g.reader) result pool.new }
 {
     let took = take_kept(pool, g);
-    let found = took.found;
     let mut reader = g.reader;
-    reader.no = took.no;
-    if took.no != 0 {
-        return Going { reader, found };
+    match took.then {
+        Err(no) => {
+            reader.no = no.number();
+            Going {
+                reader,
+                found: g.found,
+            }
+        }
+        Ok(found) => {
+            reader.no = 0;
+            reader.len = 0;
+            reader.number = std::num::wrapping_add_u64(reader.number, 1);
+            reader.trimmed = std::num::wrapping_add_u64(reader.trimmed, one_if(took.cut));
+            Going { reader, found }
+        }
     }
-    reader.len = 0;
-    reader.number = std::num::wrapping_add_u64(reader.number, 1);
-    reader.trimmed = std::num::wrapping_add_u64(reader.trimmed, one_if(took.cut));
-    Going { reader, found }
 }
 
 // The bytes of a piece, up to the first line that is refused. A turn takes what is left of a line, so that the reader is moved once for it.
@@ -55,10 +62,10 @@ pub fn feed(pool: &mut [u32], r: Reader, piece: &[u8]) -> Reader
     if r.no != 0 {
         return r;
     }
-    let found = survey(pool, 0);
-    if !found.sound {
+    let seen = survey(pool, 0);
+    let Some(found) = seen else {
         return damaged(r);
-    }
+    };
     pass(pool, Going { reader: r, found }, piece)
 }
 
@@ -69,10 +76,10 @@ pub fn finish(pool: &mut [u32], r: Reader) -> Reader
     if r.no != 0 {
         return r;
     }
-    let found = survey(pool, 0);
-    if !found.sound {
+    let seen = survey(pool, 0);
+    let Some(found) = seen else {
         return damaged(r);
-    }
+    };
     if r.len == 0 {
         return r;
     }

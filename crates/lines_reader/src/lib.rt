@@ -8,7 +8,7 @@ use nets::Refusal;
 pub const KEPT: usize = 50;
 
 // The line that is being read: its bytes so far, how many, its number from 1 on; how many lines before it were trimmed, a set bit past the length being cut; and the
-// refusal that ended the reading, or 0.
+// refusal that ended the reading, or 0. That stays a number: `feed` and `finish` take any, and an Option of a refusal would take fewer.
 #[derive(Clone, Copy)]
 pub struct Reader {
     pub line: [u8; KEPT],
@@ -36,11 +36,12 @@ pub fn push_all(mut r: Reader, part: &[u8]) -> Reader
     ensures { result ≡ pushed_all r part.now }
 {
     let mut at = r.len;
-    let mut i = 0;
-    while i < part.len() && at < KEPT {
-        r.line[at] = part[i];
+    for &b in part {
+        if KEPT <= at {
+            break;
+        }
+        r.line[at] = b;
         at += 1;
-        i += 1;
     }
     r.len = at;
     r
@@ -50,13 +51,12 @@ pub fn push_all(mut r: Reader, part: &[u8]) -> Reader
 pub fn damaged(mut r: Reader) -> Reader
     ensures { result ≡ stopped r 2 }
 {
-    let no = Refusal::Damaged;
-    r.no = no.number();
+    r.no = Refusal::Damaged.number();
     r
 }
 
 pub fn one_if(cut: bool) -> u64
     ensures { result ≡ cond cut 1 0 }
 {
-    if cut { 1 } else { 0 }
+    u64::from(cut)
 }

@@ -4,21 +4,18 @@
 // standard error says which and why, and no file is written. The set has at most 100,000 nodes: a line that needs more is refused, OverLimit.
 #![tactic(auto)]
 
-use pool_state::Answer;
 use tool_files::{BYTES, NODES, Opened, PATH, WORDS};
-use tool_io::Input;
+use tool_io::LinesError;
 
 // Lays the pool out, and adds the networks of the lines to its set. Whether none is refused.
 fn take(rt: &HostRuntime, from: &mut Opened, path: &[u8], pool: &mut [u32]) -> bool {
-    let lines = tool_io::read_lines(from, pool, NODES);
-    let input = lines.input;
-    match input {
-        Input::Added(_) => true,
-        Input::Refused(number, no) => {
-            tool_files::say_refused_line(rt, b"lines-to-set", number, no);
+    match tool_io::read_lines(from, pool, NODES) {
+        Ok(_) => true,
+        Err(LinesError::Refused(number, refusal)) => {
+            tool_files::say_refused_line(rt, b"lines-to-set", number, refusal);
             false
         }
-        Input::Unreadable(e) => {
+        Err(LinesError::Unreadable(e)) => {
             tool_files::say_failed(rt, b"lines-to-set", path, &e);
             false
         }
@@ -55,10 +52,8 @@ fn write(rt: &HostRuntime, path: &[u8], bytes: &[u8]) {
 fn save(rt: &HostRuntime, pool: &[u32], path: &[u8], bytes: &mut [u8]) {
     let saved = setfile::save(pool, 0, bytes);
     match saved {
-        Answer::Refused(no) => {
-            tool_files::say_refused(rt, b"lines-to-set", no.number());
-        }
-        Answer::Granted(k) => {
+        Err(refusal) => tool_files::say_refused(rt, b"lines-to-set", refusal),
+        Ok(k) => {
             let n = k as usize;
             write(rt, path, &bytes[..n]);
         }

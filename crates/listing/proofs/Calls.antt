@@ -12,8 +12,6 @@ use Rattle.nets.specs.Networks.{is_family, width, refusal_of, net_bits, cleared,
 use Rattle.nets.specs.Refusals.{number, first_no}
 use Rattle.nets.specs.Tries.{Trie, list_of}
 use Rattle.nets.specs.declared.Net.{Net}
-use Rattle.nets.specs.declared.Entered.{Entered}
-use Rattle.nets.specs.declared.Entered.TheVariants as entering
 use Rattle.nets.specs.declared.Refusal.{Refusal}
 use Rattle.nets.specs.declared.Refusal.TheVariants.{ShortBuffer}
 use Rattle.nets.proofs.Numbers.{refusal_of-is, length-net_bits, net_bits-cleared}
@@ -24,8 +22,6 @@ use Rattle.pool_state.specs.States.{State}
 use Rattle.pool_state.specs.Decode.{Decoded, decode}
 use Rattle.pool_state.specs.Changes.{list_at}
 use Rattle.pool_state.specs.Steps.{Refuses}
-use Rattle.pool_state.specs.declared.Answer.{Answer}
-use Rattle.pool_state.specs.declared.Answer.TheVariants as answer
 use Rattle.pool_state.proofs.Answered.{owes-refused, owes-granted, owes-seat}
 use Rattle.pool_state.proofs.Claims.{is_state-family}
 use Rattle.pool_state.proofs.Decoded.{decode-state}
@@ -42,16 +38,15 @@ use Rattle.kept_spots.proofs.Onward.{right-before}
 use Rattle.listing.specs.Calls.{list_rules, list_rule, rows_after, Listed, from_rules, place_from, nothing, found_as, next_rules, next_rule}
 use Rattle.listing.specs.Places.{Numbers, Right}
 use Rattle.listing.specs.Seated.{HeldIn, LayableIn, GoesIn}
-use Rattle.listing.specs.declared.From.{From}
-use Rattle.listing.specs.declared.From.TheVariants as from
 use Rattle.listing.proofs.Seats.{Sits}
 use Rattle.listing.proofs.ByForm.{held-few}
+use Rattle.std.specs.Prelude.{Result, Option, Ok, Err, Some, None}
 
 -- The returns of list.
-abbrev Fills : List ℕ → ℕ → List ℕ → Answer → List ℕ → Type 0
+abbrev Fills : List ℕ → ℕ → List ℕ → Result ℕ Refusal → List ℕ → Type 0
 Fills w k v r u = Filled (decode w) k (length v) (λ S. 3 * length (list_at S k)) (λ S. length (list_at S k)) v (λ S. put v 0 (rows_of S.family (list_at S k))) r u
 
-module _ {w v u : List ℕ} {k : ℕ} {r : Answer} where
+module _ {w v u : List ℕ} {k : ℕ} {r : (Result ℕ Refusal)} where
   pub list-fills : Listed w k v r u → Fills w k v r u
   unfolding list_rule rows_after list_rules
   list-fills h = record { answer = h.answer; left = h.rows }
@@ -60,7 +55,7 @@ module _ {w v u : List ℕ} {k : ℕ} {r : Answer} where
   unfolding list_rule rows_after list_rules
   listed h = record { answer = h.answer; rows = h.left }
 
-pub list-refused : {w v : List ℕ} {k : ℕ} (x : Refusal) → Refuses (decode w) k (number x) → Listed w k v (answer.Refused x) v
+pub list-refused : {w v : List ℕ} {k : ℕ} (x : Refusal) → Refuses (decode w) k (number x) → Listed w k v (Err x) v
 list-refused {w} {v} {k} x e = listed (fill-refused (decode w) k (length v) _ _ v _ x e)
 
 module _ {w : List ℕ} {k : ℕ} {S : State} {s : Seat} (h : Sits w k S s) {n : ℕ} (c : n ≡ length (list_of (trie_at S k))) where
@@ -73,28 +68,28 @@ module _ {w : List ℕ} {k : ℕ} {S : State} {s : Seat} (h : Sits w k S s) {n :
   pub list-layable : {m : ℕ} {c₀ c₁ : List ℕ} → c₀ ≡ tallied 0 (trie_at S k) clear → Starts c₀ c₁ → 3 * n ≤ m → LayableIn w s c₁ m (trie_at S k)
   list-layable e q le = record { holds = h.holds; starts = rw e at q; fits = omega arith }
 
-  pub list-short : {v : List ℕ} → length v < 3 * n → Listed w k v (answer.Refused ShortBuffer) v
+  pub list-short : {v : List ℕ} → length v < 3 * n → Listed w k v (Err ShortBuffer) v
   list-short {v} lt = listed (fill-short (decode w) k (length v) _ _ v _ S h.decoded h.known (rw counted at lt))
 
-  pub list-granted : {v u : List ℕ} → 3 * n ≤ length v → u ≡ laid (row_form s.family) v (trie_at S k) → Listed w k v (answer.Granted n) u
+  pub list-granted : {v u : List ℕ} → 3 * n ≤ length v → u ≡ laid (row_form s.family) v (trie_at S k) → Listed w k v (Ok n) u
   list-granted {v} {u} le f =
       let g : u ≡ put v 0 (rows_of S.family (list_at S k)) = rw (h.list, h.family) at (f ∙ rows-laid s.family (trie_at S k) v) in
       rw (counted, g) (listed (fill-granted (decode w) k (length v) _ _ v _ S h.decoded h.known (rw counted at le)))
 
 -- A place as an argument.
-pub place-start : {s : Seat} {x : From} {p : Spot} → x ≡ from.Start → p ≡ before_all s → Right s x p
+pub place-start : {s : Seat} {x : (Option Net)} {p : Spot} → x ≡ None → p ≡ before_all s → Right s x p
 unfolding place_in
 place-start {s} e q = rw (e, q) (record { right = λ S o z. refl; seat = refl; place = refl; entry = right-before s })
 
-module _ {x : From} (n : Net) (e : x ≡ from.Past n) where
+module _ {x : (Option Net)} (n : Net) (e : x ≡ Some n) where
   pub place-family : {f : ℕ} → (n.family ≡ f → ⊥) → Numbers f x 6
   place-family ne S o q = rw e (net_rules-other n S (λ z. ne (z ∙ sym q)))
 
-  module _ (t : Entered) (g : entered_as t ≡ entered n) where
-    pub place-refused : {f : ℕ} → n.family ≡ f → (r : Refusal) → t ≡ entering.Refused r → Numbers f x (number r)
+  module _ (t : Result (Net × Bool) Refusal) (g : entered_as t ≡ entered n) where
+    pub place-refused : {f : ℕ} → n.family ≡ f → (r : Refusal) → t ≡ Err r → Numbers f x (number r)
     place-refused own r h S o q = rw e (net_rules-own n S o (own ∙ q) ∙ ap (λ y. y.0) (sym g ∙ ap entered_as h))
 
-    pub place-past : {s : Seat} → n.family ≡ s.family → (m : Net) (b : Bool) → t ≡ entering.Network m b
+    pub place-past : {s : Seat} → n.family ≡ s.family → (m : Net) (b : Bool) → t ≡ Ok (m, b)
         → Right s x (record { seat = s; begun = true; more = true; net = m })
     unfolding place_in cleared
     place-past own m b h =
@@ -111,7 +106,7 @@ module _ {x : From} (n : Net) (e : x ≡ from.Past n) where
         })
 
 -- The returns of next.
-pub next-refused : (d : Decoded) (k x : ℕ) (y : From) → Refuses d k x → (x, nothing) ≡ next_rule d k y
+pub next-refused : (d : Decoded) (k x : ℕ) (y : Option Net) → Refuses d k x → (x, nothing) ≡ next_rule d k y
 unfolding next_rule next_rules
 next-refused d k x y e = (owes-seat _ nothing _ d (λ S. d) d k e).0
 
@@ -124,7 +119,7 @@ found_as-gone l s = go (next_l l (place_in s))
     go (found p) = refl
     go missing = refl
 
-module _ {w : List ℕ} {k : ℕ} {S : State} {s : Seat} (h : Sits w k S s) (x : From) where
+module _ {w : List ℕ} {k : ℕ} {S : State} {s : Seat} (h : Sits w k S s) (x : Option Net) where
   abbrev d : Decoded
   d = decode w
 

@@ -10,8 +10,6 @@ use Rattle.pool_state.specs.States.{State}
 use Rattle.pool_state.specs.Decode.{sound, decode}
 use Rattle.pool_state.specs.Rules.{survey_of, seat_at, seat_of, seated_as, seated_rule}
 use Rattle.pool_state.specs.Changes.{list_at}
-use Rattle.pool_state.specs.declared.Seated.{Seated}
-use Rattle.pool_state.specs.declared.Seated.TheVariants.{At}
 use Rattle.pool_state.specs.declared.Survey.{Survey}
 use Rattle.pool_state.proofs.Decoded.{decode-header}
 use Rattle.pool_state.proofs.Seats.{seat-is, seated-at}
@@ -20,6 +18,8 @@ use Rattle.pool_state.proofs.OnTries.{decode-at, seen-segment, seen-list}
 use Rattle.pool_state.proofs.OnKept.{kept-room, kept_at, kept-size}
 use Rattle.kept_spots.proofs.Onward.{holds-own}
 use Rattle.listing.specs.Seated.{HeldIn}
+use Rattle.std.specs.Prelude.{Result, Ok}
+use Rattle.nets.specs.declared.Refusal.{Refusal}
 
 -- the words w hold the state S, and the trie of its set k stands in the seat s
 pub record Sits (w : List ℕ) (k : ℕ) (S : State) (s : Seat) : Type 0 where
@@ -49,7 +49,7 @@ seen-sits {w} {S} {k} {v} h e =
       };
     })
 
-pub seated-sits : (w : List ℕ) (k : ℕ) {r : Seated} → seated_as r ≡ seated_rule (decode w) k → (v : Survey) (s : Seat) → r ≡ At v s → (S : State) × Sits w k S s
+pub seated-sits : (w : List ℕ) (k : ℕ) {r : (Result (Survey × Seat) Refusal)} → seated_as r ≡ seated_rule (decode w) k → (v : Survey) (s : Seat) → r ≡ Ok (v, s) → (S : State) × Sits w k S s
 seated-sits w k e v s q =
     let h = seated-at w k e v s q in
     let (S, g) = seen h.surveyed in

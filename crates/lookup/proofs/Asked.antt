@@ -10,10 +10,6 @@ use borrow.Author.Tests.{lt-ltb, le-ltb, ltb-true, le-leb, lt-leb, eq-eqb, ne_eq
 use Rattle.nets.specs.Refusals.{number, answered}
 use Rattle.nets.specs.Networks.{width, net_bits, refusal_of, no_net, taken_as, bits_left, start_of, no_bits, prefix_as}
 use Rattle.nets.specs.declared.Net.{Net}
-use Rattle.nets.specs.declared.Taken.{Taken}
-use Rattle.nets.specs.declared.Taken.TheVariants as taken
-use Rattle.nets.specs.declared.Prefix.{Prefix}
-use Rattle.nets.specs.declared.Prefix.TheVariants as prefix
 use Rattle.nets.specs.declared.PrefixBits.{PrefixBits}
 use Rattle.nets.specs.declared.Refusal.{Refusal}
 use Rattle.nets.specs.declared.Refusal.TheVariants.{Damaged, NoSet, WrongFamily, BadNetwork}
@@ -22,13 +18,12 @@ use Rattle.nets.proofs.Answers.{number-some}
 use Rattle.nets.proofs.Numbers.{bits_left-start, refusal_of-is}
 use Rattle.pool_state.specs.Kept.{Form, first, second, form_of}
 use Rattle.pool_state.specs.Decode.{record_at, form_in, is_header}
-use Rattle.pool_state.specs.declared.Answer.{Answer}
-use Rattle.pool_state.specs.declared.Answer.TheVariants as answer
 use Rattle.pool_state.proofs.Kept.{form-some}
 use Rattle.lookup.specs.Rules.{on_root, path_of, query, lookup, member_of, is_member, supernet_rule, contains_rule, empty_at, empty_rule}
 use Rattle.trie_lookup.specs.declared.Shown.{Shown}
 use Rattle.trie_lookup.specs.declared.Shown.TheVariants.{Refused}
 use Rattle.lookup.proofs.Cuts.{Cut, lookup-cut}
+use Rattle.std.specs.Prelude.{Result, Ok, Err}
 
 -- The header and the set.
 module _ {A : Type 0} (w : List ℕ) (k : ℕ) (refuse : Refusal → A) (f : ℕ → A) where
@@ -45,11 +40,11 @@ module _ {A : Type 0} (w : List ℕ) (k : ℕ) (refuse : Refusal → A) (f : ℕ
   on_root-at e lt = rw (e, lt-ltb k (get_or w 2 0) lt)
 
 -- what follows from an answer of `root`
-abbrev pub by : {A : Type 0} → (Refusal → A) → (ℕ → A) → Answer → A
-by refuse f (answer.Granted r) = f r
-by refuse f (answer.Refused r) = refuse r
+abbrev pub by : {A : Type 0} → (Refusal → A) → (ℕ → A) → Result ℕ Refusal → A
+by refuse f (Ok r) = f r
+by refuse f (Err r) = refuse r
 
-module _ (w : List ℕ) (k : ℕ) (a : Answer) (e : a ≡ on_root w k answer.Refused answer.Granted) where
+module _ (w : List ℕ) (k : ℕ) (a : Result ℕ Refusal) (e : a ≡ on_root w k Err Ok) where
   pub on_root-by : {A : Type 0} (refuse : Refusal → A) (f : ℕ → A) → by refuse f a ≡ on_root w k refuse f
   unfolding on_root
   on_root-by refuse f = ap (by refuse f) e ∙ go (is_header w) (ltb k (get_or w 2 0))
@@ -57,25 +52,25 @@ module _ (w : List ℕ) (k : ℕ) (a : Answer) (e : a ≡ on_root w k answer.Ref
       r : ℕ
       r = get_or w (record_at k) 0
 
-      go : (h s : Bool) → by refuse f (cond h (cond s (answer.Granted r) (answer.Refused NoSet)) (answer.Refused Damaged)) ≡ cond h (cond s (f r) (refuse NoSet)) (refuse Damaged)
+      go : (h s : Bool) → by refuse f (cond h (cond s (Ok r) (Err NoSet)) (Err Damaged)) ≡ cond h (cond s (f r) (refuse NoSet)) (refuse Damaged)
       go true true = refl
       go true false = refl
       go false s = refl
 
-  pub lookup-refused : (n : Net) (x : Refusal) → a ≡ answer.Refused x → Refused x ≡ lookup w k n
+  pub lookup-refused : (n : Net) (x : Refusal) → a ≡ Err x → Refused x ≡ lookup w k n
   unfolding lookup
   lookup-refused n x h = rw h at (on_root-by Refused (λ r. query w k n))
 
-  pub empty-refused : (x : Refusal) → a ≡ answer.Refused x → (number x, false) ≡ empty_rule w k
+  pub empty-refused : (x : Refusal) → a ≡ Err x → (number x, false) ≡ empty_rule w k
   unfolding empty_rule
   empty-refused x h = rw h at (on_root-by (λ y. (number y, false)) (empty_at (get_or w 3 0)))
 
-  module _ (r : ℕ) (h : a ≡ answer.Granted r) where
+  module _ (r : ℕ) (h : a ≡ Ok r) where
     pub root-header : is_header w ≡ true
     unfolding on_root
     root-header = go (is_header w) refl (sym e ∙ h)
       where
-        go : (t : Bool) → is_header w ≡ t → cond t (cond (ltb k (get_or w 2 0)) (answer.Granted (get_or w (record_at k) 0)) (answer.Refused NoSet)) (answer.Refused Damaged) ≡ answer.Granted r → is_header w ≡ true
+        go : (t : Bool) → is_header w ≡ t → cond t (cond (ltb k (get_or w 2 0)) (Ok (get_or w (record_at k) 0)) (Err NoSet)) (Err Damaged) ≡ Ok r → is_header w ≡ true
         go true q d = q
         go false q d = let z : ◌≡◌ {A = ℕ} 0 1 = cc in absurd (omega arith)
 
@@ -87,7 +82,7 @@ module _ (w : List ℕ) (k : ℕ) (a : Answer) (e : a ≡ on_root w k answer.Ref
     unfolding on_root
     root-known = go (ltb k (get_or w 2 0)) refl (rw root-header at (sym e ∙ h))
       where
-        go : (t : Bool) → ltb k (get_or w 2 0) ≡ t → cond t (answer.Granted (get_or w (record_at k) 0)) (answer.Refused NoSet) ≡ answer.Granted r → k < get_or w 2 0
+        go : (t : Bool) → ltb k (get_or w 2 0) ≡ t → cond t (Ok (get_or w (record_at k) 0)) (Err NoSet) ≡ Ok r → k < get_or w 2 0
         go true q d = ltb-true k (get_or w 2 0) q
         go false q d = let z : ◌≡◌ {A = ℕ} 0 1 = cc in absurd (omega arith)
 
@@ -102,32 +97,32 @@ module _ (w : List ℕ) (k : ℕ) (a : Answer) (e : a ≡ on_root w k answer.Ref
     empty-told le = rw (le-leb r (get_or w 3 0) le) at empty-root
 
 -- The network.
-pub prefix-bits : (p : Prefix) (n : Net) (s : PrefixBits) → prefix_as p ≡ answered (refusal_of n) no_bits (start_of n) → p ≡ prefix.Bits s → (refusal_of n ≡ 0) × (s ≡ start_of n)
+pub prefix-bits : (p : Result PrefixBits Refusal) (n : Net) (s : PrefixBits) → prefix_as p ≡ answered (refusal_of n) no_bits (start_of n) → p ≡ Ok s → (refusal_of n ≡ 0) × (s ≡ start_of n)
 prefix-bits p n s e h =
     let g = sym (ap prefix_as h) ∙ e in
     let k : refusal_of n ≡ 0 = sym (ap (λ x. x.0) g) in
     (k, rw k at (ap (λ x. x.1) g))
 
-pub prefix-few : (p : Prefix) (n : Net) (s : PrefixBits) → prefix_as p ≡ answered (refusal_of n) no_bits (start_of n) → p ≡ prefix.Bits s → s.len ≤ 128
+pub prefix-few : (p : Result PrefixBits Refusal) (n : Net) (s : PrefixBits) → prefix_as p ≡ answered (refusal_of n) no_bits (start_of n) → p ≡ Ok s → s.len ≤ 128
 unfolding start_of width
 prefix-few p n s e h =
     let g = prefix-bits p n s e h in
     let le : width n.family ≤ 128 = cond_both (λ m. m ≤ 128) (eqb n.family 4) 32 128 (omega arith) (omega arith) in
     rw g.1 (omega (arith, (refusal_of-is n g.0).len))
 
-prefix-refused : (p : Prefix) (n : Net) (r : Refusal) → prefix_as p ≡ answered (refusal_of n) no_bits (start_of n) → p ≡ prefix.Refused r → refusal_of n ≡ 0 → ⊥
+prefix-refused : (p : Result PrefixBits Refusal) (n : Net) (r : Refusal) → prefix_as p ≡ answered (refusal_of n) no_bits (start_of n) → p ≡ Err r → refusal_of n ≡ 0 → ⊥
 prefix-refused p n r e h z = number-some r (ap (λ x. x.0) (sym (ap prefix_as h) ∙ e) ∙ z)
 
 pub query-family : (w : List ℕ) (k : ℕ) (n : Net) → (n.family ≡ get_or w 1 0 → ⊥) → Refused WrongFamily ≡ query w k n
 unfolding query
 query-family w k n ne = rw (ne_eqb n.family (get_or w 1 0) ne)
 
-module _ (w : List ℕ) (k : ℕ) (n : Net) (same : n.family ≡ get_or w 1 0) (p : Prefix) (e : prefix_as p ≡ answered (refusal_of n) no_bits (start_of n)) where
-  pub query-refused : (x : Refusal) → p ≡ prefix.Refused x → Refused BadNetwork ≡ query w k n
+module _ (w : List ℕ) (k : ℕ) (n : Net) (same : n.family ≡ get_or w 1 0) (p : Result PrefixBits Refusal) (e : prefix_as p ≡ answered (refusal_of n) no_bits (start_of n)) where
+  pub query-refused : (x : Refusal) → p ≡ Err x → Refused BadNetwork ≡ query w k n
   unfolding query
   query-refused x h = rw (eq-eqb n.family (get_or w 1 0) same, ne_eqb (refusal_of n) 0 (prefix-refused p n x e h))
 
-  module _ (s : PrefixBits) (x : Shown) (h : p ≡ prefix.Bits s) where
+  module _ (s : PrefixBits) (x : Shown) (h : p ≡ Ok s) where
     asked : refusal_of n ≡ 0
     asked = (prefix-bits p n s e h).0
 
@@ -155,5 +150,5 @@ module _ (w : List ℕ) (k : ℕ) (n : Net) (s t : Shown) (e : s ≡ lookup w k 
   pub shown-cut : Cut n t
   shown-cut = subst (Cut n) (sym e ∙ h) (lookup-cut n w k)
 
-pub taken-granted : (t : Taken) (k : ℕ) (v : Net) → taken_as t ≡ answered k no_net v → k ≡ 0 → (x : Refusal) → t ≡ taken.Refused x → ⊥
+pub taken-granted : (t : Result Net Refusal) (k : ℕ) (v : Net) → taken_as t ≡ answered k no_net v → k ≡ 0 → (x : Refusal) → t ≡ Err x → ⊥
 taken-granted t k v e z x h = number-some x (ap (λ p. p.0) (sym (ap taken_as h) ∙ e) ∙ z)

@@ -9,7 +9,7 @@
 --   supernet_rule, contains_rule, empty_rule      the number and the values of each answer;  Sought, Held: those values, of supernet and of contains
 --   steps_of F l q                              how many nodes a lookup of q in the list l counts: in the first form all on its way, in the second the members and branch points there
 --   set_no, lookup_no, found_as                   the same of a sound pool, by its lists: proofs/OnLists.antt
-use Rattle.std.specs.Prelude.{Bool, true, false, cond, ◌||◌, List, [], ◌∷◌, ℕ, ◌+◌, eqb, leb, ltb, length, get_or, take, drop}
+use Rattle.std.specs.Prelude.{Bool, true, false, cond, ◌||◌, List, [], ◌∷◌, ℕ, ◌+◌, eqb, leb, ltb, length, get_or, take, drop, Option, Some, None, Result, Ok, Err}
 use Rattle.nets.specs.Bits.{Bits, val}
 use Rattle.nets.specs.Lists.{Found, found, missing, steps_l}
 use Rattle.nets.specs.Refusals.{number, first_no}
@@ -31,9 +31,7 @@ use Rattle.trie_lookup.specs.Walks.{walk_from, stands_on}
 use Rattle.trie_lookup.specs.declared.Shown.{Shown}
 use Rattle.trie_lookup.specs.declared.Shown.TheVariants.{Member, Nothing, Refused}
 use Rattle.lookup.specs.declared.Covering.{Covering}
-use Rattle.lookup.specs.declared.Covering.TheVariants as covering
 use Rattle.lookup.specs.declared.Contained.{Contained}
-use Rattle.lookup.specs.declared.Contained.TheVariants as contained
 
 unfoldable pub on_root : {A : Type 0} → List ℕ → ℕ → (Refusal → A) → (ℕ → A) → A
 on_root w k refuse f = cond (is_header w) (cond (ltb k (get_or w 2 0)) (f (get_or w (record_at k) 0)) (refuse NoSet)) (refuse Damaged)
@@ -81,14 +79,17 @@ unsought = (false, (no_net, (0, false)))
 abbrev pub unheld : Held
 unheld = (false, (0, false))
 
-abbrev pub supernet_as : Covering → ℕ × Sought
-supernet_as (covering.Member m s t) = (0, (true, (m, (s, t))))
-supernet_as (covering.Nothing s t) = (0, (false, (no_net, (s, t))))
-supernet_as (covering.Refused r) = (number r, unsought)
+abbrev pub sought : Option Net → ℕ → Bool → Sought
+sought (Some m) s t = (true, (m, (s, t)))
+sought None s t = (false, (no_net, (s, t)))
 
-abbrev pub contains_as : Contained → ℕ × Held
-contains_as (contained.Is b s t) = (0, (b, (s, t)))
-contains_as (contained.Refused r) = (number r, unheld)
+abbrev pub supernet_as : Result Covering Refusal → ℕ × Sought
+supernet_as (Ok c) = (0, sought c.member c.steps c.cut)
+supernet_as (Err r) = (number r, unsought)
+
+abbrev pub contains_as : Result Contained Refusal → ℕ × Held
+contains_as (Ok c) = (0, (c.is_member, (c.steps, c.cut)))
+contains_as (Err r) = (number r, unheld)
 
 -- the member that a path shows is the query, cut to the member's length
 abbrev pub member_of : Net → Shown → ℕ × Sought

@@ -6,7 +6,7 @@ ghost use Rattle.pool_state.specs.Decode.{record_at, base, least_words, is_heade
 ghost use Rattle.lookup.specs.Rules.{from_root, from_index, path_of};
 
 use nets::{PrefixBits, Refusal};
-use pool_header::{HEAD, RECORD, least_words};
+use pool_header::{HEAD, INDEXED, NODES, RECORD, SETS, TAG, least_words};
 use trie_lookup::standing::{head, stand_on};
 use trie_lookup::{Shown, walk_from};
 
@@ -23,8 +23,8 @@ pub fn grounds(w: &[u32], set: u32) -> Ground
     ensures { (result.b ≡ base (get_or w.now 2 0)) × (result.n ≡ get_or w.now 3 0) × (result.root ≡ get_or w.now (record_at set) 0) }
 {
     Ground {
-        b: HEAD + RECORD * (w[2] as usize),
-        n: w[3],
+        b: HEAD + RECORD * (w[SETS] as usize),
+        n: w[NODES],
         root: w[HEAD + RECORD * (set as usize)],
     }
 }
@@ -45,7 +45,7 @@ fn from_index(w: &[u32], set: u32, tag: u32, bits: PrefixBits) -> Shown
 {
     let g = grounds(w, set);
     let h = head(bits);
-    let at = least_words(w[2], g.n, tag - 1) + h.byte;
+    let at = least_words(w[SETS], g.n, tag - 1) + h.byte;
     stand_on(w, g.b, g.n, g.root, w[at], bits.len, h.rest)
 }
 
@@ -54,14 +54,14 @@ pub fn path(w: &[u32], set: u32, bits: PrefixBits) -> Shown
     requires { (is_header w.now ≡ true) × (set < get_or w.now 2 0) × (bits.len ≤ 128) }
     ensures { result ≡ path_of first w.now set (bits_left bits) }
 {
-    let tag = w[HEAD + RECORD * (set as usize) + 4];
+    let tag = w[HEAD + RECORD * (set as usize) + TAG];
     if tag == 0 {
         return from_root(w, set, bits);
     }
     if bits.len < 8 {
         return from_root(w, set, bits);
     }
-    if w[4] < tag {
+    if w[INDEXED] < tag {
         return Shown::Refused(Refusal::Damaged);
     }
     from_index(w, set, tag, bits)

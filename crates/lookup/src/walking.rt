@@ -1,26 +1,25 @@
 // A lookup: header, arguments, and then the path, by the form of the pool.
-ghost use Rattle.std.specs.Prelude.{true, ◌≡◌, ◌<◌, get_or};
+ghost use Rattle.std.specs.Prelude.{true, ◌≡◌, ◌<◌, get_or, Ok, Err};
 ghost use Rattle.pool_state.specs.Decode.{is_header};
 ghost use Rattle.lookup.specs.Rules.{on_root, query, lookup};
 
 use crate::beginning::path;
 use crate::second::kept_path;
-use nets::{Net, Prefix, Refusal};
-use pool_header::{HEAD, RECORD, is_header};
-use pool_state::Answer;
+use nets::{Net, Refusal};
+use pool_header::{FAMILY, FORM, HEAD, RECORD, SETS, is_header};
 use trie_lookup::Shown;
 
 // The number of the root of a set.
-pub fn root(w: &[u32], set: u32) -> Answer
-    ensures { result ≡ on_root w.now set Answer.Refused Answer.Granted }
+pub fn root(w: &[u32], set: u32) -> Result<u32, Refusal>
+    ensures { result ≡ on_root w.now set Err Ok }
 {
     if !is_header(w) {
-        return Answer::Refused(Refusal::Damaged);
+        return Err(Refusal::Damaged);
     }
-    if w[2] <= set {
-        return Answer::Refused(Refusal::NoSet);
+    if w[SETS] <= set {
+        return Err(Refusal::NoSet);
     }
-    Answer::Granted(w[HEAD + RECORD * (set as usize)])
+    Ok(w[HEAD + RECORD * (set as usize)])
 }
 
 // What the path of a query shows in a set.
@@ -28,18 +27,18 @@ pub fn query(w: &[u32], set: u32, net: Net) -> Shown
     requires { (is_header w.now ≡ true) × (set < get_or w.now 2 0) }
     ensures { result ≡ query w.now set net }
 {
-    if net.family as u32 != w[1] {
+    if net.family as u32 != w[FAMILY] {
         return Shown::Refused(Refusal::WrongFamily);
     }
     let p = net.prefix_bits();
     match p {
-        Prefix::Bits(bits) => {
-            if w[5] == 0 {
+        Ok(bits) => {
+            if w[FORM] == 0 {
                 return path(w, set, bits);
             }
             kept_path(w, set, net)
         }
-        Prefix::Refused(_) => Shown::Refused(Refusal::BadNetwork),
+        Err(_) => Shown::Refused(Refusal::BadNetwork),
     }
 }
 
@@ -49,7 +48,7 @@ pub fn lookup(w: &[u32], set: u32, net: Net) -> Shown
 {
     let a = root(w, set);
     match a {
-        Answer::Granted(_) => query(w, set, net),
-        Answer::Refused(no) => Shown::Refused(no),
+        Ok(_) => query(w, set, net),
+        Err(no) => Shown::Refused(no),
     }
 }

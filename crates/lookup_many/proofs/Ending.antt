@@ -15,9 +15,6 @@ use Rattle.nets.specs.Bits.{bits}
 use Rattle.nets.specs.Networks.{width, value, address, refusal_of, bits_left, bits_words, start_of, no_bits, prefix_as, next_as, next_of}
 use Rattle.nets.specs.Refusals.{answered}
 use Rattle.nets.specs.declared.Net.{Net}
-use Rattle.nets.specs.declared.NextBit.TheVariants.{Bit, End}
-use Rattle.nets.specs.declared.Prefix.{Prefix}
-use Rattle.nets.specs.declared.Prefix.TheVariants as prefix
 use Rattle.nets.specs.declared.PrefixBits.{PrefixBits}
 use Rattle.nets.specs.declared.Refusal.{Refusal}
 use Rattle.nets.specs.declared.Refusal.TheVariants.{BadNetwork}
@@ -42,6 +39,7 @@ use Rattle.lookup_many.specs.Lanes.{clipped, first_of, second, lane_by, lane_of,
 use Rattle.trie_lanes.specs.declared.Lane.{Lane}
 use Rattle.trie_lanes.proofs.Going.{walk-leaf, walk_none, comes-next, placed-word}
 use Rattle.trie_lanes.proofs.LaneRows.{wide-keep, keep_same, keep-other}
+use Rattle.std.specs.Prelude.{Result, Ok, Err, Some, None}
 
 pub seated : {w : List ℕ} {b n k f : ℕ} → is_header w ≡ true → k < get_or w 2 0 → get_or w 5 0 ≡ 0 → tag_in w k ≡ 0 → b ≡ base (get_or w 2 0) → n ≡ get_or w 3 0 → (root_in w k ≡ 0 → ⊥) → root_in w k ≤ n → f ≡ get_or w 1 0 → Seat w b n k f
 seated h lt z t b n nz le f = record { header = h; known = lt; form = z; plain = t; from = b; nodes = n; one = omega arith; within = le; family = f }
@@ -86,15 +84,15 @@ two-words p s few h = go (ltb s.len 64) refl
         ap₂ ◌++◌ u (take-first (s.len - 64) s.lo 0 z r ∙ sym d) ∙ sym t
 
 -- the beginning of a walk, by the bits that prefix_bits hands out, or by their refusal
-module _ (p : ℕ) (q : Net) (x : Prefix) (e : prefix_as x ≡ answered (refusal_of q) no_bits (start_of q)) where
+module _ (p : ℕ) (q : Net) (x : Result PrefixBits Refusal) (e : prefix_as x ≡ answered (refusal_of q) no_bits (start_of q)) where
   lane_of-bits : lane_by p (prefix_as x).1 ≡ lane_of p q
   unfolding lane_of
   lane_of-bits = ap (λ t. lane_by p t.1) e
 
-  pub lane_of-some : {bits : PrefixBits} → x ≡ prefix.Bits bits → lane_by p bits ≡ lane_of p q
+  pub lane_of-some : {bits : PrefixBits} → x ≡ Ok bits → lane_by p bits ≡ lane_of p q
   lane_of-some h = ap (λ t. lane_by p (prefix_as t).1) (sym h) ∙ lane_of-bits
 
-  pub lane_of-none : {y : Refusal} → x ≡ prefix.Refused y → lane_by p no_bits ≡ lane_of p q
+  pub lane_of-none : {y : Refusal} → x ≡ Err y → lane_by p no_bits ≡ lane_of p q
   lane_of-none h = ap (λ t. lane_by p (prefix_as t).1) (sym h) ∙ lane_of-bits
 
 start-low : (q : Net) → (start_of q).lo < 2 ^ 64
@@ -102,8 +100,8 @@ unfolding start_of
 start-low q = mod-lt (address q * 2 ^ (128 - width q.family)) (pow_pos 64)
 
 module _ (q : Net) {w : List ℕ} {b n k : ℕ} {l : Lane} (s : Seat w b n k q.family) (g : Goes w b n (lane_of (place_in w b k) q) l)
-    {x : Prefix} (e : prefix_as x ≡ answered (refusal_of q) no_bits (start_of q)) where
-  module _ {bits : PrefixBits} (h : x ≡ prefix.Bits bits) where
+    {x : (Result PrefixBits Refusal)} (e : prefix_as x ≡ answered (refusal_of q) no_bits (start_of q)) where
+  module _ {bits : PrefixBits} (h : x ≡ Ok bits) where
     from_start : Goes w b n (lane_by (place_in w b k) bits) l
     from_start = rw (← lane_of-some (place_in w b k) q x e h) at g
 
@@ -123,7 +121,7 @@ module _ (q : Net) {w : List ℕ} {b n k : ℕ} {l : Lane} (s : Seat w b n k q.f
           shows = from-root _ (sym f ∙ walk_from-node w b n (bits_left bits) (root_in w k) 0 refl (λ z. omega (arith, s.one)) s.within);
         }
 
-  pub end_refused : (y : Refusal) → x ≡ prefix.Refused y → in_one (is_member q (Refused BadNetwork)) ≡ asked w k q
+  pub end_refused : (y : Refusal) → x ≡ Err y → in_one (is_member q (Refused BadNetwork)) ≡ asked w k q
   unfolding asked
   end_refused y h = ap (λ t. in_one (is_member q t)) (query-refused w k q s.family x e y h)
 
@@ -140,7 +138,7 @@ module _ {w : List ℕ} {b n k : ℕ} {q : Net} {s : PrefixBits} {l : Lane} (g :
   shown-leaf z = sym (walk-leaf w b n depth (l.p + 1 - b) (comes l ++ bits_left (second s)) (sym (placed-word w g.on (sym z)))) ∙ g.shows
 
   -- the first word has come to its end
-  pub shown-second : (t : Shown) → next_of (bits_words l.word 0 l.left) ≡ next_as End
+  pub shown-second : (t : Shown) → next_of (bits_words l.word 0 l.left) ≡ next_as None
       → t ≡ walk w b n (s.len - (s.len - first_of s.len)) (l.p + 1 - b) (bits_left (second s)) → t ≡ query w k q
   unfolding comes
   shown-second t e d =
@@ -155,7 +153,7 @@ module _ {w : List ℕ} {b n k : ℕ} {q : Net} {s : PrefixBits} {l : Lane} (g :
       go false e o = omega (arith, ltb-false s.len 64 e)
 
   -- there is no child on the side of the bit
-  pub shown-none : (bit : Bool) (later : PrefixBits) (c : ℕ) → next_of (bits_words l.word 0 l.left) ≡ next_as (Bit bit later) → (get_or w l.p 0 ≡ 0 → ⊥)
+  pub shown-none : (bit : Bool) (later : PrefixBits) (c : ℕ) → next_of (bits_words l.word 0 l.left) ≡ next_as (Some (bit, later)) → (get_or w l.p 0 ≡ 0 → ⊥)
       → l.p + get_or w l.p 0 / 2 < b + (n - 1) → c ≡ toward bit (get_or w l.p 0) → c ≡ 0 → Nothing (depth + 1) ≡ query w k q
   shown-none bit later c e nz lt by z =
       let o = g.on in

@@ -9,18 +9,19 @@ use lib.Dec.{eqb}
 use lib.ListN.{length, get_or}
 use Rattle.nodes.specs.Words.{put}
 use Rattle.nodes.proofs.Put.{length-put, get_or-put-in, get_or-put-behind}
-use Rattle.pool_state.specs.declared.Answer.{Answer}
 use Rattle.pool_state.proofs.Determined.{answer_as-one}
 use Rattle.lookup.specs.Rules.{contains_rule}
 use Rattle.lookup_many.specs.Rules.{query_at, in_one, answers_of, all_no, answers_after, ContainsAll}
 use Rattle.trie_index.specs.Index.{fill}
 use Rattle.trie_index.proofs.Fill.{length-fill, get_or-fill}
+use Rattle.std.specs.Prelude.{Result}
+use Rattle.nets.specs.declared.Refusal.{Refusal}
 
-pub contains-all-determined : {w qs v u t : List ℕ} {k f : ℕ} {r s : Answer} → ContainsAll w k f qs v r u → ContainsAll w k f qs v s t → (r ≡ s) × (u ≡ t)
+pub contains-all-determined : {w qs v u t : List ℕ} {k f : ℕ} {r s : (Result ℕ Refusal)} → ContainsAll w k f qs v r u → ContainsAll w k f qs v s t → (r ≡ s) × (u ≡ t)
 contains-all-determined {r = r} {s = s} g h = (answer_as-one r s (g.answer ∙ sym h.answer), g.rows ∙ sym h.rows)
 
 -- number by number
-module _ {w qs v u : List ℕ} {k f : ℕ} {r : Answer} (h : ContainsAll w k f qs v r u) (z : all_no w k f qs (length v) ≡ 0) where
+module _ {w qs v u : List ℕ} {k f : ℕ} {r : (Result ℕ Refusal)} (h : ContainsAll w k f qs v r u) (z : all_no w k f qs (length v) ≡ 0) where
   granted-rows : u ≡ put v 0 (answers_of w k f qs)
   unfolding answers_after
   granted-rows = rw z at h.rows

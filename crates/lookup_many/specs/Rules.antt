@@ -7,7 +7,7 @@
 --   all_no w k f qs n          the refusal: 2 and 3 as contains, then by these rules
 --   ContainsAll               the answer and the rows afterwards, as the call's contract
 --   asked w k n, asked_of      the answer to the query n in set k, and to query i of a row
-use Rattle.std.specs.Prelude.{Bool, not, cond, List, [], ◌∷◌, ◌≡◌, ℕ, ◌+◌, ◌*◌, ◌/◌, eqb, length, get_or}
+use Rattle.std.specs.Prelude.{Bool, not, cond, List, [], ◌∷◌, ◌≡◌, ℕ, ◌+◌, ◌*◌, ◌/◌, eqb, length, get_or, Result}
 use Rattle.nets.specs.Networks.{net_words}
 use Rattle.nets.specs.Refusals.{number, Rule, first_no}
 use Rattle.nets.specs.declared.Net.{Net}
@@ -15,8 +15,8 @@ use Rattle.nets.specs.declared.Refusal.TheVariants.{WrongFamily}
 use Rattle.nodes.specs.Words.{put}
 use Rattle.trie_index.specs.Index.{fill}
 use Rattle.pool_state.specs.Rules.{short, answer_as}
-use Rattle.pool_state.specs.declared.Answer.{Answer}
 use Rattle.lookup.specs.Rules.{on_root, query, Held, is_member, contains_rule}
+use Rattle.nets.specs.declared.Refusal.{Refusal}
 
 abbrev pub query_at : ℕ → List ℕ → ℕ → Net
 query_at f qs i = net_words f (get_or qs (3 * i) 0) (get_or qs (3 * i + 1) 0) (get_or qs (3 * i + 2) 0)
@@ -40,7 +40,7 @@ unfoldable pub answers_after : List ℕ → List ℕ → ℕ → ℕ → List �
 answers_after v w k f qs = cond (eqb (all_no w k f qs (length v)) 0) (put v 0 (answers_of w k f qs)) v
 
 -- from the words w and the answers v the call on set k with the queries qs of the family f answers r and leaves the answers u
-pub record ContainsAll (w : List ℕ) (k f : ℕ) (qs v : List ℕ) (r : Answer) (u : List ℕ) : Type 0 where
+pub record ContainsAll (w : List ℕ) (k f : ℕ) (qs v : List ℕ) (r : Result ℕ Refusal) (u : List ℕ) : Type 0 where
   pub answer : answer_as r ≡ (all_no w k f qs (length v), 0)
   pub rows : u ≡ answers_after v w k f qs
 

@@ -12,14 +12,18 @@ use lookup::walking::query;
 use nets::{Net, has_bit_past};
 use trie_lookup::Shown;
 
+// An answer in one number: the nodes that were read, and these where a member was found, and where a set bit was cut; or the refusal, so many times.
+const YES: u64 = 281474976710656;
+
+const CUT: u64 = 562949953421312;
+
+const REFUSED: u64 = 4294967296;
+
 // A length as a byte: none above 254 is that of a network.
 fn byte_of(len: u64) -> u8
     ensures { result ≡ clip len }
 {
-    if len < 255 {
-        return len as u8;
-    }
-    255
+    u8::try_from(len).unwrap_or(255)
 }
 
 // Query i of a row.
@@ -41,7 +45,7 @@ fn report(net: Net) -> u64
     ensures { result ≡ 562949953421312 * bit (has_bit_past net) }
 {
     if has_bit_past(net) {
-        return 562949953421312;
+        return CUT;
     }
     0
 }
@@ -51,9 +55,9 @@ pub fn number_of(net: Net, s: Shown) -> u64
     ensures { result ≡ in_one (is_member net s) }
 {
     match s {
-        Shown::Member(_, k) => k as u64 + 281474976710656 + report(net),
+        Shown::Member(_, k) => k as u64 + YES + report(net),
         Shown::Nothing(k) => k as u64 + report(net),
-        Shown::Refused(no) => 4294967296 * (no.number() as u64),
+        Shown::Refused(no) => REFUSED * (no.number() as u64),
     }
 }
 
@@ -69,10 +73,8 @@ pub fn one_by_one(
     requires { (is_header pool.now ≡ true) × (set < get_or pool.now 2 0) × (from ≤ length queries.now / 3) × (length queries.now / 3 ≤ length answers.old) }
     ensures { answers.new ≡ put answers.old from (fill (asked_of pool.now set family queries.now) from (length queries.now / 3 - from)) }
 {
-    let mut i = from;
-    while i < queries.len() / 3 {
+    for i in from..queries.len() / 3 {
         let net = query_at(queries, i, family);
         answers[i] = number_of(net, query(pool, set, net));
-        i += 1;
     }
 }

@@ -10,8 +10,8 @@ ghost use Rattle.lookup_many.specs.Lanes.{clipped, first_of, lane_of, Started, C
 
 use crate::asking::{number_of, query_at};
 use lookup::walking::query;
-use nets::{Net, NextBit, Prefix, PrefixBits, Refusal};
-use pool_header::{HEAD, RECORD};
+use nets::{Net, PrefixBits, Refusal};
+use pool_header::{FORM, HEAD, NODES, RECORD, SETS, TAG};
 use trie_index::turn;
 use trie_lanes::{LANES, Lane, NUMBERS, descend, keep, lane_at, of_word};
 use trie_lookup::{Shown, walk_down};
@@ -29,12 +29,12 @@ fn lane(p: usize, net: Net) -> Lane
 {
     let q = net.prefix_bits();
     match q {
-        Prefix::Bits(bits) => Lane {
+        Ok(bits) => Lane {
             p,
             word: bits.hi,
             left: first(bits.len),
         },
-        Prefix::Refused(_) => Lane {
+        Err(_) => Lane {
             p,
             word: 0,
             left: 0,
@@ -55,12 +55,10 @@ fn start(
     requires { (i + e ≤ length queries.now / 3) × (e ≤ 32) × Wide lanes.old × (length live.old ≡ 32) }
     ensures { Started p family queries.now i e lanes.new × Live e e live.new }
 {
-    let mut a: usize = 0;
-    while a < e {
+    for a in 0..e {
         let l = lane(p, query_at(queries, i + a, family));
         keep(lanes, a, l);
         live[a] = a;
-        a += 1;
     }
 }
 
@@ -79,7 +77,7 @@ fn shown(w: &[u32], b: usize, n: u32, set: u32, net: Net, bits: PrefixBits, l: L
     }
     let next = of_word(l.word, l.left).next();
     match next {
-        NextBit::End => walk_down(
+        None => walk_down(
             w,
             b,
             n,
@@ -87,7 +85,7 @@ fn shown(w: &[u32], b: usize, n: u32, set: u32, net: Net, bits: PrefixBits, l: L
             bits.len,
             of_word(bits.lo, bits.len - f),
         ),
-        NextBit::Bit(bit, _) => {
+        Some((bit, _)) => {
             if b + (n as usize - 1) <= p + (x / 2) as usize {
                 return query(w, set, net);
             }
@@ -106,11 +104,11 @@ fn end(w: &[u32], b: usize, n: u32, set: u32, net: Net, l: Lane) -> u64
 {
     let q = net.prefix_bits();
     match q {
-        Prefix::Bits(bits) => {
+        Ok(bits) => {
             let s = shown(w, b, n, set, net, bits, l);
             number_of(net, s)
         }
-        Prefix::Refused(_) => number_of(net, Shown::Refused(Refusal::BadNetwork)),
+        Err(_) => number_of(net, Shown::Refused(Refusal::BadNetwork)),
     }
 }
 
@@ -149,11 +147,9 @@ fn end_all(
     requires { Seat w.now b n set family × Fits queries.now i e answers.old × Came w.now b n (place_in w.now b set) family queries.now i e lanes.now }
     ensures { answers.new ≡ put answers.old i (fill (asked_of w.now set family queries.now) i e) }
 {
-    let mut a: usize = 0;
-    while a < e {
+    for a in 0..e {
         let l = lane_at(lanes, a);
         end_at(w, b, n, set, family, queries, i + a, l, answers);
-        a += 1;
     }
 }
 
@@ -181,25 +177,17 @@ fn block(
     end_all(w, b, n, set, family, queries, i, &lanes, e, answers);
 }
 
-// How many queries the next block has, where m are left.
-fn size(m: usize) -> usize
-    requires { 0 < m }
-    ensures { (0 < result) × (result ≤ m) × (result ≤ 32) }
-{
-    if m < LANES { m } else { LANES }
-}
-
 // Answers all queries and says how many those were: none in the second form, where the set is indexed, or the root's number is no node's.
 pub fn by_blocks(w: &[u32], set: u32, family: u8, queries: &[u64], answers: &mut [u64]) -> usize
     requires { (is_header w.now ≡ true) × (set < get_or w.now 2 0) × (family ≡ get_or w.now 1 0) × (length queries.now / 3 ≤ length answers.old) }
     ensures { (result ≤ length queries.now / 3) × (answers.new ≡ put answers.old 0 (fill (asked_of w.now set family queries.now) 0 result)) }
 {
-    let b = HEAD + RECORD * (w[2] as usize);
-    let n = w[3];
+    let b = HEAD + RECORD * (w[SETS] as usize);
+    let n = w[NODES];
     let root = w[HEAD + RECORD * (set as usize)];
-    let tag = w[HEAD + RECORD * (set as usize) + 4];
+    let tag = w[HEAD + RECORD * (set as usize) + TAG];
     let mut i = 0;
-    if w[5] != 0 {
+    if w[FORM] != 0 {
         return 0;
     }
     if tag != 0 {
@@ -212,7 +200,7 @@ pub fn by_blocks(w: &[u32], set: u32, family: u8, queries: &[u64], answers: &mut
         return 0;
     }
     while i < queries.len() / 3 {
-        let e = size(queries.len() / 3 - i);
+        let e = (queries.len() / 3 - i).min(LANES);
         block(w, b, n, set, family, queries, i, e, answers);
         i += e;
     }

@@ -6,7 +6,7 @@ use asking::one_by_one;
 use blocks::by_blocks;
 use lookup::walking::root;
 use nets::Refusal;
-use pool_state::Answer;
+use pool_header::FAMILY;
 
 mod asking;
 mod blocks;
@@ -19,22 +19,17 @@ pub fn contains_all(
     family: u8,
     queries: &[u64],
     answers: &mut [u64],
-) -> Answer
+) -> Result<u32, Refusal>
     ensures { ContainsAll pool.now set family queries.now answers.old result answers.new }
 {
-    let a = root(pool, set);
-    match a {
-        Answer::Refused(no) => Answer::Refused(no),
-        Answer::Granted(_) => {
-            if family as u32 != pool[1] {
-                return Answer::Refused(Refusal::WrongFamily);
-            }
-            if answers.len() < queries.len() / 3 {
-                return Answer::Refused(Refusal::ShortBuffer);
-            }
-            let done = by_blocks(pool, set, family, queries, answers);
-            one_by_one(pool, set, family, queries, done, answers);
-            Answer::Granted(0)
-        }
+    root(pool, set)?;
+    if family as u32 != pool[FAMILY] {
+        return Err(Refusal::WrongFamily);
     }
+    if answers.len() < queries.len() / 3 {
+        return Err(Refusal::ShortBuffer);
+    }
+    let done = by_blocks(pool, set, family, queries, answers);
+    one_by_one(pool, set, family, queries, done, answers);
+    Ok(0)
 }

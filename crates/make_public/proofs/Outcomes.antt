@@ -15,15 +15,16 @@ use Rattle.pool_state.specs.States.{State, is_state}
 use Rattle.pool_state.specs.Decode.{decode, sound}
 use Rattle.pool_state.specs.Rules.{answer_as}
 use Rattle.pool_state.specs.Changes.{set_at, list_at, is_empty, change_no, marked, mark_rules, Marked}
-use Rattle.pool_state.specs.declared.Answer.{Answer}
 use Rattle.pool_state.proofs.Claims.{is_list-list_at, share-limit, held-limit}
 use Rattle.pool_state.proofs.Decoded.{decode-state}
 use Rattle.pool_state.proofs.Determined.{changed-one}
 use Rattle.pool_state.proofs.Judged.{change_no-known}
 use Rattle.pool_state.proofs.Leaves.{Leaves, Keeps, after, after-lists, changed-leaves}
 use Rattle.pool_state.proofs.WithSet.{claim-room_of}
+use Rattle.std.specs.Prelude.{Result}
+use Rattle.nets.specs.declared.Refusal.{Refusal}
 
-pub make-public-determined : {w u v : List ℕ} {k : ℕ} {r s : Answer} → Marked w k (answer_as r) u → Marked w k (answer_as s) v → (r ≡ s) × (u ≡ v)
+pub make-public-determined : {w u v : List ℕ} {k : ℕ} {r s : (Result ℕ Refusal)} → Marked w k (answer_as r) u → Marked w k (answer_as s) v → (r ≡ s) × (u ≡ v)
 make-public-determined h g = changed-one h g
 
 module _ (S : State) (k : ℕ) where

@@ -4,23 +4,17 @@ ghost use Rattle.pool_state.specs.Changes.{Marked};
 
 use nets::Refusal;
 use pool_check::seats::seat_of;
-use pool_header::{HEAD, RECORD};
-use pool_state::{Answer, Seated};
+use pool_header::{HEAD, PUBLIC, RECORD};
 
 // Makes an empty set public-only. Answers the nodes that it holds, which are none.
-pub fn make_public(pool: &mut [u32], set: u32) -> Answer
+pub fn make_public(pool: &mut [u32], set: u32) -> Result<u32, Refusal>
     ensures { Marked pool.old set (answer_as result) pool.new }
 {
-    let seated = seat_of(pool, set);
-    match seated {
-        Seated::Refused(no) => Answer::Refused(no),
-        Seated::At(found, _) => {
-            if found.held != 0 {
-                return Answer::Refused(Refusal::Occupied);
-            }
-            let record = HEAD + RECORD * (set as usize);
-            pool[record + 3] = 1;
-            Answer::Granted(found.held)
-        }
+    let (found, _) = seat_of(pool, set)?;
+    if found.held != 0 {
+        return Err(Refusal::Occupied);
     }
+    let record = HEAD + RECORD * (set as usize);
+    pool[record + PUBLIC] = 1;
+    Ok(found.held)
 }

@@ -4,7 +4,7 @@
 #![tactic(auto)]
 
 use std::io;
-use tool_io::Input;
+use tool_io::LinesError;
 
 mod report;
 
@@ -22,19 +22,17 @@ fn tell(rt: &HostRuntime, written: io::Result<()>) {
 
 fn main(rt: HostRuntime) {
     let mut pool = [0u32; WORDS];
-    let lines = tool_io::read_lines(&mut rt.stdin(), &mut pool, NODES);
-    let input = lines.input;
-    match input {
-        Input::Unreadable(e) => {
+    match tool_io::read_lines(&mut rt.stdin(), &mut pool, NODES) {
+        Ok(lines) => {
+            let _ = change::simplify(&mut pool, 0);
+            tell(&rt, report::set(&rt, &pool, lines.family, lines.trimmed));
+        }
+        Err(LinesError::Refused(number, refusal)) => {
+            tell(&rt, report::refused(&rt, number, refusal));
+            tool_files::say_refused_line(&rt, b"netlist", number, refusal);
+        }
+        Err(LinesError::Unreadable(e)) => {
             tool_files::say_failed(&rt, b"netlist", b"standard input", &e);
-        }
-        Input::Refused(number, no) => {
-            tell(&rt, report::refused(&rt, number, no));
-            tool_files::say_refused_line(&rt, b"netlist", number, no);
-        }
-        Input::Added(trimmed) => {
-            change::simplify(&mut pool, 0);
-            tell(&rt, report::set(&rt, &pool, lines.family, trimmed));
         }
     }
 }

@@ -1,5 +1,5 @@
 // What is written to standard output. Each function fails where not all of it was written.
-use pool_state::Report;
+use nets::Refusal;
 use std::io;
 use std::io::ErrorKind;
 
@@ -7,14 +7,14 @@ use std::io::ErrorKind;
 const ROWS: usize = 3000;
 
 // The one line of an input with a refused line.
-pub fn refused(out: &impl Print, number: u64, no: u8) -> io::Result<()> {
+pub fn refused(out: &impl Print, number: u64, refusal: Refusal) -> io::Result<()> {
+    let no = refusal.number();
     println!(out; "line {number} refused {no}")
 }
 
 // How many networks and nodes set 0 has, and how many lines were trimmed.
 fn counts(out: &impl Print, pool: &[u32], trimmed: u64) -> io::Result<()> {
-    let held = pool::held(pool, 0);
-    let Report::Numbers(nodes, networks) = held else {
+    let Ok((nodes, networks)) = pool::held(pool, 0) else {
         return Err(io::Error::new(ErrorKind::InvalidData, "a pool without set 0"));
     };
     println!(out; "{networks} networks, {nodes} nodes, {trimmed} trimmed")

@@ -4,41 +4,25 @@ ghost use Rattle.std.specs.Prelude.{◌<◌};
 use crate::reading;
 use crate::reading::WORDS;
 use lines::Reader;
-use pool_state::{Answer, Report};
 use test_counts::{Tally, count};
 
 // A pool of 1,000 nodes has no more networks than nodes; three numbers each.
 const ROWS: usize = 3000;
 
-// Whether the rows begin with these.
-fn begins(rows: &[u64], nets: &[u64]) -> bool {
-    if rows.len() < nets.len() {
-        return false;
-    }
-    for i in 0..nets.len() {
-        if rows[i] != nets[i] {
-            return false;
-        }
-    }
-    true
-}
-
 // Whether the list of set 0 is these rows, by way of lent ones.
 fn lists(pool: &[u32], nets: &[u64], rows: &mut [u64]) -> bool {
-    let listed = listing::list(pool, 0, rows);
-    let Answer::Granted(n) = listed else {
-        return false;
-    };
-    n as usize == nets.len() / 3 && begins(rows, nets)
+    match listing::list(pool, 0, rows) {
+        Ok(n) => n as usize == nets.len() / 3 && rows.starts_with(nets),
+        Err(_) => false,
+    }
 }
 
 // Whether the report of set 0 has so many networks and nodes.
 fn reports(pool: &[u32], networks: usize, nodes: u32) -> bool {
-    let held = pool::held(pool, 0);
-    let Report::Numbers(n, k) = held else {
-        return false;
-    };
-    n == nodes && k as usize == networks
+    match pool::held(pool, 0) {
+        Ok((n, k)) => n == nodes && k as usize == networks,
+        Err(_) => false,
+    }
 }
 
 fn holds(pool: &[u32], nets: &[u64], nodes: u32) -> bool {
@@ -64,7 +48,7 @@ pub fn ends(
     if no != 0 {
         return count(t, holds(pool, nets, nodes));
     }
-    change::simplify(pool, 0);
+    let _ = change::simplify(pool, 0);
     count(t, holds(pool, nets, nodes))
 }
 

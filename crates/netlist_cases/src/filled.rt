@@ -9,10 +9,10 @@ fn byte(line: &[u8; 16], at: usize, n: usize, j: usize) -> u8
     requires { (n < 100) × (j < 16) × (at < 16) }
 {
     if j == at {
-        return 48 + (n / 10) as u8;
+        return b'0' + (n / 10) as u8;
     }
     if j == at + 1 {
-        return 48 + (n % 10) as u8;
+        return b'0' + (n % 10) as u8;
     }
     line[j]
 }

@@ -1,5 +1,5 @@
 // The pool that netlist reads into, and inputs read in pieces.
-ghost use Rattle.std.specs.Prelude.{◌≤◌, ◌<◌};
+ghost use Rattle.std.specs.Prelude.{◌<◌};
 
 use lines::Reader;
 
@@ -7,18 +7,7 @@ use lines::Reader;
 pub const WORDS: usize = 8072;
 
 pub fn lay(pool: &mut [u32]) {
-    pool::layout(pool, 4, 0, 1, 1000, &[1000], &[1000], 0);
-}
-
-// Where the piece ends that begins at the place.
-fn piece_end(at: usize, size: usize, len: usize) -> usize
-    requires { (at < len) × (0 < size) }
-    ensures { (at < result) × (result ≤ len) }
-{
-    if len - at < size {
-        return len;
-    }
-    at + size
+    let _ = pool::layout(pool, 4, 0, 1, 1000, &[1000], &[1000], 0);
 }
 
 // Feeds the bytes in pieces of this size.
@@ -26,11 +15,8 @@ pub fn feed(pool: &mut [u32], r: Reader, input: &[u8], size: usize) -> Reader
     requires { 0 < size }
 {
     let mut r = r;
-    let mut at = 0;
-    while at < input.len() {
-        let end = piece_end(at, size, input.len());
-        r = lines::feed(pool, r, &input[at..end]);
-        at = end;
+    for piece in input.chunks(size) {
+        r = lines::feed(pool, r, piece);
     }
     r
 }

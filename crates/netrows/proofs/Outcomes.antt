@@ -12,14 +12,14 @@ use Rattle.nets.specs.declared.Refusal.TheVariants.{Damaged, NoSet, ShortBuffer}
 use Rattle.pool_state.specs.States.{State}
 use Rattle.pool_state.specs.Decode.{damaged, sound, decode}
 use Rattle.pool_state.specs.Changes.{list_at}
-use Rattle.pool_state.specs.declared.Answer.{Answer}
-use Rattle.pool_state.specs.declared.Answer.TheVariants.{Granted, Refused}
 use Rattle.pool_state.proofs.Filled.{filled-one, filled-damaged, filled-noset, filled-short, filled-whole}
 use Rattle.netrows.specs.Rows.{filled, blank, Listed}
 use Rattle.netrows.specs.declared.Page.{Page}
 use Rattle.netrows.proofs.Begun.{list-fills}
+use Rattle.std.specs.Prelude.{Result, Ok, Err}
+use Rattle.nets.specs.declared.Refusal.{Refusal}
 
-pub list-determined : {w : List ℕ} {v u x : List Net} {k : ℕ} {r s : Answer} → Listed w k v r u → Listed w k v s x → (r ≡ s) × (u ≡ x)
+pub list-determined : {w : List ℕ} {v u x : List Net} {k : ℕ} {r s : (Result ℕ Refusal)} → Listed w k v r u → Listed w k v s x → (r ≡ s) × (u ≡ x)
 list-determined g h = filled-one (list-fills g) (list-fills h)
 
 -- The row with a list in its first entries, entry by entry.
@@ -40,20 +40,20 @@ filled-past f (p ∷ l) [] i h g = absurd (omega arith)
 filled-past f (p ∷ l) (x ∷ v) zero h g = absurd (omega arith)
 filled-past f (p ∷ l) (x ∷ v) (suc i) h g = filled-past f l v i (omega arith) (omega arith)
 
-module _ {w : List ℕ} {v u : List Net} {k : ℕ} {r : Answer} (h : Listed w k v r u) where
-  pub list-damaged : decode w ≡ damaged → (r ≡ Refused Damaged) × (u ≡ v)
+module _ {w : List ℕ} {v u : List Net} {k : ℕ} {r : (Result ℕ Refusal)} (h : Listed w k v r u) where
+  pub list-damaged : decode w ≡ damaged → (r ≡ Err Damaged) × (u ≡ v)
   list-damaged = filled-damaged (list-fills h)
 
   module _ (S : State) (d : decode w ≡ sound S) where
-    pub list-noset : length S.sets ≤ k → (r ≡ Refused NoSet) × (u ≡ v)
+    pub list-noset : length S.sets ≤ k → (r ≡ Err NoSet) × (u ≡ v)
     list-noset = filled-noset (list-fills h) S d
 
     module _ (lt : k < length S.sets) where
-      pub list-short : length v < length (list_at S k) → (r ≡ Refused ShortBuffer) × (u ≡ v)
+      pub list-short : length v < length (list_at S k) → (r ≡ Err ShortBuffer) × (u ≡ v)
       list-short = filled-short (list-fills h) S d lt
 
       module _ (le : length (list_at S k) ≤ length v) where
-        pub list-row : (r ≡ Granted (length (list_at S k))) × (u ≡ filled S.family (list_at S k) v)
+        pub list-row : (r ≡ Ok (length (list_at S k))) × (u ≡ filled S.family (list_at S k) v)
         list-row = filled-whole (list-fills h) S d lt le
 
         pub list_length : length u ≡ length v
@@ -78,12 +78,12 @@ zeros-at (suc n) zero = refl
 zeros-at (suc n) (suc i) = zeros-at n i
 
 module _ {w : List ℕ} {k : ℕ} {r : Page} (h : Paged w k r) (S : State) (d : decode w ≡ sound S) (lt : k < length S.sets) where
-  pub page-short : 16 < length (list_at S k) → (r.answer ≡ Refused ShortBuffer) × (r.nets ≡ blank)
+  pub page-short : 16 < length (list_at S k) → (r.answer ≡ Err ShortBuffer) × (r.nets ≡ blank)
   unfolding blank
   page-short more = list-short h S d lt more
 
   module _ (le : length (list_at S k) ≤ 16) where
-    pub page-row : (r.answer ≡ Granted (length (list_at S k))) × (r.nets ≡ filled S.family (list_at S k) blank)
+    pub page-row : (r.answer ≡ Ok (length (list_at S k))) × (r.nets ≡ filled S.family (list_at S k) blank)
     unfolding blank
     page-row = list-row h S d lt le
 

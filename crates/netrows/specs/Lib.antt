@@ -1,3 +1,2 @@
--- The listing into a row of networks; then what its turns carry.
+-- The listing into a row of networks.
 pub mod Rows
-pub mod Turns

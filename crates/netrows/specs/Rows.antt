@@ -5,7 +5,7 @@
 --   row_rules, row_rule    the answer: 3 no such set, 11 fewer entries than networks, else how many networks
 --   row_after             the row afterwards;  Listed: both, as the contract
 --   blank                a page: 16 entries of zeros
-use Rattle.std.specs.Prelude.{List, [], ◌∷◌, ◌++◌, map, ◌≡◌, ℕ, length, drop, replicate}
+use Rattle.std.specs.Prelude.{List, [], ◌∷◌, ◌++◌, map, ◌≡◌, ℕ, length, drop, replicate, Result}
 use Rattle.nets.specs.Bits.{Bits}
 use Rattle.nets.specs.Networks.{net_from, no_net}
 use Rattle.nets.specs.Refusals.{Rule}
@@ -14,7 +14,7 @@ use Rattle.pool_state.specs.States.{State}
 use Rattle.pool_state.specs.Decode.{Decoded, decode}
 use Rattle.pool_state.specs.Rules.{answer_on, left_on, unknown, short, answer_as}
 use Rattle.pool_state.specs.Changes.{list_at}
-use Rattle.pool_state.specs.declared.Answer.{Answer}
+use Rattle.nets.specs.declared.Refusal.{Refusal}
 
 abbrev pub nets_of : ℕ → List Bits → List Net
 nets_of f l = map (net_from f) l
@@ -32,7 +32,7 @@ unfoldable pub row_after : List Net → Decoded → ℕ → List Net
 row_after v d k = left_on d (row_rules k (length v)) v (λ S. filled S.family (list_at S k) v)
 
 -- from the words w and the row v list on set k answers r and leaves the row u
-pub record Listed (w : List ℕ) (k : ℕ) (v : List Net) (r : Answer) (u : List Net) : Type 0 where
+pub record Listed (w : List ℕ) (k : ℕ) (v : List Net) (r : Result ℕ Refusal) (u : List Net) : Type 0 where
   pub answer : answer_as r ≡ row_rule (decode w) k (length v)
   pub row : u ≡ row_after v (decode w) k
 

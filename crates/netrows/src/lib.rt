@@ -1,27 +1,34 @@
 // The list of a set in a lent row of networks, each with its family, its words and its length.
+#![tactic(auto)]
+
 ghost use Rattle.netrows.specs.Rows.{blank, Listed};
 
-use nets::Net;
-use pool_state::Answer;
-
-mod turns;
+use listing::seated::{count, go_on};
+use nets::{Net, Refusal};
+use pool_check::seats::seat_of;
+use trie_spots::spots::before_all;
 
 // Writes the networks of a set in list order and answers how many there are. Entries past them keep what they had, and a refusal writes nothing.
-pub fn list(pool: &[u32], set: u32, nets: &mut [Net]) -> Answer
+pub fn list(pool: &[u32], set: u32, nets: &mut [Net]) -> Result<u32, Refusal>
     ensures { Listed pool.now set nets.old result nets.new }
 {
-    let mut t = turns::begin(pool, set, nets.len());
-    while t.spot.more {
-        nets[t.at] = t.spot.net;
-        t = turns::after(pool, t);
+    let (_, seat) = seat_of(pool, set)?;
+    let n = count(pool, seat);
+    if nets.len() < n {
+        return Err(Refusal::ShortBuffer);
     }
-    t.answer
+    let mut spot = before_all(seat);
+    for at in 0..n {
+        spot = go_on(pool, spot);
+        nets[at] = spot.net;
+    }
+    Ok(n as u32)
 }
 
 // What a listing into a page of 16 entries answers, and the page.
 #[derive(Clone, Copy)]
 pub struct Page {
-    pub answer: Answer,
+    pub answer: Result<u32, Refusal>,
     pub nets: [Net; 16],
 }
 

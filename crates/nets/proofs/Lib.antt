@@ -23,6 +23,7 @@ pub mod Laws
 pub mod TwoWords
 pub mod Numbers
 pub mod Handing
+pub mod Propagated
 pub mod Answers
 pub mod Refused
 pub mod Worked

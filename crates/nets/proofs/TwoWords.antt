@@ -15,9 +15,9 @@ use borrow.Author.Tests.{not-false, eqb-true, eq-eqb, ne_eqb, ltb-true, ltb-fals
 use Rattle.nets.specs.Networks.{width, value, net_words, net_of, address, bits_words, in_range, refusal_of, cleared, has_bit_past, start_of, next_as, next_of}
 use Rattle.nets.specs.declared.Net.{Net}
 use Rattle.nets.specs.declared.PrefixBits.{PrefixBits}
-use Rattle.nets.specs.declared.NextBit.TheVariants.{Bit}
 use Rattle.nets.proofs.Strings.{and_left, and_right, bool_iff}
 use Rattle.nets.proofs.Numbers.{refusal_of-is, refusal_of-cleared, cleared-cleared, cleared-number}
+use Rattle.std.specs.Prelude.{Some}
 
 pub net_of-value : (f hi lo n : ℕ) → lo < 2 ^ 64 → net_of f (value hi lo) n ≡ net_words f hi lo n
 net_of-value f hi lo n h = rw (high hi 64 h, low hi 64 h)
@@ -168,6 +168,6 @@ twice-low : (hi lo : ℕ) → value hi lo * 2 % 2 ^ 64 ≡ lo * 2 % 2 ^ 64
 twice-low hi lo = omega arith
 
 pub next_of-bit : (s : PrefixBits) → (s.len ≡ 0 → ⊥) → s.hi < 2 ^ 64 → s.lo < 2 ^ 64
-    → next_as (Bit (eqb (s.hi / 2 ^ 63) 1) (bits_words (bit_or (s.hi * 2 % 2 ^ 64) (s.lo / 2 ^ 63)) (s.lo * 2 % 2 ^ 64) (s.len - 1))) ≡ next_of s
+    → next_as (Some ((eqb (s.hi / 2 ^ 63) 1), (bits_words (bit_or (s.hi * 2 % 2 ^ 64) (s.lo / 2 ^ 63)) (s.lo * 2 % 2 ^ 64) (s.len - 1)))) ≡ next_of s
 unfolding next_of
 next_of-bit s e h g = rw (ne_eqb s.len 0 e, value-top s.hi s.lo h g, twice-high s.hi s.lo, twice-carry s.hi (s.lo / 2 ^ 63) (omega arith), twice-low s.hi s.lo)

@@ -6,6 +6,7 @@ pub mod Lists
 pub mod Shortest
 pub mod Groupings
 pub mod Refusals
+pub mod Numbered
 pub mod Networks
 pub mod Tries
 pub mod TrieOps

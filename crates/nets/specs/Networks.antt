@@ -13,19 +13,12 @@
 --   with_len_no n k    6 for another family, 7 where n or with_len n k is outside the range, else 0
 --   big_endian b xs k the number that the first k digits of base b write, the most significant first
 --   bits_left s       the bits that the iterator s has still to hand out;  next_of s: its next bit, and the iterator behind it
-use Rattle.std.specs.Prelude.{Bool, true, false, not, cond, ◌&&◌, ◌||◌, List, [], ◌∷◌, ℕ, zero, suc, ◌+◌, ◌-◌, ◌*◌, ◌/◌, ◌%◌, ◌^◌, eqb, leb, ltb, length, take, get_or}
+use Rattle.std.specs.Prelude.{Bool, true, false, not, cond, ◌&&◌, ◌||◌, List, [], ◌∷◌, ℕ, zero, suc, ◌+◌, ◌-◌, ◌*◌, ◌/◌, ◌%◌, ◌^◌, eqb, leb, ltb, length, take, get_or, Result, Option, Ok, Err, Some, None}
 use Rattle.nets.specs.Bits.{Bits, bits, val}
 use Rattle.nets.specs.Refusals.{number, answered}
 use Rattle.nets.specs.declared.Net.{Net}
-use Rattle.nets.specs.declared.Taken.{Taken}
-use Rattle.nets.specs.declared.Taken.TheVariants as taken
-use Rattle.nets.specs.declared.Entered.{Entered}
-use Rattle.nets.specs.declared.Entered.TheVariants as entering
-use Rattle.nets.specs.declared.Prefix.{Prefix}
-use Rattle.nets.specs.declared.Prefix.TheVariants as prefix
 use Rattle.nets.specs.declared.PrefixBits.{PrefixBits}
-use Rattle.nets.specs.declared.NextBit.{NextBit}
-use Rattle.nets.specs.declared.NextBit.TheVariants.{Bit, End}
+use Rattle.nets.specs.declared.Refusal.{Refusal}
 
 abbrev pub is_family : ℕ → Bool
 is_family f = eqb f 4 || eqb f 6
@@ -62,9 +55,9 @@ refusal_of n = cond (is_family n.family) (cond (in_range n) 0 7) 6
 abbrev pub no_net : Net
 no_net = net_words 0 0 0 0
 
-abbrev pub taken_as : Taken → ℕ × Net
-taken_as (taken.Network n) = (0, n)
-taken_as (taken.Refused r) = (number r, no_net)
+abbrev pub taken_as : Result Net Refusal → ℕ × Net
+taken_as (Ok n) = (0, n)
+taken_as (Err r) = (number r, no_net)
 
 abbrev pub judged : Net → ℕ × Net
 judged n = answered (refusal_of n) no_net n
@@ -87,9 +80,9 @@ has_bit_past n = not (eqb (address n % 2 ^ (width n.family - n.len)) 0)
 abbrev pub no_entry : Net × Bool
 no_entry = (no_net, false)
 
-abbrev pub entered_as : Entered → ℕ × (Net × Bool)
-entered_as (entering.Network n b) = (0, (n, b))
-entered_as (entering.Refused r) = (number r, no_entry)
+abbrev pub entered_as : Result (Net × Bool) Refusal → ℕ × (Net × Bool)
+entered_as (Ok (n, b)) = (0, (n, b))
+entered_as (Err r) = (number r, no_entry)
 
 -- by the number k of the refusal, 0 where there is none
 abbrev pub taken_in : ℕ → Net → ℕ × (Net × Bool)
@@ -118,14 +111,14 @@ start_of n = bits_of (address n * 2 ^ (128 - width n.family)) n.len
 abbrev pub no_bits : PrefixBits
 no_bits = bits_words 0 0 0
 
-abbrev pub prefix_as : Prefix → ℕ × PrefixBits
-prefix_as (prefix.Bits s) = (0, s)
-prefix_as (prefix.Refused r) = (number r, no_bits)
+abbrev pub prefix_as : Result PrefixBits Refusal → ℕ × PrefixBits
+prefix_as (Ok s) = (0, s)
+prefix_as (Err r) = (number r, no_bits)
 
 -- a step: whether there is a bit, the bit, and the iterator of those behind it
-abbrev pub next_as : NextBit → ℕ × (Bool × (Bool × PrefixBits))
-next_as (Bit b s) = (0, (true, (b, s)))
-next_as End = (0, (false, (false, no_bits)))
+abbrev pub next_as : Option (Bool × PrefixBits) → ℕ × (Bool × (Bool × PrefixBits))
+next_as (Some (b, s)) = (0, (true, (b, s)))
+next_as None = (0, (false, (false, no_bits)))
 
 -- the highest bit, and the others one place to the left; and the bits that a step hands out
 unfoldable pub next_of : PrefixBits → ℕ × (Bool × (Bool × PrefixBits))

@@ -5,5 +5,5 @@ ghost use Rattle.std.specs.Prelude.{◌≡◌, ◌-◌};
 pub fn less_by(a: u8, b: u8) -> u8
     ensures { result ≡ a - b }
 {
-    if b < a { a - b } else { 0 }
+    a.saturating_sub(b)
 }

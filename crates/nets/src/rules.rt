@@ -5,7 +5,7 @@ ghost use Rattle.nets.specs.Networks.{in_range, refusal_of, no_net, taken_as, ju
 
 use crate::families::is_family;
 use crate::words::clear;
-use crate::{IPV4, Net, Refusal, Taken};
+use crate::{IPV4, Net, Refusal};
 
 // Whether length and address are within the family's range.
 fn in_range(n: Net) -> bool
@@ -18,24 +18,22 @@ fn in_range(n: Net) -> bool
 }
 
 // The network, or the refusal of its numbers.
-pub fn accept(n: Net) -> Taken
+pub fn accept(n: Net) -> Result<Net, Refusal>
     ensures { taken_as result ≡ judged n }
 {
     if !is_family(n.family as u32) {
-        return Taken::Refused(Refusal::WrongFamily);
+        return Err(Refusal::WrongFamily);
     }
     if !in_range(n) {
-        return Taken::Refused(Refusal::BadNetwork);
+        return Err(Refusal::BadNetwork);
     }
-    Taken::Network(n)
+    Ok(n)
 }
 
 // The network with the bits past its length cleared, or the refusal of its numbers.
-pub fn cut(n: Net) -> Taken
+pub fn cut(n: Net) -> Result<Net, Refusal>
     ensures { taken_as result ≡ answered (refusal_of n) no_net (cleared n) }
 {
-    match accept(n) {
-        Taken::Network(n) => Taken::Network(clear(n)),
-        Taken::Refused(no) => Taken::Refused(no),
-    }
+    let n = accept(n)?;
+    Ok(clear(n))
 }

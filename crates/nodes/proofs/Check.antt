@@ -7,6 +7,7 @@ use native.Mathlib.Numerals.{sub-one}
 use native.Mathlib.Decide.{ℕ_discrete}
 use lib.Dec.{eqb, ltb}
 use lib.ListN.{length, get_or, set, length-set}
+use Rattle.std.specs.Int.{from_bool}
 use lib.Seq.{get_or-set_same, get_or-set_other}
 use borrow.Author.Tests.{le-leb, lt-leb, le-ltb, eq-eqb, ne_eqb, ltb-true, ltb-false}
 use Rattle.nets.specs.Tries.{Trie, none, node, size}
@@ -39,6 +40,9 @@ pub record Known (w : List ℕ) (b n f i x : ℕ) : Type 0 where
   pub fuel : f ≡ 0 → ⊥
   pub within : i ≤ n
   pub here : x ≡ word_at w b i
+
+pub known : {w : List ℕ} {b n fuel d i x : ℕ} → d < fuel → i ≤ n → x ≡ word_at w b i → Known w b n (fuel - d) i x
+known lt le e = record { fuel = λ z. omega arith; within = le; here = e }
 
 -- the number after all, where the part now read ends at e and the entries 1..k of the stack are the second children still to come: each starts where what is before it ends
 unfoldable pub unwind : List ℕ → ℕ → ℕ → ℕ → List ℕ → ℕ → ℕ → ℕ
@@ -272,18 +276,17 @@ module _ {w : List ℕ} {b n fuel root : ℕ} {st : List ℕ} {sp i at : ℕ} (o
             is = rw (top, down-fuel) (pushed-end k st fuel sp entry o.up lt inside entry_place (omega (arith, entry-depth)) ∙ o.is);
           }
 
--- a number picked by a test
-picked-le : (t : Bool) {y r : ℕ} → r ≡ cond t y 0 → r ≤ y
-picked-le true e = omega arith
-picked-le false e = omega arith
+flag-le : (t : Bool) {r : ℕ} → r ≡ from_bool t → r ≤ 1
+flag-le true e = omega arith
+flag-le false e = omega arith
 
 -- the flags of the word x: it is a leaf's, it is of two children (or of no node)
 pub record Flags (x leaf two : ℕ) : Type 0 where
-  pub none : leaf ≡ cond (eqb x 0) 1 0
-  pub both : two ≡ cond (ltb 2 x) 1 0
+  pub none : leaf ≡ from_bool (eqb x 0)
+  pub both : two ≡ from_bool (ltb 2 x)
 
 pub flags-small : {x leaf two : ℕ} → Flags x leaf two → (leaf ≤ 1) × (two ≤ 1)
-flags-small {x} g = (picked-le (eqb x 0) g.none, picked-le (ltb 2 x) g.both)
+flags-small {x} g = (flag-le (eqb x 0) g.none, flag-le (ltb 2 x) g.both)
 
 -- the word of a leaf, of one child, of two
 data Kind (x leaf two : ℕ) : Type 0 where
@@ -294,7 +297,7 @@ data Kind (x leaf two : ℕ) : Type 0 where
 kind : {x leaf two : ℕ} → Flags x leaf two → Kind x leaf two
 kind {x} {leaf} {two} g = go (ℕ_discrete x 0)
   where
-    more : (x ≡ 0 → ⊥) → leaf ≡ 0 → (t : Bool) → ltb 2 x ≡ t → two ≡ cond t 1 0 → Kind x leaf two
+    more : (x ≡ 0 → ⊥) → leaf ≡ 0 → (t : Bool) → ltb 2 x ≡ t → two ≡ from_bool t → Kind x leaf two
     more nz z true q e = of_two (ltb-true 2 x q) z e
     more nz z false q e = of_one nz (ltb-false 2 x q) z e
 

@@ -1,7 +1,7 @@
 -- A trie in the middle of the used words: its word, its children, and the whole after a change of one of them. Assumes nothing.
 use mathlib.Core.Path.{◌≡◌, refl, sym, ap, ◌∙◌}
 use mathlib.Core.List.{List, [], ◌∷◌, ◌++◌, append_assoc}
-use Prim.Native.Nat.{ℕ, zero, suc, ◌+◌, ◌-◌, ◌/◌, ◌≤◌, ◌<◌}
+use Prim.Native.Nat.{ℕ, ◌+◌, ◌-◌, ◌/◌, ◌≤◌, ◌<◌}
 use native.Mathlib.Numerals.{one-add}
 use native.Mathlib.Omega.{arith}
 use lib.Dec.{eqb}
@@ -35,10 +35,6 @@ middle-is l (node x y) i e h = more (size l)
   where
     more : (s : ℕ) → middle_of (1 + s) i e ≡ i + 1 + s
     more s = rw (one-add s) (omega arith)
-
-pub middle-some : (x i e : ℕ) → (x ≡ 0 → ⊥) → i + x ≡ middle_of x i e
-middle-some zero i e f = absurd (f refl)
-middle-some (suc x) i e f = refl
 
 module _ {w : List ℕ} {b i e u : ℕ} {t : Trie} {rest : List ℕ} (g : Segment w b i e u t rest) where
   pub segment-fit : (e ≤ u) × (b + (u - 1) ≤ length w)

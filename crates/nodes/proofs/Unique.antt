@@ -1,12 +1,12 @@
 -- At most one trie stands at a node, and no encoding is the start of another. Assumes nothing.
-use mathlib.Core.Path.{◌≡◌, refl, sym, ap, ◌∙◌}
+use mathlib.Core.Path.{◌≡◌, sym, ap, ◌∙◌}
 use mathlib.Core.List.{List, ◌++◌}
-use Prim.Native.Nat.{ℕ, ◌+◌, ◌-◌, ◌≤◌}
+use Prim.Native.Nat.{ℕ, ◌+◌, ◌≤◌}
 use native.Mathlib.Nat.{zero-add}
 use native.Mathlib.Omega.{arith}
 use lib.ListN.{drop, length-append, get_or-append}
 use lib.Seq.{drop_at}
-use Rattle.nets.specs.Tries.{Trie, none, node, size, levels}
+use Rattle.nets.specs.Tries.{Trie, none, size, levels}
 use Rattle.nodes.specs.Words.{enc}
 use Rattle.nodes.specs.Parse.{Stands}
 use Rattle.nodes.proofs.Tries.{length-enc}

@@ -1,6 +1,6 @@
 -- What is seen of a trie at its root: by the tests of `look`, what it says of the trie, and an inner node by its child on the side of a bit. Assumes nothing.
 use mathlib.Core.Path.{◌≡◌, refl, sym, ap, ◌∙◌}
-use mathlib.Core.Bool.{Bool, true, false, cond}
+use mathlib.Core.Bool.{Bool, true, false}
 use mathlib.Core.List.{List, [], ◌∷◌, ◌++◌}
 use Prim.Native.Nat.{ℕ, ◌+◌, ◌-◌, ◌/◌, ◌≤◌, ◌<◌}
 use native.Mathlib.Omega.{arith}
@@ -11,7 +11,6 @@ use Rattle.nets.proofs.Listing.{leaf-is}
 use Rattle.nodes.specs.Words.{put, place, word_at, enc}
 use Rattle.nodes.specs.Links.{linked}
 use Rattle.nodes.specs.Segments.{Segment, Spliced, middle_of, view_of, Branch}
-use Rattle.nodes.specs.declared.steps.View.{View}
 use Rattle.nodes.specs.declared.steps.View.TheVariants.{Nothing, Leaf, Inner}
 use Rattle.nodes.proofs.Tries.{size-node, size-side}
 use Rattle.nodes.proofs.Segments.{none_is, segment-fit, segment-leaf, segment-place, segment-middle, segment-left, segment-right, spliced-left, spliced-right}

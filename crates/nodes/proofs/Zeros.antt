@@ -2,12 +2,13 @@
 use mathlib.Core.Path.{◌≡◌, refl, ◌∙◌}
 use mathlib.Core.Bool.{Bool, true, false, cond}
 use mathlib.Core.List.{List, [], ◌∷◌, ◌++◌}
-use Prim.Native.Nat.{ℕ, zero, suc, ◌+◌, ◌-◌, ◌≤◌, ◌<◌}
+use Prim.Native.Nat.{ℕ, zero, suc, ◌+◌, ◌≤◌, ◌<◌}
 use native.Mathlib.Omega.{arith}
 use native.Mathlib.Numerals.{add-one}
 use lib.Dec.{eqb}
-use lib.ListN.{length, get_or, take, drop, length-append, length-map}
-use lib.Seq.{drop-cons}
+use Rattle.std.specs.Int.{from_bool}
+use lib.ListN.{length, get_or, take, length-append, length-map}
+use lib.Seq.{length-take-le}
 use Rattle.nets.specs.Bits.{Bits}
 use Rattle.nets.specs.Tries.{Trie, none, node, bare, levels, level, below, list_of}
 use Rattle.nodes.specs.Words.{enc, zeros}
@@ -63,32 +64,19 @@ pub zeros-enc : (t : Trie) → zeros (enc t) ≡ length (list_of t)
 unfolding list_of
 zeros-enc t = zeros-leaves t ∙ leaves-below t (levels t) (omega arith)
 
-zeros-next : (w : List ℕ) (end k : ℕ) → k < end → end ≤ length w
-    → zeros (take (end - k) (drop k w)) ≡ cond (eqb (get_or w k 0) 0) 1 0 + zeros (take (end - (k + 1)) (drop (k + 1) w))
+byte-bit : (b : Bool) → from_bool b ≡ cond b 1 0
+byte-bit true = refl
+byte-bit false = refl
+
+zeros-next : (xs : List ℕ) (k : ℕ) → k < length xs → zeros (take k xs) + cond (eqb (get_or xs k 0) 0) 1 0 ≡ zeros (take (k + 1) xs)
 unfolding zeros
-zeros-next w end k lt le =
-    let e : end - k ≡ suc (end - (k + 1)) = omega arith in
-    let h : k < length w = omega arith in
-    rw (e, drop-cons w k 0 h, add-one k)
+zeros-next [] k h = absurd (omega arith)
+zeros-next (x ∷ xs) zero h = omega arith
+zeros-next (x ∷ xs) (suc k) h = rw add-one (omega (arith, rw add-one at (zeros-next xs k (omega arith))))
 
--- What holds at the head of the loop: the zeros from k on complete the count.
-pub record Count (w : List ℕ) (p m end k count : ℕ) : Type 0 where
-  pub past : k ≤ end
-  pub fit : end ≤ length w
-  pub few : count + (end - k) ≤ m
-  pub is : count + zeros (take (end - k) (drop k w)) ≡ zeros (take m (drop p w))
-
-module _ {w : List ℕ} {p m : ℕ} where
-  pub count-start : p + m ≤ length w → Count w p m (p + m) p 0
-  count-start le = let z : p + m - p ≡ m = omega arith in record { past = omega arith; fit = le; few = omega arith; is = rw z (omega arith) }
-
-  module _ {end k count : ℕ} (o : Count w p m end k count) where
-    pub count-done : end ≤ k → count ≡ zeros (take m (drop p w))
-    unfolding zeros
-    count-done le = let z : end - k ≡ 0 = omega arith in let h = rw z at o.is in omega arith
-
-    pub count-on : k < end → (x : ℕ) → x ≡ cond (eqb (get_or w k 0) 0) 1 0 → Count w p m end (k + 1) (count + x)
-    count-on lt x e =
-        let n = zeros-next w end k lt o.fit in
-        let b = bit_le (eqb (get_or w k 0) 0) in
-        record { past = omega arith; fit = o.fit; few = omega arith; is = omega (arith, o.is) }
+-- one word more, as the code counts: x is its flag
+pub zeros-more : (xs : List ℕ) (k x : ℕ) → k < length xs → x ≡ from_bool (eqb (get_or xs k 0) 0) → (zeros (take k xs) + x ≡ zeros (take (k + 1) xs)) × (zeros (take k xs) + x ≤ length xs)
+zeros-more xs k x h e =
+    let n = zeros-next xs k h in
+    let q : x ≡ cond (eqb (get_or xs k 0) 0) 1 0 = e ∙ byte-bit _ in
+    (omega arith, omega (arith, zeros-le (take (k + 1) xs), length-take-le (k + 1) xs (omega arith)))

@@ -1,5 +1,5 @@
 -- The trie that arbitrary words hold at a node number.
-use Rattle.std.specs.Prelude.{cond, List, ℕ, zero, suc, ◌+◌, ◌-◌, ◌/◌, ◌%◌, ◌≤◌, length, leb, eqb}
+use Rattle.std.specs.Prelude.{cond, List, ℕ, zero, suc, ◌+◌, ◌/◌, ◌%◌, ◌≤◌, length, leb, eqb}
 use Rattle.nets.specs.Tries.{Trie, none, node, size, levels}
 use Rattle.nodes.specs.Words.{Has, place, word_at, enc}
 

@@ -3,38 +3,12 @@ ghost use Rattle.std.specs.Prelude.{◌≡◌, [], ◌∷◌, ◌+◌, ◌≤◌
 ghost use Rattle.nodes.specs.Words.{put, place};
 ghost use Rattle.nodes.specs.Links.{to_first, to_second, linked};
 
-fn shift_down(w: &mut [u32], from: usize, to: usize, count: usize)
-    requires { (to ≤ from) × (from + count ≤ length w.old) }
-    ensures { w.new ≡ put w.old to (take count (drop from w.old)) }
-{
-    let mut i = 0;
-    while i < count {
-        w[to + i] = w[from + i];
-        i += 1;
-    }
-}
-
-fn shift_up(w: &mut [u32], from: usize, to: usize, count: usize)
-    requires { (from ≤ to) × (to + count ≤ length w.old) }
-    ensures { w.new ≡ put w.old to (take count (drop from w.old)) }
-{
-    let mut i = count;
-    while 0 < i {
-        i -= 1;
-        w[to + i] = w[from + i];
-    }
-}
-
 // Moves count words from one place to another; the two may overlap.
 pub fn shift(w: &mut [u32], from: usize, to: usize, count: usize)
     requires { (from + count ≤ length w.old) × (to + count ≤ length w.old) }
     ensures { w.new ≡ put w.old to (take count (drop from w.old)) }
 {
-    if to <= from {
-        shift_down(w, from, to, count);
-    } else {
-        shift_up(w, from, to, count);
-    }
+    w.copy_within(from..from + count, to);
 }
 
 // Writes the word of node i.
@@ -50,7 +24,7 @@ fn first(i: usize, m: usize) -> usize
     requires { i < 4294967296 }
     ensures { result ≡ to_first i m }
 {
-    if i + 1 == m { 0 } else { 1 }
+    usize::from(i + 1 != m)
 }
 
 fn second(i: usize, m: usize, e: usize) -> usize

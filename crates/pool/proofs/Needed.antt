@@ -10,11 +10,12 @@ use Rattle.pool_state.specs.States.{is_size}
 use Rattle.nodes.specs.Words.{put}
 use Rattle.pool_state.specs.Decode.{least_words, over_records, over_indexes, is_form}
 use Rattle.pool_state.specs.Rules.{Setup, marks, is_setup, empty_sets, blanks, Laid, is_formed, answer_as}
-use Rattle.pool_state.specs.declared.Answer.{Answer}
 use Rattle.pool_state.proofs.Determined.{answer_as-one}
 use Rattle.pool_state.proofs.Setups.{headed, layout-granted}
 use Rattle.pool.specs.Words.{words_rule}
 use lib.Dec.{eqb}
+use Rattle.std.specs.Prelude.{Result}
+use Rattle.nets.specs.declared.Refusal.{Refusal}
 
 module _ (m n j : ℕ) where
   pub words_size : is_size m n ≡ false → (1, 0) ≡ words_rule m n j
@@ -29,7 +30,7 @@ module _ (m n j : ℕ) where
   unfolding words_rule
   words_are e le q = rw (e, le-leb j m le, q)
 
-  pub words-determined : (r s : Answer) → answer_as r ≡ words_rule m n j → answer_as s ≡ words_rule m n j → r ≡ s
+  pub words-determined : (r s : Result ℕ Refusal) → answer_as r ≡ words_rule m n j → answer_as s ≡ words_rule m n j → r ≡ s
   words-determined r s e f = answer_as-one r s (e ∙ sym f)
 
 pub layout-done : (w : List ℕ) (p : Setup) → is_setup (length w) p ≡ true → {j n m : ℕ} {u v y z : List ℕ} → j ≡ marks p.sets p.indexed → n ≡ least_words p.sets p.nodes j

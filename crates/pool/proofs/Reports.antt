@@ -9,7 +9,7 @@ use Rattle.nodes.specs.Words.{zeros, place, enc}
 use Rattle.nodes.proofs.Tries.{length-enc}
 use Rattle.pool_state.specs.States.{State}
 use Rattle.pool_state.specs.Decode.{decode, base}
-use Rattle.pool_state.specs.Rules.{answer_on, seat_of, share_in, limit_in, free_rule, held_rule, plan_rule, survey_of}
+use Rattle.pool_state.specs.Rules.{answer_on, seat_of, share_in, limit_in, free_rule, held_rule, plan_rule, found_of}
 use Rattle.pool_state.specs.Changes.{set_at, list_at}
 use Rattle.pool_state.specs.Steps.{Refuses}
 use Rattle.pool_state.specs.declared.Survey.{Survey}
@@ -24,11 +24,12 @@ use native.Mathlib.Omega.{arith}
 use Rattle.pool_state.proofs.Kept.{held_l-twice}
 use Rattle.pool_state.specs.Kept.{held_l}
 use Rattle.nets.specs.Networks.{width}
+use Rattle.std.specs.Prelude.{None}
 
 -- A damaged pool, or no such set.
-pub free-damaged : (w : List ℕ) (k : ℕ) (v : Survey) → v ≡ survey_of (decode w) k → v.sound ≡ false → (2, 0) ≡ free_rule (decode w)
+pub free-damaged : (w : List ℕ) (k : ℕ) → None ≡ found_of (decode w) k → (2, 0) ≡ free_rule (decode w)
 unfolding free_rule answer_on
-free-damaged w k v e f = rw (survey-damaged w k v e f)
+free-damaged w k e = rw (survey-damaged w k e)
 
 module _ (w : List ℕ) (k : ℕ) {x : ℕ} (h : Refuses (decode w) k x) where
   pub held-refused : (x, (0, 0)) ≡ held_rule (decode w) k

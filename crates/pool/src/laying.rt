@@ -7,20 +7,21 @@ ghost use Rattle.pool_state.specs.Decode.{mark, record_at, base, over_records, t
 ghost use Rattle.pool_state.specs.Rules.{shares_fit, setup, marks_fit, marks, is_formed, is_setup, empty_sets, blanks};
 
 use nets::families::is_family;
-use pool_header::{HEAD, MARK, RECORD, is_form, is_size, least_words};
+use pool_header::{
+    FAMILY, FORM, HEAD, INDEXED, LIMIT, MARK, NODES, PUBLIC, RECORD, SETS, SHARE, TAG, is_form,
+    is_size, least_words,
+};
 use trie_index::{INDEX, write_index};
 
 // How many of the first sets the bits of a number mark.
 pub fn count_marks(sets: u32, indexed: u64) -> u32
     ensures { result ≡ marks sets indexed }
 {
-    let mut left = sets;
     let mut x = indexed;
     let mut n: u32 = 0;
-    while 0 < left {
+    for _ in 0..sets {
         n += (x % 2) as u32;
         x /= 2;
-        left -= 1;
     }
     n
 }
@@ -29,11 +30,9 @@ pub fn count_marks(sets: u32, indexed: u64) -> u32
 fn marks_fit(sets: u32, indexed: u64) -> bool
     ensures { result ≡ marks_fit sets indexed }
 {
-    let mut left = sets;
     let mut x = indexed;
-    while 0 < left {
+    for _ in 0..sets {
         x /= 2;
-        left -= 1;
     }
     x == 0
 }
@@ -50,8 +49,7 @@ pub fn shares_fit(sets: u32, nodes: u32, shares: &[u32], limits: &[u32]) -> bool
         return false;
     }
     let mut left = nodes;
-    let mut s: usize = 0;
-    while s < n {
+    for s in 0..n {
         let share = shares[s];
         if limits[s] < share {
             return false;
@@ -60,7 +58,6 @@ pub fn shares_fit(sets: u32, nodes: u32, shares: &[u32], limits: &[u32]) -> bool
             return false;
         }
         left -= share;
-        s += 1;
     }
     true
 }
@@ -104,11 +101,7 @@ pub fn clear(pool: &mut [u32], n: usize)
     requires { n ≤ length pool.old }
     ensures { pool.new ≡ put pool.old 0 (replicate n 0) }
 {
-    let mut i: usize = 0;
-    while i < n {
-        pool[i] = 0;
-        i += 1;
-    }
+    pool[..n].fill(0);
 }
 
 pub fn header(pool: &mut [u32], family: u8, form: u32, sets: u32, nodes: u32)
@@ -116,10 +109,10 @@ pub fn header(pool: &mut [u32], family: u8, form: u32, sets: u32, nodes: u32)
     ensures { pool.new ≡ put (put pool.old 0 (mark ∷ family ∷ sets ∷ nodes ∷ [])) 5 (form ∷ []) }
 {
     pool[0] = MARK;
-    pool[1] = family as u32;
-    pool[2] = sets;
-    pool[3] = nodes;
-    pool[5] = form;
+    pool[FAMILY] = family as u32;
+    pool[SETS] = sets;
+    pool[NODES] = nodes;
+    pool[FORM] = form;
 }
 
 // The records of empty sets with these shares and limits.
@@ -128,14 +121,12 @@ pub fn records(pool: &mut [u32], shares: &[u32], limits: &[u32])
     requires shares_in_bounds { base (length shares.now) ≤ length pool.old }
     ensures { pool.new ≡ over_records pool.old 0 1 (empty_sets first shares.now limits.now 0) }
 {
-    let mut s: usize = 0;
-    while s < shares.len() {
+    for s in 0..shares.len() {
         let at = HEAD + RECORD * s;
         pool[at] = 0;
-        pool[at + 1] = shares[s];
-        pool[at + 2] = limits[s];
-        pool[at + 3] = 0;
-        s += 1;
+        pool[at + SHARE] = shares[s];
+        pool[at + LIMIT] = limits[s];
+        pool[at + PUBLIC] = 0;
     }
 }
 
@@ -145,11 +136,11 @@ fn index_empty(pool: &mut [u32], at: usize, s: usize, j: u32, marked: bool) -> u
     ensures { (result ≡ j + digit marked) × (pool.new ≡ put (put pool.old (record_at s + 4) (tag_of marked j ∷ [])) (at + 256 * j) (cond marked (index_l []) [])) }
 {
     if marked {
-        pool[HEAD + RECORD * s + 4] = j + 1;
+        pool[HEAD + RECORD * s + TAG] = j + 1;
         write_index(pool, HEAD, 0, 0, at + INDEX * (j as usize));
         return j + 1;
     }
-    pool[HEAD + RECORD * s + 4] = 0;
+    pool[HEAD + RECORD * s + TAG] = 0;
     j
 }
 
@@ -159,13 +150,11 @@ pub fn indexes(pool: &mut [u32], at: usize, sets: u32, indexed: u64)
     ensures { pool.new ≡ over_indexes pool.old at 0 0 (blanks sets indexed) }
 {
     let n = sets as usize;
-    let mut s: usize = 0;
     let mut j: u32 = 0;
     let mut x = indexed;
-    while s < n {
+    for s in 0..n {
         j = index_empty(pool, at, s, j, x % 2 == 1);
         x /= 2;
-        s += 1;
     }
-    pool[4] = j;
+    pool[INDEXED] = j;
 }

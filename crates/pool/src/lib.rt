@@ -11,23 +11,22 @@ use nets::Refusal;
 use nodes::reading::zeros_at;
 use pool_check::seats::{seat_in, seat_of};
 use pool_check::survey;
-use pool_header::{HEAD, RECORD, is_size, least_words};
-pub use pool_state::{Answer, Report, Told};
-use pool_state::{Seated, Survey};
+use pool_header::{FORM, HEAD, LIMIT, NODES, RECORD, SHARE, is_size, least_words};
+use pool_state::Survey;
 
 mod laying;
 
 // How many words a pool of so many sets and nodes needs, of which so many sets are indexed.
-pub fn words(sets: u32, nodes: u32, indexed: u32) -> Answer
+pub fn words(sets: u32, nodes: u32, indexed: u32) -> Result<u32, Refusal>
     ensures { answer_as result ≡ words_rule sets nodes indexed }
 {
     if !is_size(sets, nodes) {
-        return Answer::Refused(Refusal::BadSetup);
+        return Err(Refusal::BadSetup);
     }
     if sets < indexed {
-        return Answer::Refused(Refusal::BadSetup);
+        return Err(Refusal::BadSetup);
     }
-    Answer::Granted(least_words(sets, nodes, indexed) as u32)
+    Ok(least_words(sets, nodes, indexed) as u32)
 }
 
 // Lays out a pool of empty sets in the lent words, a share and a limit for each set; bit s of `indexed` says whether set s is indexed by its networks' first eight
@@ -41,7 +40,7 @@ pub fn layout(
     shares: &[u32],
     limits: &[u32],
     indexed: u64,
-) -> Answer
+) -> Result<u32, Refusal>
     ensures { Laid pool.old (setup family form sets nodes shares.now limits.now indexed) (answer_as result) pool.new }
 {
     if !laying::is_setup(
@@ -54,7 +53,7 @@ pub fn layout(
         limits,
         indexed,
     ) {
-        return Answer::Refused(Refusal::BadSetup);
+        return Err(Refusal::BadSetup);
     }
     laying::clear(
         pool,
@@ -63,18 +62,18 @@ pub fn layout(
     laying::header(pool, family, form, sets, nodes);
     laying::records(pool, shares, limits);
     laying::indexes(pool, least_words(sets, nodes, 0), sets, indexed);
-    Answer::Granted(0)
+    Ok(0)
 }
 
 // The free nodes of a pool.
-pub fn free(pool: &[u32]) -> Answer
+pub fn free(pool: &[u32]) -> Result<u32, Refusal>
     ensures { answer_as result ≡ free_rule (decode pool.now) }
 {
-    let found = survey(pool, 0);
-    if found.sound {
-        return Answer::Granted(pool[3] - found.used);
-    }
-    Answer::Refused(Refusal::Damaged)
+    let seen = survey(pool, 0);
+    let Some(found) = seen else {
+        return Err(Refusal::Damaged);
+    };
+    Ok(pool[NODES] - found.used)
 }
 
 // The networks of a surveyed set: the leaves of its trie, or in the second form one more than the branch points.
@@ -82,7 +81,7 @@ fn networks(pool: &[u32], set: u32, found: Survey) -> u32
     requires { Surveyed pool.now set found }
     ensures { (S : State) → decode pool.now ≡ sound S → result ≡ length (list_at S set) }
 {
-    if pool[5] == 0 {
+    if pool[FORM] == 0 {
         let seat = seat_in(pool, found);
         return zeros_at(pool, seat.base + (seat.first - 1), found.held);
     }
@@ -90,29 +89,19 @@ fn networks(pool: &[u32], set: u32, found: Survey) -> u32
 }
 
 // The nodes and the networks of a set.
-pub fn held(pool: &[u32], set: u32) -> Report
+pub fn held(pool: &[u32], set: u32) -> Result<(u32, u32), Refusal>
     ensures { report_as result ≡ held_rule (decode pool.now) set }
 {
-    let seated = seat_of(pool, set);
-    match seated {
-        Seated::Refused(no) => Report::Refused(no),
-        Seated::At(found, _) => {
-            let n = networks(pool, set, found);
-            Report::Numbers(found.held, n)
-        }
-    }
+    let (found, _) = seat_of(pool, set)?;
+    let n = networks(pool, set, found);
+    Ok((found.held, n))
 }
 
 // The share and the limit of a set.
-pub fn plan(pool: &[u32], set: u32) -> Report
+pub fn plan(pool: &[u32], set: u32) -> Result<(u32, u32), Refusal>
     ensures { report_as result ≡ plan_rule (decode pool.now) set }
 {
-    let seated = seat_of(pool, set);
-    match seated {
-        Seated::Refused(no) => Report::Refused(no),
-        Seated::At(_, _) => {
-            let record = HEAD + RECORD * (set as usize);
-            Report::Numbers(pool[record + 1], pool[record + 2])
-        }
-    }
+    let (_, _) = seat_of(pool, set)?;
+    let record = HEAD + RECORD * (set as usize);
+    Ok((pool[record + SHARE], pool[record + LIMIT]))
 }

@@ -6,14 +6,15 @@ ghost use Rattle.pool_state.specs.Changes.{set_at};
 ghost use Rattle.pool_state.specs.Steps.{Surveyed, Judges};
 
 use nets::Refusal;
-use pool_state::{Survey, Verdict};
+use pool_header::{HEAD, LIMIT, NODES, PUBLIC, RECORD, SHARE};
+use pool_state::Survey;
 
 // Whether a set is public-only.
 pub fn is_public(w: &[u32], set: u32, v: Survey) -> bool
     requires { Surveyed w.now set v }
     ensures { (S : State) → decode w.now ≡ sound S → result ≡ (set_at S set).public }
 {
-    w[64 + 8 * (set as usize) + 3] == 1
+    w[HEAD + RECORD * (set as usize) + PUBLIC] == 1
 }
 
 // The nodes that the list of a set may have: the pool's less the claims of the other sets.
@@ -21,26 +22,26 @@ pub fn room(w: &[u32], set: u32, v: Survey) -> u32
     requires { Surveyed w.now set v }
     ensures { (S : State) → decode w.now ≡ sound S → result ≡ room_of S set }
 {
-    let share = w[64 + 8 * (set as usize) + 1];
+    let share = w[HEAD + RECORD * (set as usize) + SHARE];
     if v.held < share {
-        return w[3] - (v.claimed - share);
+        return w[NODES] - (v.claimed - share);
     }
-    w[3] - (v.claimed - v.held)
+    w[NODES] - (v.claimed - v.held)
 }
 
 // The verdict on a result of n nodes, where `clear` says whether the set may have it as far as its mark goes: not so, above the limit, above the room, or none of these.
-pub fn judge(w: &[u32], set: u32, v: Survey, clear: bool, n: u32) -> Verdict
+pub fn judge(w: &[u32], set: u32, v: Survey, clear: bool, n: u32) -> Result<(), Refusal>
     requires { Surveyed w.now set v }
     ensures { Judges w.now set clear n result }
 {
     if !clear {
-        return Verdict::No(Refusal::NotPublic);
+        return Err(Refusal::NotPublic);
     }
-    if w[64 + 8 * (set as usize) + 2] < n {
-        return Verdict::No(Refusal::OverLimit);
+    if w[HEAD + RECORD * (set as usize) + LIMIT] < n {
+        return Err(Refusal::OverLimit);
     }
     if room(w, set, v) < n {
-        return Verdict::No(Refusal::NoRoom);
+        return Err(Refusal::NoRoom);
     }
-    Verdict::Fits
+    Ok(())
 }

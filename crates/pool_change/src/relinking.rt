@@ -4,8 +4,10 @@ ghost use Rattle.nodes.specs.Words.{put};
 ghost use Rattle.pool_state.specs.Rules.{answer_as};
 ghost use Rattle.pool_state.specs.Steps.{spot_by, behind_at, Shiftable, own_root, moved_root, relinked, Movable, Relink, Indexable, Settle, Reindexed, Settled};
 
+use nets::Refusal;
 use nodes::writing::shift;
-use pool_state::{Answer, Survey};
+use pool_header::{HEAD, NODES, RECORD, SETS, TAG};
+use pool_state::Survey;
 use trie_index::{INDEX, write_index};
 
 // Moves the words of the sets behind a set to where they stand once the set has n nodes, of s words each.
@@ -49,13 +51,11 @@ fn relink(w: &mut [u32], set: u32, at: u32, old: u32, new: u32)
     requires { Relink w.old set old new }
     ensures { w.new ≡ relinked w.old set at old new }
 {
-    let sets = w[2] as usize;
+    let sets = w[SETS] as usize;
     let k = set as usize;
-    w[64 + 8 * k] = own_root(at, new);
-    let mut s = k + 1;
-    while s < sets {
-        w[64 + 8 * s] = moved_root(old, new, w[64 + 8 * s]);
-        s += 1;
+    w[HEAD + RECORD * k] = own_root(at, new);
+    for s in k + 1..sets {
+        w[HEAD + RECORD * s] = moved_root(old, new, w[HEAD + RECORD * s]);
     }
 }
 
@@ -64,22 +64,22 @@ fn reindex(w: &mut [u32], set: u32, at: u32, n: u32)
     requires { Indexable w.old set at n }
     ensures { Reindexed w.old set at n w.new }
 {
-    let tag = w[64 + 8 * (set as usize) + 4];
+    let tag = w[HEAD + RECORD * (set as usize) + TAG];
     if tag == 0 {
         return;
     }
-    let b = 64 + 8 * (w[2] as usize);
-    let nodes = w[3];
+    let b = HEAD + RECORD * (w[SETS] as usize);
+    let nodes = w[NODES];
     let p = b + 8 * (nodes as usize) + INDEX * (tag as usize - 1);
     write_index(w, b, nodes, own_root(at, n), p);
 }
 
 // Puts the roots and the index right once the nodes of the result, n of them, are written; answers n.
-pub fn granted(w: &mut [u32], set: u32, v: Survey, n: u32) -> Answer
+pub fn granted(w: &mut [u32], set: u32, v: Survey, n: u32) -> Result<u32, Refusal>
     requires { Settle w.old set v.at v.held n }
     ensures { (answer_as result ≡ (0, n)) × Settled w.old set v.at v.held n w.new }
 {
     relink(w, set, v.at, v.held, n);
     reindex(w, set, v.at, n);
-    Answer::Granted(n)
+    Ok(n)
 }

@@ -1,46 +1,43 @@
 // The check of a whole pool: its header, one pass over its sets, and of an indexed one the top eight levels once more; and the seat of a set.
-ghost use Rattle.std.specs.Prelude.{◌≡◌, false, cond, ◌+◌, ◌≤◌, ◌<◌, eqb, get_or, drop};
+ghost use Rattle.std.specs.Prelude.{◌≡◌, ℕ, false, Some, None, ◌+◌, ◌≤◌, ◌<◌, get_or, drop};
 ghost use Rattle.pool_state.specs.States.{State};
 ghost use Rattle.pool_state.specs.Decode.{indexes_at, are_indexes, sound, read_pool, decode};
-ghost use Rattle.pool_state.specs.Rules.{survey_of};
+ghost use Rattle.pool_state.specs.Rules.{found_of};
 
-use pool_header::{HEAD, RECORD, is_header, least_words};
-use pool_sets::{no_survey, survey_sets};
+use pool_header::{HEAD, INDEXED, NODES, RECORD, SETS, TAG, is_header, least_words};
+use pool_sets::survey_sets;
 use pool_state::Survey;
 use trie_index::is_index;
 
 pub mod seats;
 
-// What stands for an index, or a tag, that is wrong: no pool has as many sets.
-const WRONG: u32 = 255;
-
-// How many indexed sets there are up to set s, if j stand before it, or that its tag or its index is wrong.
-fn index_after(w: &[u32], s: usize, j: u32) -> u32
+// How many indexed sets there are up to set s, if j stand before it, or none, where its tag or its index is wrong.
+fn index_after(w: &[u32], s: usize, j: u32) -> Option<u32>
     requires s_bound { (s < get_or w.now 2 0) × (j ≤ s) }
     requires w_value { (S : State) × (read_pool w.now ≡ sound S) }
-    ensures { ((result ≡ 255 → ⊥) → result ≤ j + 1) × ((S : State) → read_pool w.now ≡ sound S → are_indexes w.now (indexes_at S) s j (drop s S.sets) ≡ cond (eqb result 255) false (are_indexes w.now (indexes_at S) (s + 1) result (drop (s + 1) S.sets))) }
+    ensures { ((k : ℕ) → result ≡ Some k → (k ≤ j + 1) × ((S : State) → read_pool w.now ≡ sound S → are_indexes w.now (indexes_at S) s j (drop s S.sets) ≡ are_indexes w.now (indexes_at S) (s + 1) k (drop (s + 1) S.sets))) × (result ≡ None → (S : State) → read_pool w.now ≡ sound S → are_indexes w.now (indexes_at S) s j (drop s S.sets) ≡ false) }
 {
-    let tag = w[HEAD + RECORD * s + 4];
+    let tag = w[HEAD + RECORD * s + TAG];
     if tag == 0 {
-        return j;
+        return Some(j);
     }
     if tag != j + 1 {
-        return WRONG;
+        return None;
     }
-    if w[4] < tag {
-        return WRONG;
+    if w[INDEXED] < tag {
+        return None;
     }
     let root = w[HEAD + RECORD * s];
     if !is_index(
         w,
-        HEAD + RECORD * (w[2] as usize),
-        w[3],
+        HEAD + RECORD * (w[SETS] as usize),
+        w[NODES],
         root,
-        least_words(w[2], w[3], j),
+        least_words(w[SETS], w[NODES], j),
     ) {
-        return WRONG;
+        return None;
     }
-    j + 1
+    Some(j + 1)
 }
 
 // The tags and the indexes are those of the sets.
@@ -48,33 +45,31 @@ fn are_indexes(w: &[u32]) -> bool
     requires { (S : State) × (read_pool w.now ≡ sound S) }
     ensures { (S : State) → read_pool w.now ≡ sound S → result ≡ are_indexes w.now (indexes_at S) 0 0 S.sets }
 {
-    let sets = w[2] as usize;
-    let mut s: usize = 0;
+    let sets = w[SETS] as usize;
     let mut j: u32 = 0;
-    while s < sets {
-        let k = index_after(w, s, j);
-        if k == WRONG {
+    for s in 0..sets {
+        let found = index_after(w, s, j);
+        let Some(k) = found else {
             return false;
-        }
+        };
         j = k;
-        s += 1;
     }
-    w[4] == j
+    w[INDEXED] == j
 }
 
-// What one pass over the pool finds out for the calls on one set.
-pub fn survey(w: &[u32], set: u32) -> Survey
-    ensures { result ≡ survey_of (decode w.now) set }
+// What one pass over the pool finds out for the calls on one set, where the pool is sound.
+pub fn survey(w: &[u32], set: u32) -> Option<Survey>
+    ensures { result ≡ found_of (decode w.now) set }
 {
     if !is_header(w) {
-        return no_survey();
+        return None;
     }
-    let found = survey_sets(w, set as usize);
-    if !found.sound {
-        return found;
-    }
+    let seen = survey_sets(w, set as usize);
+    let Some(found) = seen else {
+        return None;
+    };
     if !are_indexes(w) {
-        return no_survey();
+        return None;
     }
-    found
+    Some(found)
 }

@@ -7,8 +7,8 @@ ghost use Rattle.pool_state.specs.Steps.{Surveyed};
 use crate::survey;
 use nets::Refusal;
 use nodes::seats::Seat;
-use pool_header::{HEAD, RECORD};
-use pool_state::{Seated, Survey};
+use pool_header::{FAMILY, HEAD, RECORD, SETS};
+use pool_state::Survey;
 
 // Where the trie of the surveyed set stands.
 pub fn seat_in(pool: &[u32], found: Survey) -> Seat
@@ -17,23 +17,23 @@ pub fn seat_in(pool: &[u32], found: Survey) -> Seat
 {
     let first = found.at as usize;
     Seat {
-        family: pool[1] as u8,
-        base: HEAD + RECORD * (pool[2] as usize),
+        family: pool[FAMILY] as u8,
+        base: HEAD + RECORD * (pool[SETS] as usize),
         first,
         end: first + found.held as usize,
     }
 }
 
 // What one pass found out for the set, and where its trie stands; or the refusal: the pool is damaged, or has no such set.
-pub fn seat_of(pool: &[u32], set: u32) -> Seated
+pub fn seat_of(pool: &[u32], set: u32) -> Result<(Survey, Seat), Refusal>
     ensures { seated_as result ≡ seated_rule (decode pool.now) set }
 {
-    let found = survey(pool, set);
-    if !found.sound {
-        return Seated::Refused(Refusal::Damaged);
+    let seen = survey(pool, set);
+    let Some(found) = seen else {
+        return Err(Refusal::Damaged);
+    };
+    if pool[SETS] <= set {
+        return Err(Refusal::NoSet);
     }
-    if pool[2] <= set {
-        return Seated::Refused(Refusal::NoSet);
-    }
-    Seated::At(found, seat_in(pool, found))
+    Ok((found, seat_in(pool, found)))
 }

@@ -18,6 +18,26 @@ pub const RECORD: usize = 8;
 
 pub const NODE: usize = 8;
 
+// The words of the header, by their places: the family, how many sets and nodes there are, how many sets are indexed, and the form.
+pub const FAMILY: usize = 1;
+
+pub const SETS: usize = 2;
+
+pub const NODES: usize = 3;
+
+pub const INDEXED: usize = 4;
+
+pub const FORM: usize = 5;
+
+// The words of a record behind its first, which is the root: the share, the limit, whether the set is public-only, and the tag of its index.
+pub const SHARE: usize = 1;
+
+pub const LIMIT: usize = 2;
+
+pub const PUBLIC: usize = 3;
+
+pub const TAG: usize = 4;
+
 const MOST_SETS: u32 = 64;
 
 const MOST_NODES: u32 = 4194304;
@@ -62,18 +82,18 @@ pub fn is_header(w: &[u32]) -> bool
     if w[0] != MARK {
         return false;
     }
-    if !is_family(w[1]) {
+    if !is_family(w[FAMILY]) {
         return false;
     }
-    if !is_form(w[5]) {
+    if !is_form(w[FORM]) {
         return false;
     }
-    let sets = w[2];
-    let nodes = w[3];
+    let sets = w[SETS];
+    let nodes = w[NODES];
     if !is_size(sets, nodes) {
         return false;
     }
-    let indexed = w[4];
+    let indexed = w[INDEXED];
     if sets < indexed {
         return false;
     }
@@ -85,10 +105,10 @@ pub fn stride_of(w: &[u32]) -> usize
     requires { 64 ≤ length w.now }
     ensures { result ≡ stride_in w.now }
 {
-    if w[5] == 0 {
+    if w[FORM] == 0 {
         return 1;
     }
-    if w[1] == 4 {
+    if w[FAMILY] == 4 {
         return 2;
     }
     5

@@ -14,7 +14,7 @@ use Rattle.nets.proofs.Strings.{cond_both}
 use Rattle.nodes.specs.Parse.{parse, after}
 use Rattle.pool_state.specs.Kept.{held_l, ReadList, bad_list, ok_list, end_l, Form, form_of, read_l, RoomL}
 use Rattle.pool_state.specs.Decode.{record_at, base, is_header, read_set, is_right, read_pool, form_in}
-use Rattle.pool_state.specs.Rules.{share_in, no_survey, survey_of}
+use Rattle.pool_state.specs.Rules.{share_in, found_of}
 use Rattle.pool_state.proofs.Kept.{held_l-nil, end_l-parse, end_l-kept, form-some}
 use Rattle.pool_state.proofs.Header.{is_header-header, header-rooms}
 use Rattle.pool_sets.proofs.Scan.{found, turn, scan, scan-survey}
@@ -22,6 +22,7 @@ use Rattle.kept_nodes.specs.Parse.{kept_parse, kept_after}
 use Rattle.pool_sets.specs.Sets.{Placed, end_in}
 use family-few.{}
 use Rattle.nets.proofs.Numbers.{family-few}
+use Rattle.std.specs.Prelude.{None}
 
 -- One set.
 width_few : (f : ℕ) → width f ≤ 128
@@ -68,7 +69,7 @@ pub record Pass (w : List ℕ) (k sets n b s i c a h : ℕ) : Type 0 where
   pub past : s ≤ sets
   pub pos : 1 ≤ i
   pub within : c ≤ n
-  pub is : scan w b n (get_or w 1 0) k (sets - s) s i c (a, h) ≡ survey_of (read_pool w) k
+  pub is : scan w b n (get_or w 1 0) k (sets - s) s i c (a, h) ≡ found_of (read_pool w) k
 
 pub pass-start : (w : List ℕ) (k : ℕ) → is_header w ≡ true → Pass w k (get_or w 2 0) (get_or w 3 0) (base (get_or w 2 0)) 0 1 0 0 0
 pass-start w k h =
@@ -100,7 +101,7 @@ picked true x y a h = refl
 picked false x y a h = refl
 
 module _ {w : List ℕ} {k sets n b s i c a h : ℕ} (o : Pass w k sets n b s i c a h) where
-  pub pass-done : sets ≤ s → found i c (a, h) ≡ survey_of (read_pool w) k
+  pub pass-done : sets ≤ s → found i c (a, h) ≡ found_of (read_pool w) k
   unfolding scan
   pass-done le = let e : sets - s ≡ 0 = omega arith in rw e at o.is
 
@@ -108,7 +109,7 @@ module _ {w : List ℕ} {k sets n b s i c a h : ℕ} (o : Pass w k sets n b s i 
     left : sets - s ≡ suc (sets - (s + 1))
     left = omega arith
 
-    pub pass-bad : e ≡ 0 → no_survey ≡ survey_of (read_pool w) k
+    pub pass-bad : e ≡ 0 → None ≡ found_of (read_pool w) k
     unfolding scan end_in
     pass-bad z = rw (left, scan, lost (form_in w) i (list_in w b n s i) o.pos (sym z ∙ end)) at o.is
 
@@ -126,7 +127,7 @@ module _ {w : List ℕ} {k sets n b s i c a h : ℕ} (o : Pass w k sets n b s i 
       pub pass_up : i ≤ e
       pass_up = omega (arith, there.2)
 
-      opened : turn w b n (get_or w 1 0) k (scan w b n (get_or w 1 0) k (sets - (s + 1)) (s + 1)) s i c (a, h) there.0 ≡ survey_of (read_pool w) k
+      opened : turn w b n (get_or w 1 0) k (scan w b n (get_or w 1 0) k (sets - (s + 1)) (s + 1)) s i c (a, h) there.0 ≡ found_of (read_pool w) k
       unfolding scan
       opened = rw (left, scan, there.1) at o.is
 
@@ -134,17 +135,17 @@ module _ {w : List ℕ} {k sets n b s i c a h : ℕ} (o : Pass w k sets n b s i 
         right_it_is : r ≡ is_right w (get_or w 1 0) s there.0
         right_it_is = right there.0 placed there.2
 
-        pub pass-off : not r ≡ true → no_survey ≡ survey_of (read_pool w) k
+        pub pass-off : not r ≡ true → None ≡ found_of (read_pool w) k
         pass-off out = rw (sym right_it_is ∙ not-true r out) at opened
 
         module _ (fit : not r ≡ false) {q : ℕ} (claim : q ≡ max (share_in w s) (e - i)) where
-          allowed : cond (leb (c + q) n) (scan w b n (get_or w 1 0) k (sets - (s + 1)) (s + 1) e (c + q) (cond (eqb s k) i a, cond (eqb s k) (e - i) h)) no_survey ≡ survey_of (read_pool w) k
+          allowed : cond (leb (c + q) n) (scan w b n (get_or w 1 0) k (sets - (s + 1)) (s + 1) e (c + q) (cond (eqb s k) i a, cond (eqb s k) (e - i) h)) None ≡ found_of (read_pool w) k
           allowed =
               let z : i + (e - i) ≡ e = omega (arith, pass_up) in
               let y : held_l (form_in w) there.0 ≡ e - i = omega (arith, there.2) in
               rw (sym right_it_is ∙ not-false r fit, y, ← claim, picked (eqb s k) i (e - i) a h, z) at opened
 
-          pub pass-over : n - c < q → no_survey ≡ survey_of (read_pool w) k
+          pub pass-over : n - c < q → None ≡ found_of (read_pool w) k
           pass-over lt = rw (lt-leb (c + q) n (omega arith)) at allowed
 
           pub pass_on : q ≤ n - c → Pass w k sets n b (s + 1) e (c + q) (cond (eqb s k) i a) (cond (eqb s k) (e - i) h)

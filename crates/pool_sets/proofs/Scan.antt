@@ -1,4 +1,4 @@
--- The pass over the sets: `scan` is the loop, which judges set by set, and it finds what `survey_of` says of the decoded words, for which all the sets are read before
+-- The pass over the sets: `scan` is the loop, which judges set by set, and it finds what `found_of` says of the decoded words, for which all the sets are read before
 -- they are judged: `finish` is what both come to. Assumes nothing.
 use mathlib.Core.Path.{◌≡◌, refl, sym, subst, ◌∙◌}
 use mathlib.Core.Bool.{Bool, true, false, cond}
@@ -14,8 +14,9 @@ use Rattle.pool_state.specs.Kept.{held_l, ReadList, bad_list, ok_list, first}
 use Rattle.pool_state.proofs.Kept.{held_l-nil}
 use Rattle.pool_state.specs.States.{SetState, held, claim, used, claimed}
 use Rattle.pool_state.specs.Decode.{base, damaged, sound, ReadSets, bad_sets, ok_sets, set_of, is_right, set_before, is_header, read_set, read_sets, judged, read_pool, form_in}
-use Rattle.pool_state.specs.Rules.{share_in, no_set, no_survey, first_node, survey_of}
+use Rattle.pool_state.specs.Rules.{share_in, no_set, first_node, survey_of, found_of}
 use Rattle.pool_state.specs.declared.Survey.{Survey}
+use Rattle.std.specs.Prelude.{Option, Some, None}
 
 -- Start and nodes of set k, of the sets from s and number i on; p where it is not among them.
 abbrev chosen : ℕ → ℕ → ℕ → ℕ × ℕ → List SetState → ℕ × ℕ
@@ -35,38 +36,38 @@ chosen-start (suc j) s i (x ∷ xs) =
     (chosen-start j (s + 1) (i + held x) xs))
 
 -- what the code makes of its numbers at the end
-abbrev pub found : ℕ → ℕ → ℕ × ℕ → Survey
-found i c p = record { sound = true; used = i - 1; claimed = c; at = p.0; held = p.1 }
+abbrev pub found : ℕ → ℕ → ℕ × ℕ → Option Survey
+found i c p = Some (record { used = i - 1; claimed = c; at = p.0; held = p.1 })
 
 module _ (w : List ℕ) (b n f k : ℕ) where
   -- set s, whose list is l: where it is right and its claim within the pool, the pass goes on
-  abbrev pub turn : (ℕ → ℕ → ℕ × ℕ → Survey) → ℕ → ℕ → ℕ → ℕ × ℕ → List Bits → Survey
+  abbrev pub turn : (ℕ → ℕ → ℕ × ℕ → Option Survey) → ℕ → ℕ → ℕ → ℕ × ℕ → List Bits → Option Survey
   turn next s i c p l =
       cond (is_right w f s l)
       (cond (leb (c + max (share_in w s) (held_l (form_in w) l)) n)
-      (next (i + held_l (form_in w) l) (c + max (share_in w s) (held_l (form_in w) l)) (cond (eqb s k) (i, held_l (form_in w) l) p)) no_survey)
-      no_survey
+      (next (i + held_l (form_in w) l) (c + max (share_in w s) (held_l (form_in w) l)) (cond (eqb s k) (i, held_l (form_in w) l) p)) None)
+      None
 
   -- m sets of the family f are still to come, from set s and number i on; the claims before them are c, and p is what is known of set k
-  unfoldable pub scan : ℕ → ℕ → ℕ → ℕ → ℕ × ℕ → Survey
+  unfoldable pub scan : ℕ → ℕ → ℕ → ℕ → ℕ × ℕ → Option Survey
   scan zero s i c p = found i c p
   scan (suc m) s i c p =
       elim (read_set w b n f s i) [
-        | bad_list ↦ no_survey
+        | bad_list ↦ None
         | ok_list l ↦ turn (scan m (s + 1)) s i c p l
       ]
 
   -- the same, from all the sets that are read
-  abbrev finish : ℕ → ℕ → ℕ → ℕ × ℕ → ReadSets → Survey
-  finish s i c p bad_sets = no_survey
-  finish s i c p (ok_sets xs) = cond (leb (c + claimed xs) n) (found (i + used xs) (c + claimed xs) (chosen k s i p xs)) no_survey
+  abbrev finish : ℕ → ℕ → ℕ → ℕ × ℕ → ReadSets → Option Survey
+  finish s i c p bad_sets = None
+  finish s i c p (ok_sets xs) = cond (leb (c + claimed xs) n) (found (i + used xs) (c + claimed xs) (chosen k s i p xs)) None
 
   module _ (s i c : ℕ) (p : ℕ × ℕ) (x : SetState) where
-    finish_off : (r : ReadSets) → finish s i c p (set_before false x r) ≡ no_survey
+    finish_off : (r : ReadSets) → finish s i c p (set_before false x r) ≡ None
     finish_off bad_sets = refl
     finish_off (ok_sets xs) = refl
 
-    finish-over : (q : Bool) (r : ReadSets) → n < c + claim x → finish s i c p (set_before q x r) ≡ no_survey
+    finish-over : (q : Bool) (r : ReadSets) → n < c + claim x → finish s i c p (set_before q x r) ≡ None
     unfolding claimed
     finish-over q bad_sets e = refl
     finish-over true (ok_sets xs) e = rw (lt-leb (c + (claim x + claimed xs)) n (omega arith))
@@ -77,12 +78,12 @@ module _ (w : List ℕ) (b n f k : ℕ) where
     finish-on bad_sets = refl
     finish-on (ok_sets xs) = rw (add_assoc c (claim x) (claimed xs), add_assoc i (held x) (used xs))
 
-    finish-set : (q : Bool) (r : ReadSets) (z : Survey)
+    finish-set : (q : Bool) (r : ReadSets) (z : Option Survey)
         → (c + claim x ≤ n → z ≡ finish (s + 1) (i + held x) (c + claim x) (cond (eqb s k) (i, held x) p) r)
-        → cond q (cond (leb (c + claim x) n) z no_survey) no_survey ≡ finish s i c p (set_before q x r)
+        → cond q (cond (leb (c + claim x) n) z None) None ≡ finish s i c p (set_before q x r)
     finish-set q r z next = go q (leb (c + claim x) n) refl
       where
-        go : (q o : Bool) → leb (c + claim x) n ≡ o → cond q (cond o z no_survey) no_survey ≡ finish s i c p (set_before q x r)
+        go : (q o : Bool) → leb (c + claim x) n ≡ o → cond q (cond o z None) None ≡ finish s i c p (set_before q x r)
         go false o e = sym (finish_off r)
         go true false e = sym (finish-over true r (leb-false (c + claim x) n e))
         go true true e = next (leb-true (c + claim x) n e) ∙ finish-on r
@@ -94,7 +95,7 @@ module _ (w : List ℕ) (b n f k : ℕ) where
     where
       go : (r : ReadList)
           → ((j d : ℕ) (q : ℕ × ℕ) → d ≤ n → scan m (s + 1) j d q ≡ finish (s + 1) j d q (read_sets w b n f m (s + 1) j))
-          → elim r [ bad_list ↦ no_survey | ok_list l ↦ turn (scan m (s + 1)) s i c p l ] ≡
+          → elim r [ bad_list ↦ None | ok_list l ↦ turn (scan m (s + 1)) s i c p l ] ≡
           finish s i c p (elim r [ bad_list ↦ bad_sets | ok_list l ↦ set_before (is_right w f s l) (set_of w s l) (read_sets w b n f m (s + 1) (i + held_l (form_in w) l)) ])
       go bad_list ih = refl
       go (ok_list l) ih =
@@ -102,21 +103,21 @@ module _ (w : List ℕ) (b n f k : ℕ) where
           let q = cond (eqb s k) (i, held x) p in
           finish-set s i c p x (is_right w f s l) (read_sets w b n f m (s + 1) (i + held x)) (scan m (s + 1) (i + held x) (c + claim x) q) (ih (i + held x) (c + claim x) q)
 
-finish-judged : (w : List ℕ) (b f k : ℕ) (r : ReadSets) → finish w b (get_or w 3 0) f k 0 1 0 (0, 0) r ≡ survey_of (judged w r) k
-unfolding survey_of
+finish-judged : (w : List ℕ) (b f k : ℕ) (r : ReadSets) → finish w b (get_or w 3 0) f k 0 1 0 (0, 0) r ≡ found_of (judged w r) k
+unfolding survey_of found_of
 finish-judged w b f k bad_sets = refl
 finish-judged w b f k (ok_sets xs) = rw (zero-add (claimed xs)) (go (leb (claimed xs) (get_or w 3 0)))
   where
     start : chosen k 0 1 (0, 0) xs ≡ (first_node k 1 xs, held (get_or xs k no_set))
     start = rw (zero-add k) at (chosen-start k 0 1 xs)
 
-    go : (o : Bool) → cond o (found (1 + used xs) (claimed xs) (chosen k 0 1 (0, 0) xs)) no_survey
-        ≡ survey_of (cond o (sound (record { family = get_or w 1 0; form = form_in w; nodes = get_or w 3 0; sets = xs })) damaged) k
+    go : (o : Bool) → cond o (found (1 + used xs) (claimed xs) (chosen k 0 1 (0, 0) xs)) None
+        ≡ found_of (cond o (sound (record { family = get_or w 1 0; form = form_in w; nodes = get_or w 3 0; sets = xs })) damaged) k
     go true = let e : 1 + used xs - 1 ≡ used xs = omega arith in rw (start, e)
     go false = refl
 
 -- From the first set on, the pass finds what the state that is read says.
-pub scan-survey : (w : List ℕ) (k : ℕ) → is_header w ≡ true → scan w (base (get_or w 2 0)) (get_or w 3 0) (get_or w 1 0) k (get_or w 2 0) 0 1 0 (0, 0) ≡ survey_of (read_pool w) k
+pub scan-survey : (w : List ℕ) (k : ℕ) → is_header w ≡ true → scan w (base (get_or w 2 0)) (get_or w 3 0) (get_or w 1 0) k (get_or w 2 0) 0 1 0 (0, 0) ≡ found_of (read_pool w) k
 unfolding read_pool
 scan-survey w k h =
     let b = base (get_or w 2 0) in

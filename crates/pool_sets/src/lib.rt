@@ -4,13 +4,15 @@ ghost use Rattle.std.specs.Prelude.{◌≡◌, true, cond, ◌&&◌, List, ◌+�
 ghost use Rattle.nets.specs.Bits.{Bits};
 ghost use Rattle.pool_state.specs.Kept.{held_l, RoomL};
 ghost use Rattle.pool_state.specs.Decode.{base, form_in, is_header, is_right, read_pool};
-ghost use Rattle.pool_state.specs.Rules.{share_in, limit_in, no_survey, survey_of};
+ghost use Rattle.pool_state.specs.Rules.{share_in, limit_in, found_of};
 ghost use Rattle.pool_sets.specs.Sets.{end_in, Placed, is_unindexed, marks};
 
 use claims::claim_at;
 use kept_check::kept_end;
 use nodes::reading::trie_end;
-use pool_header::{HEAD, RECORD, most_levels};
+use pool_header::{
+    FAMILY, FORM, HEAD, LIMIT, NODES, PUBLIC, RECORD, SETS, SHARE, TAG, most_levels,
+};
 use pool_state::Survey;
 
 pub mod claims;
@@ -28,10 +30,10 @@ fn set_end(w: &[u32], b: usize, n: u32, s: usize, i: u32) -> u32
     if root != i {
         return 0;
     }
-    if w[5] == 0 {
-        return trie_end(w, b, n, most_levels(w[1]), i);
+    if w[FORM] == 0 {
+        return trie_end(w, b, n, most_levels(w[FAMILY]), i);
     }
-    kept_end(w, w[1] as u8, b, n, i)
+    kept_end(w, w[FAMILY] as u8, b, n, i)
 }
 
 // The share and the nodes of set s are at most its limit.
@@ -39,8 +41,8 @@ fn in_limit(w: &[u32], s: usize, nodes: u32) -> bool
     requires { (s < 64) × (base (s + 1) ≤ length w.now) }
     ensures { result ≡ (leb (share_in w.now s) (limit_in w.now s) && leb nodes (limit_in w.now s)) }
 {
-    let share = w[HEAD + RECORD * s + 1];
-    let limit = w[HEAD + RECORD * s + 2];
+    let share = w[HEAD + RECORD * s + SHARE];
+    let limit = w[HEAD + RECORD * s + LIMIT];
     if limit < share {
         return false;
     }
@@ -52,10 +54,10 @@ fn keeps_form(w: &[u32], s: usize) -> bool
     requires { (s < 64) × (base (s + 1) ≤ length w.now) }
     ensures { result ≡ is_unindexed w.now s }
 {
-    if w[5] == 0 {
+    if w[FORM] == 0 {
         return true;
     }
-    w[HEAD + RECORD * s + 4] == 0
+    w[HEAD + RECORD * s + TAG] == 0
 }
 
 // The mark of set s, which begins at node i, is one of the two, and where it says public-only, the set keeps clear of the inner networks.
@@ -63,7 +65,7 @@ fn keeps_mark(w: &[u32], b: usize, n: u32, s: usize, i: u32) -> bool
     requires { (l : List Bits) × Placed w.now b n s i l }
     ensures { (l : List Bits) → Placed w.now b n s i l → result ≡ marks w.now s l }
 {
-    let mark = w[HEAD + RECORD * s + 3];
+    let mark = w[HEAD + RECORD * s + PUBLIC];
     if mark == 0 {
         return true;
     }
@@ -73,10 +75,10 @@ fn keeps_mark(w: &[u32], b: usize, n: u32, s: usize, i: u32) -> bool
     if w[HEAD + RECORD * s] == 0 {
         return true;
     }
-    if w[5] == 0 {
-        return trie_meets::standing::is_clear(w, b, n, i, w[1]);
+    if w[FORM] == 0 {
+        return trie_meets::standing::is_clear(w, b, n, i, w[FAMILY]);
     }
-    kept_meets::standing::is_clear(w, w[1] as u8, b, n, i)
+    kept_meets::standing::is_clear(w, w[FAMILY] as u8, b, n, i)
 }
 
 // The rules of set s, whose list stands from node i up to node `end`.
@@ -103,56 +105,41 @@ fn picked(s: usize, set: usize, x: u32, y: u32) -> u32
     y
 }
 
-// What there is to say of a pool that is damaged.
-pub fn no_survey() -> Survey
-    ensures { result ≡ no_survey }
-{
-    Survey {
-        sound: false,
-        used: 0,
-        claimed: 0,
-        at: 0,
-        held: 0,
-    }
-}
-
-// What one pass over the sets of a pool with a header finds out.
-pub fn survey_sets(w: &[u32], set: usize) -> Survey
+// What one pass over the sets of a pool with a header finds out, where none is damaged.
+pub fn survey_sets(w: &[u32], set: usize) -> Option<Survey>
     requires { is_header w.now ≡ true }
-    ensures { result ≡ survey_of (read_pool w.now) set }
+    ensures { result ≡ found_of (read_pool w.now) set }
 {
-    let sets = w[2] as usize;
-    let n = w[3];
+    let sets = w[SETS] as usize;
+    let n = w[NODES];
     let b = HEAD + RECORD * sets;
-    let mut s: usize = 0;
     let mut i: u32 = 1;
     let mut claimed: u32 = 0;
     let mut at: u32 = 0;
     let mut held: u32 = 0;
-    while s < sets {
+    for s in 0..sets {
         let end = set_end(w, b, n, s, i);
         if end == 0 {
-            return no_survey();
+            return None;
         }
         if !is_right(w, b, n, s, i, end) {
-            return no_survey();
+            return None;
         }
         let nodes = end - i;
         let claim = claim_at(w, s, nodes);
         if n - claimed < claim {
-            return no_survey();
+            return None;
         }
         claimed += claim;
         at = picked(s, set, i, at);
         held = picked(s, set, nodes, held);
         i = end;
-        s += 1;
     }
-    Survey {
-        sound: true,
+    let found = Survey {
         used: i - 1,
         claimed,
         at,
         held,
-    }
+    };
+    Some(found)
 }

@@ -17,12 +17,11 @@ use Rattle.pool_state.specs.Rules.{verdict_as}
 use Rattle.pool_state.specs.Changes.{set_at, grant_rules, Relisted}
 use Rattle.pool_state.specs.Steps.{Judges, Settle, Settled}
 use Rattle.pool_state.specs.declared.Survey.{Survey}
-use Rattle.pool_state.specs.declared.Verdict.{Verdict}
-use Rattle.pool_state.specs.declared.Verdict.TheVariants as verdict
 use Rattle.pool_state.proofs.Seen.{Seen, words_l, stride_s}
 use Rattle.pool_state.proofs.Judged.{grant-within}
 use Rattle.pool_state.proofs.Changed.{with_words, settle-asks}
 use Rattle.pool_state.proofs.Returns.{changed, change-judged, relist-granted}
+use Rattle.std.specs.Prelude.{Result, Ok, Err}
 
 -- its result has the words xs and m nodes; c says whether the set may have it as far as its mark goes; where the set is indexed, the words are a trie's
 pub record Counted (w : List ℕ) (S : State) (k : ℕ) (v : Survey) (a : State → List Rule) (f : State → List Bits) (xs : List ℕ) (c : Bool) (m : ℕ) : Type 0 where
@@ -34,16 +33,16 @@ pub record Counted (w : List ℕ) (S : State) (k : ℕ) (v : Survey) (a : State 
   pub long : length xs ≡ stride_s S * m
   pub trie : (set_at S k).indexed ≡ true → (t : Trie) × (xs ≡ enc t) × (size t ≡ m)
 
-module _ {w : List ℕ} {S : State} {k : ℕ} {v : Survey} {a : State → List Rule} {f : State → List Bits} {xs : List ℕ} {c : Bool} {m : ℕ} {r : Verdict} (h : Counted w S k v a f xs c m)
+module _ {w : List ℕ} {S : State} {k : ℕ} {v : Survey} {a : State → List Rule} {f : State → List Bits} {xs : List ℕ} {c : Bool} {m : ℕ} {r : (Result Unit Refusal)} (h : Counted w S k v a f xs c m)
     (j : Judges w k c m r) where
   says : verdict_as r ≡ first_no (grant_rules S k (f S))
   says = j.verdict S (f S) h.seen.decoded h.public h.held
 
-  pub counted-refused : (x : Refusal) → r ≡ verdict.No x → Relisted w k a f (number x, 0) w
+  pub counted-refused : (x : Refusal) → r ≡ Err x → Relisted w k a f (number x, 0) w
   counted-refused x e = changed (change-judged a f h.seen h.right (ap verdict_as (sym e) ∙ says) (number-some x))
 
   -- it is granted, and written
-  module _ (z : r ≡ verdict.Fits) where
+  module _ (z : r ≡ (Ok tt)) where
     fits : 0 ≡ first_no (grant_rules S k (f S))
     fits = ap verdict_as (sym z) ∙ says
 

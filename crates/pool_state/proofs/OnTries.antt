@@ -1,5 +1,5 @@
 -- A set of a pool in the first form as the trie of its list, for the calls that read and change tries in place: where it stands, a trie written in its place, and what becomes of a
--- result that is a trie, counted and judged (`Result`). Assumes nothing.
+-- result that is a trie, counted and judged (`TrieResult`). Assumes nothing.
 use mathlib.Core.Path.{◌≡◌, refl, sym, ap, ◌∙◌, subst}
 use mathlib.Core.Bool.{Bool, true, cond}
 use mathlib.Core.List.{List, ◌++◌}
@@ -24,8 +24,6 @@ use Rattle.pool_state.specs.Rules.{no_set, first_node}
 use Rattle.pool_state.specs.Changes.{set_at, list_at, Relisted}
 use Rattle.pool_state.specs.Steps.{Judges, behind_at, Settle, Settled, spot_by, spot_in, Shiftable}
 use Rattle.pool_state.specs.declared.Survey.{Survey}
-use Rattle.pool_state.specs.declared.Verdict.{Verdict}
-use Rattle.pool_state.specs.declared.Verdict.TheVariants as verdict
 use Rattle.pool_state.proofs.Kept.{stands-trie, held_l-list_of, enc_l-list_of, StandsL, stride_l-is, spot_l-first, form-some}
 use Rattle.pool_state.proofs.Claims.{is_set-list}
 use Rattle.pool_state.proofs.Holds.{root_at-some}
@@ -35,6 +33,7 @@ use Rattle.pool_state.proofs.Beside.{its, beside-root}
 use Rattle.pool_state.proofs.Changed.{with_words, words-first, shift-asks}
 use Rattle.pool_state.proofs.Counted.{Counted, counted-refused, counted-fits, counted-settles, counted-granted}
 use native.Mathlib.Nat.{one-mul}
+use Rattle.std.specs.Prelude.{Result, Ok, Err}
 
 -- The trie of a set: it lists the set's networks, and has its nodes.
 abbrev pub trie_at : State → ℕ → Trie
@@ -137,7 +136,7 @@ pub shift-trie : {w : List ℕ} {S : State} {k : ℕ} {v : Survey} → Seen w S 
 shift-trie {w} {S} {k} {v} h F {n} {u} le e = subst (λ s. Shiftable s u (base (get_or w 2 0)) v n) (stride-one h F) (shift-asks h le e)
 
 -- A call whose arguments are right, and whose result is the trie t, counted: it has m nodes; c says whether the set may have it as far as its mark goes
-pub record Result (w : List ℕ) (S : State) (k : ℕ) (v : Survey) (a : State → List Rule) (f : State → List Bits) (t : Trie) (c : Bool) (m : ℕ) : Type 0 where
+pub record TrieResult (w : List ℕ) (S : State) (k : ℕ) (v : Survey) (a : State → List Rule) (f : State → List Bits) (t : Trie) (c : Bool) (m : ℕ) : Type 0 where
   pub seen : Seen w S k v
   pub form : S.form ≡ first
   pub right : first_no (a S) ≡ 0
@@ -145,7 +144,7 @@ pub record Result (w : List ℕ) (S : State) (k : ℕ) (v : Survey) (a : State �
   pub public : admits S.family (set_at S k) (f S) ≡ c
   pub size : size t ≡ m
 
-module _ {w : List ℕ} {S : State} {k : ℕ} {v : Survey} {a : State → List Rule} {f : State → List Bits} {t : Trie} {c : Bool} {m : ℕ} (h : Result w S k v a f t c m) where
+module _ {w : List ℕ} {S : State} {k : ℕ} {v : Survey} {a : State → List Rule} {f : State → List Bits} {t : Trie} {c : Bool} {m : ℕ} (h : TrieResult w S k v a f t c m) where
   counted : Counted w S k v a f (enc t) c m
   counted = record {
     seen = h.seen;
@@ -157,12 +156,12 @@ module _ {w : List ℕ} {S : State} {k : ℕ} {v : Survey} {a : State → List R
     trie = λ e. (t, refl, h.size);
   }
 
-  module _ {r : Verdict} (j : Judges w k c m r) where
-    pub result-refused : (x : Refusal) → r ≡ verdict.No x → Relisted w k a f (number x, 0) w
+  module _ {r : (Result Unit Refusal)} (j : Judges w k c m r) where
+    pub result-refused : (x : Refusal) → r ≡ Err x → Relisted w k a f (number x, 0) w
     result-refused x e = counted-refused counted j x e
 
     -- it is granted, and written
-    module _ (z : r ≡ verdict.Fits) where
+    module _ (z : r ≡ (Ok tt)) where
       pub result_fits : m ≤ room_of S k
       result_fits = counted-fits counted j z
 

@@ -14,7 +14,7 @@ use Rattle.nets.specs.Refusals.{Rule, first_no}
 use Rattle.pool_state.specs.Kept.{held_l}
 use Rattle.pool_state.specs.States.{SetState, State, held, used, claimed}
 use Rattle.pool_state.specs.Decode.{sound, decode}
-use Rattle.pool_state.specs.Rules.{share_in, first_node, survey_of}
+use Rattle.pool_state.specs.Rules.{share_in, first_node, survey_of, found_of}
 use Rattle.pool_state.specs.Changes.{set_at, sets_with, with_set, set_with, change_rules, change_rule, relist_rules, relist_set, relist_no, Relisted}
 use Rattle.pool_state.specs.Steps.{Surveyed, survey_with}
 use Rattle.pool_state.specs.declared.Survey.{Survey}
@@ -25,6 +25,7 @@ use Rattle.pool_state.proofs.Decoded.{decode-header, decode-share}
 use Rattle.pool_state.proofs.Leaves.{relist-leaves}
 use Rattle.pool_state.proofs.Seen.{Seen, seen_as}
 use Rattle.pool_state.proofs.WithSet.{used-sets_with, claimed-sets_with, with_set-length, with_set-at}
+use Rattle.std.specs.Prelude.{Some}
 
 first_node-sets_with : (k i : ℕ) (x : SetState) (ss : List SetState) → first_node k i (sets_with k x ss) ≡ first_node k i ss
 first_node-sets_with k i x [] = refl
@@ -55,14 +56,14 @@ module _ {w : List ℕ} {S : State} {k : ℕ} {v : Survey} (h : Seen w S k v) (l
 module _ (a : State → List Rule) (f : State → List Bits) {w u : List ℕ} {k : ℕ} {v : Survey} {n : ℕ} (h : Surveyed w k v)
     (i : (S : State) → decode w ≡ sound S → first_no (a S) ≡ 0 → is_list (width S.family) (f S) ≡ true) (c : Relisted w k a f (0, n) u) where
   of-state : (S : State) → decode w ≡ sound S → relist_no S k (a S) (f S) ≡ 0 → n ≡ held_l (set_at S k).form (f S) → Surveyed u k (survey_with (share_in w k) v n)
+  unfolding found_of
   of-state S d z e =
       let s = seen_as h S d in
       let T = with_set S k (set_with (set_at S k) (f S)) in
       let o : decode u ≡ sound T = (relist-leaves a f d (i S d) c).leaves.holds ∙ ap (λ m. sound (cond (eqb m 0) T S)) z in
       let q : get_or u 2 0 ≡ length T.sets = (decode-header u T o).sets in
       record {
-        found = rw (o, decode-share w S d k s.known, e) (survey-with s (f S));
-        sound = refl;
+        found = rw (o, decode-share w S d k s.known, e) (ap Some (survey-with s (f S)));
         known = omega (arith, with_set-length S k (set_with (set_at S k) (f S)), s.known);
       }
 

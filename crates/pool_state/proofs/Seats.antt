@@ -15,15 +15,14 @@ use Rattle.nets.proofs.Refused.{first_no-zero}
 use Rattle.nodes.specs.declared.seats.Seat.{Seat}
 use Rattle.pool_state.specs.States.{State, SetState}
 use Rattle.pool_state.specs.Decode.{Decoded, damaged, sound, base, decode}
-use Rattle.pool_state.specs.Rules.{answer_on, unknown, on_set, no_survey, survey_of, seat_at, seat_of, no_seat, seated_as, seated_rule}
+use Rattle.pool_state.specs.Rules.{answer_on, unknown, on_set, no_survey, survey_of, found_of, seat_at, seat_of, no_seat, seated_as, seated_rule}
 use Rattle.pool_state.specs.Steps.{Refuses, Surveyed}
-use Rattle.pool_state.specs.declared.Seated.{Seated}
-use Rattle.pool_state.specs.declared.Seated.TheVariants as seated
 use Rattle.pool_state.specs.declared.Survey.{Survey}
 use Rattle.pool_state.proofs.Answered.{owes-granted, owes-seat, answer_on-granted}
 use Rattle.pool_state.proofs.Decoded.{decode-header}
 use Rattle.pool_state.proofs.Header.{is_header-header}
-use Rattle.pool_state.proofs.Seen.{Seen, seen, seen-header}
+use Rattle.pool_state.proofs.Seen.{Seen, seen, seen-header, survey-is}
+use Rattle.std.specs.Prelude.{Some, Result, Ok, Err}
 
 -- no set, and so neither survey nor seat
 abbrev none : Survey × Seat
@@ -53,7 +52,7 @@ module _ {w : List ℕ} {k : ℕ} {v : Survey} (h : Surveyed w k v) where
   seat-family = family-few (get_or w 1 0) (is_header-header w (seen-header (seen h).1).known).family
 
   pub seat-at : (0, (v, seat_of w v)) ≡ seated_rule (decode w) k
-  seat-at = seen_at (seen h).1 h.found
+  seat-at = seen_at (seen h).1 (survey-is w k v h.found)
 
 -- What an answer says: the refusal of every call on the set, or what a pass over the pool found for it, and its seat.
 pub record Seats (w : List ℕ) (k : ℕ) (v : Survey) (s : Seat) : Type 0 where
@@ -76,20 +75,19 @@ on_set-refused (sound S) k z f x e = go (leb (length S.sets) k) refl
     go true q = (leb-true (length S.sets) k q, rw q at (ap (λ p. p.0) e))
     go false q = absurd (number-some x (rw q at (ap (λ p. p.0) e)))
 
-module _ (w : List ℕ) (k : ℕ) {r : Seated} (e : seated_as r ≡ seated_rule (decode w) k) where
-  pub seated-refused : (x : Refusal) → r ≡ seated.Refused x → Refuses (decode w) k (number x)
+module _ (w : List ℕ) (k : ℕ) {r : (Result (Survey × Seat) Refusal)} (e : seated_as r ≡ seated_rule (decode w) k) where
+  pub seated-refused : (x : Refusal) → r ≡ Err x → Refuses (decode w) k (number x)
   unfolding seated_rule
   seated-refused x q = on_set-refused {A = Survey × Seat} (decode w) k none (λ S s. (survey_of (sound S) k, seat_at S k)) x (sym (ap seated_as q) ∙ e)
 
-  module _ (v : Survey) (s : Seat) (q : r ≡ seated.At v s) where
+  module _ (v : Survey) (s : Seat) (q : r ≡ Ok (v, s)) where
     surveyed : Surveyed w k v
-    unfolding seated_rule survey_of
+    unfolding seated_rule survey_of found_of
     surveyed =
         let (S, d, z, i) = answer_on-granted {A = Survey × Seat} (known k) none (λ S. (survey_of (sound S) k, seat_at S k)) w (λ S. w) (decode w) (v, s) (sym (ap seated_as q) ∙ e) in
         let f : v ≡ survey_of (sound S) k = ap (λ p. p.0) i in
         record {
-          found = rw d f;
-          sound = ap (λ (x : Survey). x.sound) f;
+          found = rw d (ap Some f);
           known = omega (arith, leb-false (length S.sets) k (first_no-zero (known k S) z).0, (decode-header w S d).sets);
         }
 
@@ -97,11 +95,11 @@ module _ (w : List ℕ) (k : ℕ) {r : Seated} (e : seated_as r ≡ seated_rule 
     seated-at = record { surveyed = surveyed; seat = ap (λ p. p.1.1) (sym (ap seated_as q) ∙ e ∙ sym (seat-at surveyed)) }
 
 -- One answer.
-pub seated_as-one : (r s : Seated) → seated_as r ≡ seated_as s → r ≡ s
-seated_as-one (seated.At u a) (seated.At v b) e = let p : u ≡ v = ap (λ x. x.1.0) e in let q : a ≡ b = ap (λ x. x.1.1) e in cc
-seated_as-one (seated.At u a) (seated.Refused y) e = absurd (number-some y (sym (ap (λ p. p.0) e)))
-seated_as-one (seated.Refused x) (seated.At v b) e = absurd (number-some x (ap (λ p. p.0) e))
-seated_as-one (seated.Refused x) (seated.Refused y) e = ap seated.Refused (number-one x y (ap (λ p. p.0) e))
+pub seated_as-one : (r s : Result (Survey × Seat) Refusal) → seated_as r ≡ seated_as s → r ≡ s
+seated_as-one (Ok (u, a)) (Ok (v, b)) e = let p : u ≡ v = ap (λ x. x.1.0) e in let q : a ≡ b = ap (λ x. x.1.1) e in cc
+seated_as-one (Ok (u, a)) (Err y) e = absurd (number-some y (sym (ap (λ p. p.0) e)))
+seated_as-one (Err x) (Ok (v, b)) e = absurd (number-some x (ap (λ p. p.0) e))
+seated_as-one (Err x) (Err y) e = ap Err (number-one x y (ap (λ p. p.0) e))
 
-pub seat-determined : (w : List ℕ) (k : ℕ) (r s : Seated) → seated_as r ≡ seated_rule (decode w) k → seated_as s ≡ seated_rule (decode w) k → r ≡ s
+pub seat-determined : (w : List ℕ) (k : ℕ) (r s : Result (Survey × Seat) Refusal) → seated_as r ≡ seated_rule (decode w) k → seated_as s ≡ seated_rule (decode w) k → r ≡ s
 seat-determined w k r s e f = seated_as-one r s (e ∙ sym f)

@@ -12,7 +12,7 @@ use Rattle.nodes.specs.Words.{Has, place}
 use Rattle.pool_state.specs.Kept.{held_l, enc_l, Form, stride_l, spot_l}
 use Rattle.pool_state.specs.States.{State, held, used, claimed, is_state, SetState, are_sets}
 use Rattle.pool_state.specs.Decode.{record_at, base, least_words, node_words, Decoded, damaged, sound, decode, form_in}
-use Rattle.pool_state.specs.Rules.{first_node, survey_of, no_set}
+use Rattle.pool_state.specs.Rules.{first_node, no_survey, survey_of, found_of, no_set}
 use Rattle.pool_state.specs.Changes.{set_at, list_at}
 use Rattle.pool_state.specs.Steps.{Refuses, Surveyed, behind_at, stride_in, spot_in}
 use Rattle.pool_state.specs.declared.Survey.{Survey}
@@ -24,6 +24,7 @@ use Rattle.pool_state.proofs.Whole.{HeaderOf}
 use Rattle.pool_state.proofs.Decoded.{decode-header, decode-state, decode-has, decode-used, decode-share, decode-list, decode-parts, decode-form}
 use Rattle.pool_state.proofs.Holds.{first_node-is, length-node_words}
 use Rattle.nets.specs.Bits.{Bits}
+use Rattle.std.specs.Prelude.{Bool, Option, Some, None}
 
 -- the words hold the state S, which has a set k, and v is what a pass over them finds out
 pub record Seen (w : List ℕ) (S : State) (k : ℕ) (v : Survey) : Type 0 where
@@ -34,56 +35,76 @@ pub record Seen (w : List ℕ) (S : State) (k : ℕ) (v : Survey) : Type 0 where
   pub at : v.at ≡ first_node k 1 S.sets
   pub held : v.held ≡ held (set_at S k)
 
--- A survey is of sound words, or says that there is no state.
-cases : (d : Decoded) (k : ℕ) → ((survey_of d k).sound ≡ true → (S : State) × (d ≡ sound S)) × ((survey_of d k).sound ≡ false → d ≡ damaged)
-unfolding survey_of
-cases damaged k = (λ e. absurd (false≢true e), λ e. refl)
-cases (sound S) k = (λ e. (S, refl), λ e. absurd (true≢false e))
+-- A survey is of sound words; where there is none, they are damaged.
+abbrev is_some : Option Survey → Bool
+is_some (Some v) = true
+is_some None = false
 
-module _ (w : List ℕ) (k : ℕ) (v : Survey) (e : v ≡ survey_of (decode w) k) where
-  pub survey-sound : v.sound ≡ true → (S : State) × (decode w ≡ sound S)
-  survey-sound h = (cases (decode w) k).0 (ap (λ (x : Survey). x.sound) (sym e) ∙ h)
+abbrev in_some : Option Survey → Survey
+in_some (Some v) = v
+in_some None = no_survey
 
-  pub survey-header : v.sound ≡ true → IsHeader w
-  survey-header h = let x = survey-sound h in is_header-header w (decode-header w x.0 x.1).known
+pub found-sound : (d : Decoded) (k : ℕ) (v : Survey) → Some v ≡ found_of d k → (S : State) × (d ≡ sound S) × (v ≡ survey_of d k)
+unfolding found_of
+found-sound damaged k v e = absurd (true≢false (ap is_some e))
+found-sound (sound S) k v e = (S, refl, ap in_some e)
+
+found-damaged : (d : Decoded) (k : ℕ) → None ≡ found_of d k → d ≡ damaged
+unfolding found_of
+found-damaged damaged k e = refl
+found-damaged (sound S) k e = absurd (false≢true (ap is_some e))
+
+module _ (w : List ℕ) (k : ℕ) (v : Survey) (e : Some v ≡ found_of (decode w) k) where
+  pub survey-is : v ≡ survey_of (decode w) k
+  survey-is = (found-sound (decode w) k v e).2
+
+  pub survey-sound : (S : State) × (decode w ≡ sound S)
+  survey-sound = let x = found-sound (decode w) k v e in (x.0, x.1)
+
+  pub survey-header : IsHeader w
+  survey-header = is_header-header w (decode-header w survey-sound.0 survey-sound.1).known
 
   -- the first words can be read
-  pub survey-long : v.sound ≡ true → 64 < length w
-  survey-long h = omega (arith, survey-header h)
-
-  pub survey-damaged : v.sound ≡ false → decode w ≡ damaged
-  survey-damaged h = (cases (decode w) k).1 (ap (λ (x : Survey). x.sound) (sym e) ∙ h)
+  pub survey-long : 64 < length w
+  survey-long = omega (arith, survey-header)
 
   -- the refusal of every call on the set
-  pub refuses-damaged : v.sound ≡ false → Refuses (decode w) k 2
-  refuses-damaged h = rw (survey-damaged h) refl
+  pub refuses-noset : get_or w 2 0 ≤ k → Refuses (decode w) k 3
+  refuses-noset le = let x = survey-sound in rw x.1 (omega (arith, (decode-header w x.0 x.1).sets), refl)
 
-  pub refuses-noset : v.sound ≡ true → get_or w 2 0 ≤ k → Refuses (decode w) k 3
-  refuses-noset h le = let x = survey-sound h in rw x.1 (omega (arith, (decode-header w x.0 x.1).sets), refl)
+  pub surveyed-at : k < get_or w 2 0 → Surveyed w k v
+  surveyed-at lt = record { found = e; known = lt }
 
-  pub survey-seen : (S : State) → decode w ≡ sound S → k < get_or w 2 0 → Seen w S k v
-  unfolding survey_of
-  survey-seen S d lt =
-      let f : v ≡ survey_of (sound S) k = rw d at e in
-      record {
-        decoded = d;
-        known = rw (decode-header w S d).sets at lt;
-        used = ap (λ (x : Survey). x.used) f;
-        claimed = ap (λ (x : Survey). x.claimed) f;
-        at = ap (λ (x : Survey). x.at) f;
-        held = ap (λ (x : Survey). x.held) f;
-      }
+module _ (w : List ℕ) (k : ℕ) (e : None ≡ found_of (decode w) k) where
+  pub survey-damaged : decode w ≡ damaged
+  survey-damaged = found-damaged (decode w) k e
+
+  pub refuses-damaged : Refuses (decode w) k 2
+  refuses-damaged = rw survey-damaged refl
+
+pub survey-seen : (w : List ℕ) (k : ℕ) (v : Survey) → v ≡ survey_of (decode w) k → (S : State) → decode w ≡ sound S → k < get_or w 2 0 → Seen w S k v
+unfolding survey_of
+survey-seen w k v e S d lt =
+    let f : v ≡ survey_of (sound S) k = rw d at e in
+    record {
+      decoded = d;
+      known = rw (decode-header w S d).sets at lt;
+      used = ap (λ (x : Survey). x.used) f;
+      claimed = ap (λ (x : Survey). x.claimed) f;
+      at = ap (λ (x : Survey). x.at) f;
+      held = ap (λ (x : Survey). x.held) f;
+    }
 
 -- a sound pool has a first set
-pub surveyed-first : {w : List ℕ} {v : Survey} → v ≡ survey_of (decode w) 0 → v.sound ≡ true → Surveyed w 0 v
-surveyed-first {w} {v} e f = record { found = e; sound = f; known = omega (arith, survey-header w 0 v e f) }
+pub surveyed-first : {w : List ℕ} {v : Survey} → Some v ≡ found_of (decode w) 0 → Surveyed w 0 v
+surveyed-first {w} {v} e = record { found = e; known = omega (arith, survey-header w 0 v e) }
 
 module _ {w : List ℕ} {k : ℕ} {v : Survey} (h : Surveyed w k v) where
   pub seen_as : (S : State) → decode w ≡ sound S → Seen w S k v
-  seen_as S d = survey-seen w k v h.found S d h.known
+  seen_as S d = survey-seen w k v (survey-is w k v h.found) S d h.known
 
   pub seen : (S : State) × Seen w S k v
-  seen = let x = survey-sound w k v h.found h.sound in (x.0, seen_as x.0 x.1)
+  seen = let x = survey-sound w k v h.found in (x.0, seen_as x.0 x.1)
 
 -- The numbers of a survey among those of the words.
 pub record Figures (w : List ℕ) (k : ℕ) (v : Survey) : Type 0 where

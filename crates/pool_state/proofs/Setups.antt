@@ -1,7 +1,7 @@
 -- Layout: a turn of each of its loops, whose invariant says that what is still to come completes the whole; the rules of a setup, taken apart; the words that it leaves.
 -- Assumes nothing.
 use mathlib.Core.Bool.{true, false, cond, ◌&&◌, ◌||◌, and-false}
-use mathlib.Core.List.{List, [], ◌∷◌}
+use mathlib.Core.List.{List, [], ◌∷◌, ◌++◌}
 use mathlib.Core.Path.{◌≡◌, refl, sym, ap, ◌∙◌}
 use Prim.Native.Nat.{ℕ, zero, suc, ◌+◌, ◌-◌, ◌*◌, ◌/◌, ◌%◌, ◌≤◌, ◌<◌}
 use native.Mathlib.Nat.{zero-add}
@@ -148,25 +148,12 @@ set-record w p x y z =
     ∙ put-set (set w p 0) (p + 1) (p + 2) x (y ∷ z ∷ []) (omega arith)
     ∙ put-set w p (p + 1) 0 (x ∷ y ∷ z ∷ []) refl
 
--- clear: the words from i on, up to n
-pub record Clearing (n : ℕ) (w₀ w : List ℕ) (i : ℕ) : Type 0 where
-  pub within : i ≤ n
-  pub long : length w ≡ length w₀
-  pub rest : put w i (replicate (n - i) 0) ≡ put w₀ 0 (replicate n 0)
-
-pub clear-start : (n : ℕ) (w : List ℕ) → Clearing n w w 0
-clear-start n w = let e : n - 0 ≡ n = omega arith in record { within = omega arith; long = refl; rest = rw e }
-
-module _ {n : ℕ} {w₀ w : List ℕ} {i : ℕ} (h : Clearing n w₀ w i) where
-  pub clear-turn : i < n → Clearing n w₀ (set w i 0) (i + 1)
-  clear-turn l = record {
-    within = omega arith;
-    long = rw (length-set w i 0) h.long;
-    rest = let e : n - i ≡ suc (n - (i + 1)) = omega arith in put-set w i (i + 1) 0 (replicate (n - (i + 1)) 0) refl ∙ rw e at h.rest;
-  }
-
-  pub clear-end : n ≤ i → w ≡ put w₀ 0 (replicate n 0)
-  clear-end l = let e : n - i ≡ 0 = omega arith in sym (put-nil w i) ∙ rw e at h.rest
+-- clear: zeros before what is left
+pub zeros-put : (w : List ℕ) (n : ℕ) → n ≤ length w → replicate n 0 ++ drop n w ≡ put w 0 (replicate n 0)
+unfolding put
+zeros-put w zero le = sym (put-nil w 0)
+zeros-put [] (suc n) le = absurd (omega arith)
+zeros-put (x ∷ w) (suc n) le = ap (λ l. 0 ∷ l) (zeros-put w n (omega arith))
 
 -- records: the sets from s on
 pub record Recording (shares limits w₀ w : List ℕ) (s : ℕ) : Type 0 where
@@ -264,6 +251,13 @@ module _ {sets z left x n : ℕ} (h : Marking sets z left x n) where
   pub marking-fit : left ≤ 0 → eqb x 0 ≡ marks_fit sets z
   unfolding marks_fit
   marking-fit le = let e : left ≡ 0 = omega arith in rw e at h.fit
+
+-- the start and a turn, by how many sets were passed
+pub marking-from : (sets z : ℕ) → Marking sets z (sets - 0) z 0
+marking-from sets z = let e : sets - 0 ≡ sets = omega arith in rw e (marking-start sets z)
+
+pub marking-next : {sets z s x n : ℕ} → Marking sets z (sets - s) x n → s < sets → Marking sets z (sets - (s + 1)) (x / 2) (n + x % 2)
+marking-next {sets} {z} {s} h lt = let e : sets - s - 1 ≡ sets - (s + 1) = omega arith in rw e at (marking-turn h (omega arith))
 
 -- the tag and the index of one empty set: it has no root
 pub blank-rooted : (w : List ℕ) → 64 ≤ length w → Room w 64 0 × ((t : Trie) × Rooted w 64 0 0 t)

@@ -6,10 +6,10 @@
 --   Setup, empty_state   the arguments of layout, and the state that a granted one leaves
 --   layout_no, laid      the answer of layout, and the words that a granted one leaves; Laid: both, as its contract
 --   free_rule, held_rule, plan_rule      the free nodes; nodes and networks of a set; share and limit of a set
---   survey_of            what one pass over a pool finds out for the calls on set k
+--   survey_of, found_of   what one pass over a pool finds out for the calls on set k: zeros where the pool is damaged; nothing there
 --   seat_at S k, seat_of w v      the seat of its trie, behind the sets before it; by the words and what a pass found
 --   seated_rule          the survey and the seat of set k, or the refusal of every call on it
-use Rattle.std.specs.Prelude.{Bool, true, false, cond, ◌&&◌, ◌||◌, List, [], ◌∷◌, ◌≡◌, ℕ, zero, suc, ◌+◌, ◌/◌, ◌%◌, eqb, leb, ltb, length, get_or, replicate}
+use Rattle.std.specs.Prelude.{Bool, true, false, cond, ◌&&◌, ◌||◌, List, [], ◌∷◌, ◌≡◌, ℕ, zero, suc, ◌+◌, ◌/◌, ◌%◌, eqb, leb, ltb, length, get_or, replicate, Option, Some, None, Result, Ok, Err}
 use Rattle.nets.specs.Refusals.{number, answered, Rule, first_no}
 use Rattle.nets.specs.declared.Refusal.TheVariants.{NoSet, ShortBuffer}
 use Rattle.nodes.specs.Words.{put}
@@ -18,17 +18,8 @@ use Rattle.pool_state.specs.States.{SetState, State, held, claimed, used, free_o
 use Rattle.nets.specs.Networks.{is_family}
 use Rattle.nodes.specs.declared.seats.Seat.{Seat}
 use Rattle.pool_state.specs.Decode.{Decoded, damaged, sound, least_words, record_at, base, over, is_form}
-use Rattle.pool_state.specs.declared.Answer.{Answer}
-use Rattle.pool_state.specs.declared.Answer.TheVariants as answer
-use Rattle.pool_state.specs.declared.Report.{Report}
-use Rattle.pool_state.specs.declared.Report.TheVariants as report
-use Rattle.pool_state.specs.declared.Seated.{Seated}
-use Rattle.pool_state.specs.declared.Seated.TheVariants as seated
 use Rattle.pool_state.specs.declared.Survey.{Survey}
-use Rattle.pool_state.specs.declared.Told.{Told}
-use Rattle.pool_state.specs.declared.Told.TheVariants as told
-use Rattle.pool_state.specs.declared.Verdict.{Verdict}
-use Rattle.pool_state.specs.declared.Verdict.TheVariants as verdict
+use Rattle.nets.specs.declared.Refusal.{Refusal}
 
 unfoldable pub answer_on : {A : Type 0} → Decoded → (State → List Rule) → A → (State → A) → ℕ × A
 answer_on damaged rs z f = (2, z)
@@ -45,22 +36,22 @@ abbrev pub short : ℕ → ℕ → Rule
 short m n = (ltb n m, ShortBuffer)
 
 -- the number and the value of an answer: a refusal has its number and zeros
-abbrev pub answer_as : Answer → ℕ × ℕ
-answer_as (answer.Granted n) = (0, n)
-answer_as (answer.Refused r) = (number r, 0)
+abbrev pub answer_as : Result ℕ Refusal → ℕ × ℕ
+answer_as (Ok n) = (0, n)
+answer_as (Err r) = (number r, 0)
 
-abbrev pub report_as : Report → ℕ × (ℕ × ℕ)
-report_as (report.Numbers a b) = (0, (a, b))
-report_as (report.Refused r) = (number r, (0, 0))
+abbrev pub report_as : Result (ℕ × ℕ) Refusal → ℕ × (ℕ × ℕ)
+report_as (Ok (a, b)) = (0, (a, b))
+report_as (Err r) = (number r, (0, 0))
 
-abbrev pub told_as : Told → ℕ × Bool
-told_as (told.Is b) = (0, b)
-told_as (told.Refused r) = (number r, false)
+abbrev pub told_as : Result Bool Refusal → ℕ × Bool
+told_as (Ok b) = (0, b)
+told_as (Err r) = (number r, false)
 
 -- the number of a verdict
-abbrev pub verdict_as : Verdict → ℕ
-verdict_as verdict.Fits = 0
-verdict_as (verdict.No r) = number r
+abbrev pub verdict_as : Result Unit Refusal → ℕ
+verdict_as (Ok tt) = 0
+verdict_as (Err r) = number r
 
 -- each share is at most its limit
 abbrev pub within_limits : List ℕ → List ℕ → Bool
@@ -168,7 +159,7 @@ plan_rule d k = on_set d k (0, 0) (λ S s. (s.share, s.limit))
 
 -- what a pass over the pool finds: the nodes in use, the claims, the number at which set k begins or would, and its nodes
 abbrev pub no_survey : Survey
-no_survey = record { sound = false; used = 0; claimed = 0; at = 0; held = 0 }
+no_survey = record { used = 0; claimed = 0; at = 0; held = 0 }
 
 -- the number of the first node of set k, or where it would stand, if the first set's is i
 abbrev pub first_node : ℕ → ℕ → List SetState → ℕ
@@ -179,7 +170,11 @@ first_node (suc k) i (s ∷ ss) = first_node k (i + held s) ss
 unfoldable pub survey_of : Decoded → ℕ → Survey
 survey_of damaged k = no_survey
 survey_of (sound S) k =
-    record { sound = true; used = used S.sets; claimed = claimed S.sets; at = first_node k 1 S.sets; held = held (get_or S.sets k no_set) }
+    record { used = used S.sets; claimed = claimed S.sets; at = first_node k 1 S.sets; held = held (get_or S.sets k no_set) }
+
+unfoldable pub found_of : Decoded → ℕ → Option Survey
+found_of damaged k = None
+found_of (sound S) k = Some (survey_of (sound S) k)
 
 abbrev pub seat_at : State → ℕ → Seat
 seat_at S k =
@@ -196,9 +191,9 @@ seat_of w v = record { family = get_or w 1 0; base = base (get_or w 2 0); first 
 abbrev pub no_seat : Seat
 no_seat = record { family = 0; base = 0; first = 0; end = 0 }
 
-abbrev pub seated_as : Seated → ℕ × (Survey × Seat)
-seated_as (seated.At v s) = (0, (v, s))
-seated_as (seated.Refused r) = (number r, (no_survey, no_seat))
+abbrev pub seated_as : Result (Survey × Seat) Refusal → ℕ × (Survey × Seat)
+seated_as (Ok (v, s)) = (0, (v, s))
+seated_as (Err r) = (number r, (no_survey, no_seat))
 
 unfoldable pub seated_rule : Decoded → ℕ → ℕ × (Survey × Seat)
 seated_rule d k = on_set d k (no_survey, no_seat) (λ S s. (survey_of (sound S) k, seat_at S k))

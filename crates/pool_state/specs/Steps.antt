@@ -11,7 +11,7 @@
 --   Relink w k old new           what it takes to write them
 --   reindexed w k l              the words with the index of set k right, whose list is l
 --   Settle w k i old new         what it takes to put the roots and the index right;  Settled: v is what that leaves of the words w, whatever list stands there
-use Rattle.std.specs.Prelude.{◌≡◌, Bool, true, cond, List, [], ◌∷◌, ℕ, zero, suc, ◌+◌, ◌-◌, ◌*◌, ◌≤◌, ◌<◌, max, eqb, length, get_or, take, drop}
+use Rattle.std.specs.Prelude.{◌≡◌, Bool, true, cond, List, [], ◌∷◌, ℕ, zero, suc, ◌+◌, ◌-◌, ◌*◌, ◌≤◌, ◌<◌, max, eqb, length, get_or, take, drop, Some, Result}
 use Rattle.nets.specs.Bits.{Bits}
 use Rattle.nets.specs.Refusals.{first_no}
 use Rattle.nets.specs.Tries.{Trie, size}
@@ -19,24 +19,23 @@ use Rattle.nodes.specs.Words.{put, Has, place, enc}
 use Rattle.pool_state.specs.Kept.{first, held_l, enc_l, stride_l, spot_l, index_l}
 use Rattle.pool_state.specs.States.{State, admits}
 use Rattle.pool_state.specs.Decode.{Decoded, damaged, sound, record_at, base, least_words, form_in, decode}
-use Rattle.pool_state.specs.Rules.{verdict_as, survey_of, tag_in}
+use Rattle.pool_state.specs.Rules.{verdict_as, found_of, tag_in}
 use Rattle.pool_state.specs.Changes.{set_at, grant_rules}
 use Rattle.pool_state.specs.declared.Survey.{Survey}
-use Rattle.pool_state.specs.declared.Verdict.{Verdict}
+use Rattle.nets.specs.declared.Refusal.{Refusal}
 
 abbrev pub Refuses : Decoded → ℕ → ℕ → Type 0
 Refuses damaged k x = x ≡ 2
 Refuses (sound S) k x = (length S.sets ≤ k) × (x ≡ 3)
 
 pub record Surveyed (w : List ℕ) (k : ℕ) (v : Survey) : Type 0 where
-  pub found : v ≡ survey_of (decode w) k
-  pub sound : v.sound ≡ true
+  pub found : Some v ≡ found_of (decode w) k
   pub known : k < get_or w 2 0
 
 abbrev pub survey_with : ℕ → Survey → ℕ → Survey
-survey_with x v n = record { sound = true; used = v.used - v.held + n; claimed = v.claimed - max x v.held + max x n; at = v.at; held = n }
+survey_with x v n = record { used = v.used - v.held + n; claimed = v.claimed - max x v.held + max x n; at = v.at; held = n }
 
-pub record Judges (w : List ℕ) (k : ℕ) (c : Bool) (n : ℕ) (r : Verdict) : Type 0 where
+pub record Judges (w : List ℕ) (k : ℕ) (c : Bool) (n : ℕ) (r : Result Unit Refusal) : Type 0 where
   pub verdict : (S : State) (l : List Bits) → decode w ≡ sound S → admits S.family (set_at S k) l ≡ c → held_l (set_at S k).form l ≡ n → verdict_as r ≡ first_no (grant_rules S k l)
 
 abbrev pub spot_by : ℕ → ℕ → ℕ → ℕ

@@ -18,15 +18,15 @@ use Rattle.nodes.proofs.Put.{length-put, get_or-put-in, get_or-put-behind}
 use Rattle.pool_state.specs.States.{State}
 use Rattle.pool_state.specs.Decode.{damaged, sound, decode}
 use Rattle.pool_state.specs.Changes.{list_at}
-use Rattle.pool_state.specs.declared.Answer.{Answer}
-use Rattle.pool_state.specs.declared.Answer.TheVariants as answer
 use Rattle.pool_state.proofs.Filled.{filled-one, filled-damaged, filled-noset, filled-short, filled-whole}
 use Rattle.listing.proofs.Seats.{sits-at}
 use Rattle.trie_ranges.proofs.Standing.{length-range_rows}
 use Rattle.rangelist.specs.Calls.{ranges_at, Ranges}
 use Rattle.rangelist.proofs.Calls.{ranges-fills, sits-is_list}
+use Rattle.std.specs.Prelude.{Result, Ok, Err}
+use Rattle.nets.specs.declared.Refusal.{Refusal}
 
-pub ranges-determined : {w v u x : List ℕ} {k : ℕ} {r s : Answer} → Ranges w k v r u → Ranges w k v s x → (r ≡ s) × (u ≡ x)
+pub ranges-determined : {w v u x : List ℕ} {k : ℕ} {r s : (Result ℕ Refusal)} → Ranges w k v r u → Ranges w k v s x → (r ≡ s) × (u ≡ x)
 ranges-determined g h = filled-one (ranges-fills g) (ranges-fills h)
 
 -- What the ranges of a set are, in every state that words hold.
@@ -51,19 +51,19 @@ module _ (w : List ℕ) (S : State) (k : ℕ) (d : decode w ≡ sound S) (lt : k
   own-one = ranges-one (width S.family) (list_at S k) own-list
 
 -- Damaged words, a set that is not there and a short buffer are refused, and the rows stay; else they begin with the ranges.
-module _ {w v u : List ℕ} {k : ℕ} {r : Answer} (h : Ranges w k v r u) where
-  pub ranges-damaged : decode w ≡ damaged → (r ≡ answer.Refused Damaged) × (u ≡ v)
+module _ {w v u : List ℕ} {k : ℕ} {r : (Result ℕ Refusal)} (h : Ranges w k v r u) where
+  pub ranges-damaged : decode w ≡ damaged → (r ≡ Err Damaged) × (u ≡ v)
   ranges-damaged = filled-damaged (ranges-fills h)
 
   module _ (S : State) (d : decode w ≡ sound S) where
-    pub ranges-noset : length S.sets ≤ k → (r ≡ answer.Refused NoSet) × (u ≡ v)
+    pub ranges-noset : length S.sets ≤ k → (r ≡ Err NoSet) × (u ≡ v)
     ranges-noset = filled-noset (ranges-fills h) S d
 
     module _ (lt : k < length S.sets) where
-      pub ranges-small : length v < 4 * length (ranges_at S k) → (r ≡ answer.Refused ShortBuffer) × (u ≡ v)
+      pub ranges-small : length v < 4 * length (ranges_at S k) → (r ≡ Err ShortBuffer) × (u ≡ v)
       ranges-small = filled-short (ranges-fills h) S d lt
 
-      pub ranges-rows : 4 * length (ranges_at S k) ≤ length v → (r ≡ answer.Granted (length (ranges_at S k))) × (u ≡ put v 0 (range_rows (ranges_at S k)))
+      pub ranges-rows : 4 * length (ranges_at S k) ≤ length v → (r ≡ Ok (length (ranges_at S k))) × (u ≡ put v 0 (range_rows (ranges_at S k)))
       ranges-rows = filled-whole (ranges-fills h) S d lt
 
       -- number by number: no row is lost, the ranges come first, and what is past them stays

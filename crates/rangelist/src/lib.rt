@@ -1,4 +1,6 @@
 // Ranges out, in either form of a pool: the fewest ranges of addresses that cover a set, ascending and apart.
+#![tactic(auto)]
+
 ghost use Rattle.nets.specs.Tries.{Trie};
 ghost use Rattle.listing.specs.Seated.{HeldIn};
 ghost use Rattle.trie_ranges.specs.Opening.{Ranged};
@@ -8,7 +10,6 @@ use listing::seated::is_first;
 use nets::Refusal;
 use nodes::seats::Seat;
 use pool_check::seats::seat_of;
-use pool_state::{Answer, Seated};
 use trie_ranges::rows;
 
 // Goes through the trie in a seat and writes its ranges, where they fit; answers how many there are. Rows of length 0 are for counting.
@@ -25,20 +26,14 @@ fn write_ranges(pool: &[u32], s: Seat, rows: &mut [u64]) -> usize
 
 // Writes the ranges of a set, four numbers for each: high and low word of the first address and of the last. Answers how many there are. Entries past them
 // keep what they had, and a refusal writes nothing: a first pass over the set counts the ranges, with no rows to write to.
-pub fn ranges(pool: &[u32], set: u32, rows: &mut [u64]) -> Answer
+pub fn ranges(pool: &[u32], set: u32, rows: &mut [u64]) -> Result<u32, Refusal>
     ensures { Ranges pool.now set rows.old result rows.new }
 {
-    let seated = seat_of(pool, set);
-    match seated {
-        Seated::Refused(no) => Answer::Refused(no),
-        Seated::At(_, s) => {
-            let mut none = [0u64; 0];
-            let n = write_ranges(pool, s, &mut none);
-            if rows.len() < 4 * n {
-                return Answer::Refused(Refusal::ShortBuffer);
-            }
-            write_ranges(pool, s, rows);
-            Answer::Granted(n as u32)
-        }
+    let (_, s) = seat_of(pool, set)?;
+    let n = write_ranges(pool, s, &mut []);
+    if rows.len() < 4 * n {
+        return Err(Refusal::ShortBuffer);
     }
+    write_ranges(pool, s, rows);
+    Ok(n as u32)
 }

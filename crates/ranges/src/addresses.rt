@@ -7,10 +7,9 @@ ghost use Rattle.ranges.specs.Addresses.{address_of, words_of, after_of};
 
 use nets::families::width;
 use nets::{IPV4, Net};
-use std::num::wrapping_add_u64;
 
 // An address in two words; in family 4 the high word is 0.
-#[derive(Clone, Copy)]
+#[derive(Clone, Copy, Debug, PartialEq, Eq)]
 pub struct Address {
     pub hi: u64,
     pub lo: u64,
@@ -20,14 +19,14 @@ pub struct Address {
 fn carry(lo: u64) -> u64
     ensures { result ≡ (if nat_eq lo 0 then 1 else 0) }
 {
-    if lo == 0 { 1 } else { 0 }
+    u64::from(lo == 0)
 }
 
 // The address behind a. Behind the last one of the family it is zero: a caller takes that as the end.
 pub fn after(family: u8, a: Address) -> Address
     ensures { result ≡ words_of (after_of family (address_of a)) }
 {
-    let lo = wrapping_add_u64(a.lo, 1);
+    let lo = a.lo.wrapping_add(1);
     if family == IPV4 {
         return Address {
             hi: 0,
@@ -35,7 +34,7 @@ pub fn after(family: u8, a: Address) -> Address
         };
     }
     Address {
-        hi: wrapping_add_u64(a.hi, carry(lo)),
+        hi: a.hi.wrapping_add(carry(lo)),
         lo,
     }
 }

@@ -13,7 +13,6 @@ use Rattle.pool_state.specs.States.{State, held, claimed, is_state}
 use Rattle.pool_state.specs.Decode.{decode, sound}
 use Rattle.pool_state.specs.Rules.{answer_as}
 use Rattle.pool_state.specs.Changes.{set_at, list_at, with_set, fits, change_no, planned, plan_rules, Replanned}
-use Rattle.pool_state.specs.declared.Answer.{Answer}
 use Rattle.pool_state.proofs.Claims.{is_list-list_at, admits-list_at}
 use Rattle.pool_state.proofs.Decoded.{decode-state}
 use Rattle.pool_state.proofs.Determined.{changed-one}
@@ -21,8 +20,10 @@ use Rattle.pool_state.proofs.Judged.{change_no-known}
 use Rattle.pool_state.proofs.Leaves.{Leaves, Keeps, after, after-lists, changed-leaves}
 use Rattle.pool_state.proofs.Planned.{fits_sum}
 use Rattle.pool_state.proofs.WithSet.{fits-is}
+use Rattle.std.specs.Prelude.{Result}
+use Rattle.nets.specs.declared.Refusal.{Refusal}
 
-pub replan-determined : {w u v : List ℕ} {k x y : ℕ} {r s : Answer} → Replanned w k x y (answer_as r) u → Replanned w k x y (answer_as s) v → (r ≡ s) × (u ≡ v)
+pub replan-determined : {w u v : List ℕ} {k x y : ℕ} {r s : (Result ℕ Refusal)} → Replanned w k x y (answer_as r) u → Replanned w k x y (answer_as s) v → (r ≡ s) × (u ≡ v)
 replan-determined h g = changed-one h g
 
 -- "the new share is at most the new limit, the limit isn't below the nodes now held, and the sum" over all sets of the larger of share and nodes, "with the new share, is at most

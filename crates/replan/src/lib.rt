@@ -9,8 +9,8 @@ ghost use Rattle.pool_state.specs.Steps.{Surveyed};
 use nets::Refusal;
 use pool_change::judging::room;
 use pool_check::seats::seat_of;
-use pool_header::{HEAD, RECORD};
-use pool_state::{Answer, Seated, Survey};
+use pool_header::{HEAD, LIMIT, RECORD, SHARE};
+use pool_state::Survey;
 
 // Whether the surveyed set may have this share and this limit. Its nodes are within its room already, so of its claim only the share is to be asked.
 fn may_plan(pool: &[u32], set: u32, found: Survey, share: u32, limit: u32) -> bool
@@ -29,20 +29,15 @@ fn may_plan(pool: &[u32], set: u32, found: Survey, share: u32, limit: u32) -> bo
 }
 
 // Gives a set another share and limit. Answers the nodes that it holds.
-pub fn replan(pool: &mut [u32], set: u32, share: u32, limit: u32) -> Answer
+pub fn replan(pool: &mut [u32], set: u32, share: u32, limit: u32) -> Result<u32, Refusal>
     ensures { Replanned pool.old set share limit (answer_as result) pool.new }
 {
-    let seated = seat_of(pool, set);
-    match seated {
-        Seated::Refused(no) => Answer::Refused(no),
-        Seated::At(found, _) => {
-            if !may_plan(pool, set, found, share, limit) {
-                return Answer::Refused(Refusal::BadShare);
-            }
-            let record = HEAD + RECORD * (set as usize);
-            pool[record + 1] = share;
-            pool[record + 2] = limit;
-            Answer::Granted(found.held)
-        }
+    let (found, _) = seat_of(pool, set)?;
+    if !may_plan(pool, set, found, share, limit) {
+        return Err(Refusal::BadShare);
     }
+    let record = HEAD + RECORD * (set as usize);
+    pool[record + SHARE] = share;
+    pool[record + LIMIT] = limit;
+    Ok(found.held)
 }

@@ -6,6 +6,7 @@ ghost use Rattle.std.specs.Prelude.{◌≡◌, length};
 
 use calls::running::run;
 use calls_bytes::bytes::u32_at;
+use calls_kinds::places::Stop;
 use std::io;
 use std::io::Read;
 use tool_files::read_full;
@@ -20,10 +21,9 @@ const HEAD: usize = 136;
 
 const FRAME: usize = 65536;
 
-// What came of a frame: whether there was one, how many calls were done, and whether all answers are those that were made.
+// What came of a frame: how many calls were done, and whether all answers are those that were made.
 #[derive(Clone, Copy)]
 struct Replayed {
-    more: bool,
     calls: u64,
     right: bool,
 }
@@ -50,42 +50,38 @@ fn replay(calls: &[u8], answers: &[u8]) -> Replayed {
     let to = ended.to;
     let same = &out[..to] == answers;
     Replayed {
-        more: true,
         calls: ended.done,
-        right: same && ended.why == 0,
+        right: same && ended.why == Stop::Whole,
     }
 }
 
-// No calls that could be run: behind the last frame, or in a frame that is none.
-fn nothing(more: bool) -> Replayed {
-    Replayed {
-        more,
-        calls: 0,
-        right: false,
-    }
-}
+// A frame that is none: no calls that could be run.
+const NOTHING: Replayed = Replayed {
+    calls: 0,
+    right: false,
+};
 
 // The calls and the answers of a frame.
 fn frame(input: &[u8]) -> Replayed {
     if input.len() < FRAME {
-        return nothing(true);
+        return NOTHING;
     }
     let n = u32_at(input, 128) as usize;
     let m = u32_at(input, 132) as usize;
     if n + m > FRAME - HEAD {
-        return nothing(true);
+        return NOTHING;
     }
     replay(&input[HEAD..HEAD + n], &input[HEAD + n..HEAD + n + m])
 }
 
-// The next frame of the input.
-fn next_frame<R: Read>(from: &mut R) -> io::Result<Replayed> {
+// What came of the next frame of the input, or None behind the last one.
+fn next_frame<R: Read>(from: &mut R) -> io::Result<Option<Replayed>> {
     let mut input = [0u8; FRAME];
     let n = read_full(from, &mut input)?;
     if n < FRAME {
-        return Ok(nothing(false));
+        return Ok(None);
     }
-    Ok(frame(&input))
+    Ok(Some(frame(&input)))
 }
 
 // Writes how many calls were done, and how many frames came out otherwise.
@@ -93,18 +89,17 @@ fn say(rt: &impl Print, calls: u64, wrong: u64) -> io::Result<()> {
     println!(rt; "{calls} calls, {wrong} frames wrong")
 }
 
-// Reads frames to the end of the input. A proved loop has to end, and nothing says that the input does: the loop counts its turns down, from a number that no run uses up.
+// Reads frames to the end of the input. A proved loop has to end, and nothing says that the input does: the loop has as many turns as no run uses up.
 fn main(rt: HostRuntime) -> io::Result<()> {
     let mut calls: u64 = 0;
     let mut wrong: u64 = 0;
-    let mut turns = u32::MAX;
     let mut input = rt.stdin();
-    let mut r = next_frame(&mut input)?;
-    while turns > 0 && r.more {
+    for _ in 0..u32::MAX {
+        let Some(r) = next_frame(&mut input)? else {
+            break;
+        };
         calls = std::num::wrapping_add_u64(calls, r.calls);
         wrong = std::num::wrapping_add_u64(wrong, !r.right as u64);
-        r = next_frame(&mut input)?;
-        turns -= 1;
     }
     say(&rt, calls, wrong)
 }

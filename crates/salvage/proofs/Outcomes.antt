@@ -21,26 +21,27 @@ use Rattle.salvage_lists.specs.Salvaging.{whole_entries, outermost}
 use Rattle.salvage_lists.proofs.Left.{covers-outermost, is_list-outermost, outermost-list}
 use Rattle.salvage_lists.proofs.Counts.{covered-outermost, covered-list, length-in_range_in, within-in_range_in, clean-in_range_in}
 use Rattle.salvage.specs.Calls.{family_of, read_of, entries_of, left_of, saved_of, counts_as, counts_of, salvaged_as, salvage_rule, salvage_left, Salvages}
-use Rattle.salvage.specs.declared.Salvaged.{Salvaged}
-use Rattle.salvage.specs.declared.Salvaged.TheVariants as salvaged
 use Rattle.salvage.proofs.Returns.{entry-some, no_none}
+use Rattle.std.specs.Prelude.{Result, Ok, Err}
+use Rattle.nets.specs.declared.Refusal.{Refusal}
+use Rattle.salvage.specs.declared.Counts.{Counts}
 
-salvaged_as-one : (r s : Salvaged) → salvaged_as r ≡ salvaged_as s → r ≡ s
-salvaged_as-one (salvaged.File m) (salvaged.File n) e = ap salvaged.File (ap (λ p. p.1) e)
-salvaged_as-one (salvaged.File m) (salvaged.Refused y) e = absurd (number-some y (sym (ap (λ p. p.0) e)))
-salvaged_as-one (salvaged.Refused x) (salvaged.File n) e = absurd (number-some x (ap (λ p. p.0) e))
-salvaged_as-one (salvaged.Refused x) (salvaged.Refused y) e = ap salvaged.Refused (number-one x y (ap (λ p. p.0) e))
+salvaged_as-one : (r s : Result Counts Refusal) → salvaged_as r ≡ salvaged_as s → r ≡ s
+salvaged_as-one (Ok m) (Ok n) e = ap Ok (ap (λ p. p.1) e)
+salvaged_as-one (Ok m) (Err y) e = absurd (number-some y (sym (ap (λ p. p.0) e)))
+salvaged_as-one (Err x) (Ok n) e = absurd (number-some x (ap (λ p. p.0) e))
+salvaged_as-one (Err x) (Err y) e = ap Err (number-one x y (ap (λ p. p.0) e))
 
-pub salvage-determined : {d v u x : List ℕ} {r s : Salvaged} → Salvages d v r u → Salvages d v s x → (r ≡ s) × (u ≡ x)
+pub salvage-determined : {d v u x : List ℕ} {r s : (Result Counts Refusal)} → Salvages d v r u → Salvages d v s x → (r ≡ s) × (u ≡ x)
 salvage-determined {r = r} {s = s} g h = (salvaged_as-one r s (g.answer ∙ sym h.answer), g.bytes ∙ sym h.bytes)
 
 -- Granted: the file stands at the front of the output, and behind it all is as it was.
-module _ {d v u : List ℕ} {r : Salvaged} (s : Salvages d v r u) (h : header_bytes ≤ length d) (e : is_family (family_of d) ≡ true) (m : read_of d ≤ most_entries) (l : length (saved_of d) ≤ length v) where
-  pub salvage-file : (r ≡ salvaged.File (counts_of d)) × (u ≡ put v 0 (saved_of d))
+module _ {d v u : List ℕ} {r : (Result Counts Refusal)} (s : Salvages d v r u) (h : header_bytes ≤ length d) (e : is_family (family_of d) ≡ true) (m : read_of d ≤ most_entries) (l : length (saved_of d) ≤ length v) where
+  pub salvage-file : (r ≡ Ok (counts_of d)) × (u ≡ put v 0 (saved_of d))
   unfolding salvage_rule salvage_left
   salvage-file =
       let z = no_none d (length v) h e m l in
-      (salvaged_as-one r (salvaged.File (counts_of d)) (s.answer ∙ rw z), s.bytes ∙ rw z)
+      (salvaged_as-one r (Ok (counts_of d)) (s.answer ∙ rw z), s.bytes ∙ rw z)
 
   pub salvage-past : (i : ℕ) → length (saved_of d) ≤ i → get_or u i 0 ≡ get_or v i 0
   salvage-past i k = rw salvage-file.1 (get_or-put-behind v 0 (saved_of d) i (omega arith))

@@ -31,8 +31,8 @@ use Rattle.salvage.specs.Calls.{family_of, read_of, entries_of, left_of, saved_o
 use Rattle.salvage_passes.specs.Parts.{Counted, Filling}
 use Rattle.salvage.specs.Parts.{Readable}
 use Rattle.salvage.specs.declared.Counts.{Counts}
-use Rattle.salvage.specs.declared.Salvaged.TheVariants as salvaged
 use Rattle.salvage_passes.proofs.Fillings.{filling-start}
+use Rattle.std.specs.Prelude.{Ok, Err}
 
 -- The number of a call, by its rules.
 module _ (d : List ℕ) (n : ℕ) where
@@ -64,17 +64,17 @@ whole_length {S} {T} w =
     let e : in_address_order (in_order T) ≡ T = rise_one (in_address_order (in_order T)) T (rise-order (in_order T) up) (chain-rise T w.chain) (λ q. member-order q (in_order T) ∙ member-in_order q T) in
     ap length (sym (whole-outermost w)) ∙ sym (length-order (in_order T)) ∙ ap length e
 
-refused : {d v : List ℕ} (x : Refusal) → first_no (salvage_rules d (length v)) ≡ number x → Salvages d v (salvaged.Refused x) v
+refused : {d v : List ℕ} (x : Refusal) → first_no (salvage_rules d (length v)) ≡ number x → Salvages d v (Err x) v
 unfolding salvage_rule salvage_left
 refused x e = let z = ne_eqb (number x) 0 (number-some x) in record { answer = rw (e, z); bytes = rw (e, z) }
 
-pub refused-header : {d v : List ℕ} → length d < header_bytes → Salvages d v (salvaged.Refused BadFile) v
+pub refused-header : {d v : List ℕ} → length d < header_bytes → Salvages d v (Err BadFile) v
 refused-header {d} {v} h = refused BadFile (no_header d (length v) h)
 
-pub refused-family : {d v : List ℕ} → header_bytes ≤ length d → is_family (family_of d) ≡ false → Salvages d v (salvaged.Refused BadFile) v
+pub refused-family : {d v : List ℕ} → header_bytes ≤ length d → is_family (family_of d) ≡ false → Salvages d v (Err BadFile) v
 refused-family {d} {v} h e = refused BadFile (no-family d (length v) h e)
 
-pub refused-many : {d v : List ℕ} → header_bytes ≤ length d → is_family (family_of d) ≡ true → most_entries < read_of d → Salvages d v (salvaged.Refused BadFile) v
+pub refused-many : {d v : List ℕ} → header_bytes ≤ length d → is_family (family_of d) ≡ true → most_entries < read_of d → Salvages d v (Err BadFile) v
 refused-many {d} {v} h e m = refused BadFile (no-many d (length v) h e m)
 
 module _ {d : List ℕ} {f n : ℕ} (r : Readable d f n) where
@@ -119,15 +119,15 @@ module _ {d : List ℕ} {f n : ℕ} (r : Readable d f n) where
         pub counted-least : m ≤ k
         counted-least = omega (arith, c.long, whole-few c.whole, length-in_range_in f d 0 n)
 
-        pub returns-short : (file_bytes f k ≤ length v → room ≡ k) × (length v < file_bytes f k → room ≡ 0) → length u < size → Salvages d v (salvaged.Refused ShortBuffer) u
+        pub returns-short : (file_bytes f k ≤ length v → room ≡ k) × (length v < file_bytes f k → room ≡ 0) → length u < size → Salvages d v (Err ShortBuffer) u
         returns-short s l = go (dec_le (file_bytes f k) (length v))
           where
-            go : Dec (file_bytes f k ≤ length v) → Salvages d v (salvaged.Refused ShortBuffer) u
+            go : Dec (file_bytes f k ≤ length v) → Salvages d v (Err ShortBuffer) u
             go (yes h) = absurd (omega (arith, h, c.kept.long, q, file_bytes-mono f {i = m} {n = k} counted-least))
             go (no h) = rw (c.same (s.1 (omega arith))) (refused ShortBuffer (no_room d (length v) r.long known few (omega (arith, sized, c.kept.long))))
 
         pub returns-file : size ≤ length u → {w : List ℕ} → w ≡ put v 0 (file_of f (outermost (in_range_in f d 0 n))) → {a b : ℕ} → a ≡ trimmed_in f d 0 n → b ≡ long_in f d 0 n
-            → Salvages d v (salvaged.File (counts_as n a b (k - m) size)) w
+            → Salvages d v (Ok (counts_as n a b (k - m) size)) w
         unfolding salvage_rule salvage_left counts_of
         returns-file l {w} p {a} {b} x y =
             let z = no_none d (length v) r.long known few (omega (arith, sized, c.kept.long)) in

@@ -5,7 +5,7 @@
 --   salvage_rules d n            5 less than 16 bytes, a family other than 4 and 6, more entries than a file may have; then 11 fewer bytes in the output, n, than the file has
 --   counts_of d                  entries read, trimmed, dropped for their length, dropped as covered, and bytes written
 --   Salvages d v r u            from the bytes d and the output v a salvage answers r and leaves the output u
-use Rattle.std.specs.Prelude.{not, cond, List, [], ◌∷◌, ◌≡◌, ℕ, eqb, ltb, length}
+use Rattle.std.specs.Prelude.{not, cond, List, [], ◌∷◌, ◌≡◌, ℕ, eqb, ltb, length, Result, Ok, Err}
 use Rattle.nets.specs.Bits.{Bits}
 use Rattle.nets.specs.Networks.{is_family}
 use Rattle.nets.specs.Refusals.{number, answered, Rule, first_no}
@@ -14,8 +14,7 @@ use Rattle.nodes.specs.Words.{put}
 use Rattle.setfile_format.specs.Files.{header_bytes, most_entries, file_of, head_number}
 use Rattle.salvage_lists.specs.Salvaging.{whole_entries, in_range_in, long_in, trimmed_in, covered_in, outermost}
 use Rattle.salvage.specs.declared.Counts.{Counts}
-use Rattle.salvage.specs.declared.Salvaged.{Salvaged}
-use Rattle.salvage.specs.declared.Salvaged.TheVariants as salvaged
+use Rattle.nets.specs.declared.Refusal.{Refusal}
 
 abbrev pub family_of : List ℕ → ℕ
 family_of d = head_number d 0
@@ -51,9 +50,9 @@ abbrev pub no_counts : Counts
 no_counts = counts_as 0 0 0 0 0
 
 -- the number and the values of an answer: a refusal has its number and zeros
-abbrev pub salvaged_as : Salvaged → ℕ × Counts
-salvaged_as (salvaged.File c) = (0, c)
-salvaged_as (salvaged.Refused r) = (number r, no_counts)
+abbrev pub salvaged_as : Result Counts Refusal → ℕ × Counts
+salvaged_as (Ok c) = (0, c)
+salvaged_as (Err r) = (number r, no_counts)
 
 unfoldable pub salvage_rule : List ℕ → ℕ → ℕ × Counts
 salvage_rule d n = answered (first_no (salvage_rules d n)) no_counts (counts_of d)
@@ -61,6 +60,6 @@ salvage_rule d n = answered (first_no (salvage_rules d n)) no_counts (counts_of 
 unfoldable pub salvage_left : List ℕ → List ℕ → List ℕ
 salvage_left d v = cond (eqb (first_no (salvage_rules d (length v))) 0) (put v 0 (saved_of d)) v
 
-pub record Salvages (d v : List ℕ) (r : Salvaged) (u : List ℕ) : Type 0 where
+pub record Salvages (d v : List ℕ) (r : Result Counts Refusal) (u : List ℕ) : Type 0 where
   pub answer : salvaged_as r ≡ salvage_rule d (length v)
   pub bytes : u ≡ salvage_left d v

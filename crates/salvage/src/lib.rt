@@ -19,29 +19,22 @@ pub struct Counts {
     pub bytes: u32,
 }
 
-// The counts, or why there is no file.
-#[derive(Clone, Copy)]
-pub enum Salvaged {
-    File(Counts),
-    Refused(Refusal),
-}
-
 const MOST_ENTRIES: usize = 4194304;
 
 // Writes the right file of what is left of a file's entries. The bytes past it keep what they had, and a refusal writes nothing.
-pub fn salvage(bytes: &[u8], out: &mut [u8]) -> Salvaged
+pub fn salvage(bytes: &[u8], out: &mut [u8]) -> Result<Counts, Refusal>
     ensures { Salvages bytes.now out.old result out.new }
 {
     if bytes.len() < reading::HEADER {
-        return Salvaged::Refused(Refusal::BadFile);
+        return Err(Refusal::BadFile);
     }
     let family = reading::number(bytes, 0);
     if !is_family(family) {
-        return Salvaged::Refused(Refusal::BadFile);
+        return Err(Refusal::BadFile);
     }
     let n = (bytes.len() - reading::HEADER) / reading::entry_bytes(family as u8);
     if MOST_ENTRIES < n {
-        return Salvaged::Refused(Refusal::BadFile);
+        return Err(Refusal::BadFile);
     }
     write(bytes, family as u8, n, out)
 }

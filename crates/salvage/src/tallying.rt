@@ -45,12 +45,10 @@ pub fn tally(bytes: &[u8], family: u8, n: usize) -> Strays
 {
     let mut trimmed = 0;
     let mut long = 0;
-    let mut i = 0;
-    while i < n {
+    for i in 0..n {
         let s = stray(reading::entry(bytes, family, i));
         trimmed += s.trimmed;
         long += s.long;
-        i += 1;
     }
     Strays { trimmed, long }
 }

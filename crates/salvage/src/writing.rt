@@ -8,8 +8,8 @@ ghost use Rattle.salvage.specs.Calls.{Salvages};
 ghost use Rattle.salvage_passes.specs.Parts.{Filling};
 ghost use Rattle.salvage.specs.Parts.{Readable};
 
+use crate::Counts;
 use crate::tallying::tally;
-use crate::{Counts, Salvaged};
 use nets::Refusal;
 use salvage_passes::counting::count;
 use salvage_passes::filling::fill;
@@ -41,7 +41,7 @@ fn write_file(bytes: &[u8], family: u8, n: usize, m: usize, out: &mut [u8])
 }
 
 // Writes what is left of the n entries.
-pub fn write(bytes: &[u8], family: u8, n: usize, out: &mut [u8]) -> Salvaged
+pub fn write(bytes: &[u8], family: u8, n: usize, out: &mut [u8]) -> Result<Counts, Refusal>
     requires { Readable bytes.now family n }
     ensures { Salvages bytes.now out.old result out.new }
 {
@@ -52,7 +52,7 @@ pub fn write(bytes: &[u8], family: u8, n: usize, out: &mut [u8]) -> Salvaged
     let m = count(bytes, family, n, out, room);
     let size = reading::file_bytes(family, m);
     if out.len() < size {
-        return Salvaged::Refused(Refusal::ShortBuffer);
+        return Err(Refusal::ShortBuffer);
     }
     write_file(bytes, family, n, m, out);
     let counts = Counts {
@@ -62,5 +62,5 @@ pub fn write(bytes: &[u8], family: u8, n: usize, out: &mut [u8]) -> Salvaged
         covered: (kept - m) as u32,
         bytes: size as u32,
     };
-    Salvaged::File(counts)
+    Ok(counts)
 }

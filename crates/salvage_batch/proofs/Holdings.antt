@@ -1,32 +1,31 @@
 -- The entries held for a batch: squeezed, cut at a bound, and one more. Assumes nothing.
-use mathlib.Core.Bool.{Bool, true, false, cond}
+use mathlib.Core.Bool.{true, false, false≢true}
 use mathlib.Core.List.{List, [], ◌∷◌, ◌++◌}
-use mathlib.Core.Logic.{◌⊎◌, inl, inr}
-use mathlib.Core.Path.{◌≡◌, refl, ap, sym, ◌∙◌}
-use Prim.Native.Nat.{ℕ, zero, suc, ◌+◌, ◌-◌, ◌/◌, ◌≤◌, ◌<◌}
+use mathlib.Core.Logic.{inl, inr}
+use mathlib.Core.Path.{◌≡◌, ap, sym, ◌∙◌}
+use Prim.Native.Nat.{ℕ, suc, ◌+◌, ◌-◌, ◌≤◌, ◌<◌}
 use native.Mathlib.Nat.{zero-add}
 use native.Mathlib.Numerals.{add-one}
 use native.Mathlib.Omega.{arith}
 use lib.ListN.{length}
+use Rattle.std.specs.Prelude.{Option, Some, None}
+use Rattle.std.specs.Option.{is_some}
 use Rattle.nets.specs.Bits.{Bits}
-use Rattle.nets.specs.Lists.{Place, start, past}
-use Rattle.nets.specs.Networks.{is_family, net_bits}
+use Rattle.nets.specs.Lists.{Place, past}
+use Rattle.nets.specs.Networks.{net_bits}
 use Rattle.nets.specs.declared.Net.{Net}
 use Rattle.nodes.specs.Words.{put}
-use Rattle.nodes.proofs.Put.{length-put}
-use Rattle.setfile_format.specs.Files.{file_bytes, most_entries, entry_at, entry_of, entry_net, is_clean, are_clean, networks_in}
+use Rattle.setfile_format.specs.Files.{file_bytes, entry_at, entry_of, entry_net, is_clean, are_clean, networks_in}
 use Rattle.setfile_format.proofs.Bytes.{Bytes}
 use Rattle.setfile_format.proofs.Written.{file_bytes-mono}
 use Rattle.setfile_format.proofs.FileOrder.{network_at, are_clean-at, networks_in-append}
-use Rattle.salvage_lists.specs.Ahead.{Chain, is_past, is_beyond, is_bound, Held, Batch as IsBatch}
+use Rattle.salvage_lists.specs.Ahead.{is_past, is_beyond, is_bound, Held, Batch as IsBatch}
 use Rattle.salvage_lists.proofs.Chains.{held_none, held-skip, held-put, held-squeezed, held-batch, held_cut}
-use Rattle.salvage_batch.specs.Buffers.{Clean, Ended, place_of, Stands, Kept, Squeezes, Room, Holds, Gathers}
-use Rattle.salvage_batch.specs.declared.Edge.{Edge}
+use Rattle.salvage_batch.specs.Buffers.{Clean, place_of, Stands, Kept, Squeezes, Room, Holds, Gathers}
 use Rattle.salvage_batch.specs.declared.Hold.{Hold}
 use Rattle.salvage_batch.specs.declared.Batch.{Batch}
-use Rattle.salvage_batch.proofs.Places.{are_clean-append, are_clean-fewer, networks_in-put, are_clean-put}
-use Rattle.salvage_batch.proofs.Orders.{place-some}
-use Rattle.salvage_batch.proofs.Thinnings.{clean-entry, kept_same, kept_trans, kept_more, kept_put}
+use Rattle.salvage_batch.proofs.Places.{are_clean-fewer, networks_in-put, are_clean-put}
+use Rattle.salvage_batch.proofs.Thinnings.{clean-entry, kept_trans, kept_more, kept_put}
 
 -- The networks up to a member, that member, and those behind it.
 pub networks_in-split : (f : ℕ) (d : List ℕ) (k : ℕ) → 1 ≤ k → networks_in f d 0 k ≡ networks_in f d 0 (k - 1) ++ (network_at f d (k - 1) ∷ [])
@@ -41,15 +40,15 @@ networks_in-parts f d j k h = let p : j + (k - j) ≡ k = omega arith in rw (p, 
 room-kept : {f n : ℕ} {v u : List ℕ} → Kept f n v u → Room f v n → Room f u n
 room-kept k r = record { family = r.family; two = r.two; few = r.few; fits = rw k.long r.fits }
 
-pub room-none : {f n : ℕ} {v : List ℕ} (a : Place) (h : Hold) → Room f v n → h.count ≡ 0 → h.edge.set ≡ false → Holds f v n [] a h
+pub room-none : {f n : ℕ} {v : List ℕ} (a : Place) (h : Hold) → Room f v n → h.count ≡ 0 → h.edge ≡ None → Holds f v n [] a h
 unfolding are_clean networks_in
 room-none {f} {n} {v} a h r c e =
     record {
       room = r;
       most = omega (arith, c);
       clean = rw c;
-      edge = λ s. let z : ◌≡◌ {A = Bool} true false = sym s ∙ e in let y : ◌≡◌ {A = ℕ} 0 1 = cc in absurd (omega arith);
-      some = λ s. let z : ◌≡◌ {A = Bool} true false = sym s ∙ e in let y : ◌≡◌ {A = ℕ} 0 1 = cc in absurd (omega arith);
+      edge = rw e tt;
+      some = λ s. absurd (false≢true (rw e at s));
       held = rw (c, e) held_none;
     }
 
@@ -82,7 +81,7 @@ module _ {f n : ℕ} {v : List ℕ} {S : List Bits} {a : Place} {h : Hold} (o : 
           held = rw (c, e) squeezed-held;
         }
 
-    pub squeezed-batch : (r : Batch) → r.count ≡ m → r.more ≡ h.edge.set → Gathers f S a n v r u
+    pub squeezed-batch : (r : Batch) → r.count ≡ m → r.more ≡ is_some h.edge → Gathers f S a n v r u
     squeezed-batch r c e =
         record {
           kept = squeezed-kept;
@@ -92,12 +91,9 @@ module _ {f n : ℕ} {v : List ℕ} {S : List Bits} {a : Place} {h : Hold} (o : 
           batch = rw (c, e) (bound h.edge (held-batch squeezed-held s.networks.chain));
         }
       where
-        bound-is : (x : Bool) (p : Bits) → is_bound (cond x (past p) start) ≡ x
-        bound-is true p = refl
-        bound-is false p = refl
-
-        bound : (e : Edge) → IsBatch S a (networks_in f u 0 m) (is_bound (place_of e)) → IsBatch S a (networks_in f u 0 m) e.set
-        bound e b = rw (bound-is e.set (net_bits e.net)) at b
+        bound : (e : Option Net) → IsBatch S a (networks_in f u 0 m) (is_bound (place_of e)) → IsBatch S a (networks_in f u 0 m) (is_some e)
+        bound (Some x) b = b
+        bound None b = b
 
     -- cut behind k of them
     module _ (bytes : Bytes u) {k : ℕ} (some : 1 ≤ k) (less : k ≤ m) where
@@ -110,19 +106,19 @@ module _ {f n : ℕ} {v : List ℕ} {S : List Bits} {a : Place} {h : Hold} (o : 
       cut-clean : is_clean (entry_net f u (k - 1)) ≡ true
       cut-clean = are_clean-at f u 0 m (k - 1) s.clean (omega arith) (omega arith)
 
-      pub holds-cut : (g : Hold) → g.count ≡ k → g.edge.set ≡ true → g.edge.net ≡ entry_net f u (k - 1) → Holds f u n S a g
-      holds-cut g c e b =
+      pub holds-cut : (g : Hold) (x : Net) → g.count ≡ k → g.edge ≡ Some x → x ≡ entry_net f u (k - 1) → Holds f u n S a g
+      holds-cut g z c e b =
           let l = networks_in f u 0 (k - 1) in
           let p = network_at f u (k - 1) in
           let rest = networks_in f u k (m - k) in
           let x : networks_in f u 0 k ≡ l ++ (p ∷ []) = networks_in-split f u k some in
           let y : networks_in f u 0 m ≡ (l ++ (p ∷ [])) ++ rest = networks_in-parts f u k m less ∙ ap (λ z. z ++ rest) x in
-          let q : place_of g.edge ≡ past p = place-some g.edge e ∙ ap (λ z. past (net_bits z)) b in
+          let q : place_of g.edge ≡ past p = ap place_of e ∙ ap (λ z. past (net_bits z)) b in
           record {
             room = room-kept squeezed-kept o.room;
             most = omega (arith, c, less, s.fewer, o.most);
             clean = rw c (are_clean-fewer f u k m less s.clean);
-            edge = λ _. rw b (clean-entry f u bytes (k - 1) o.room.family cut-clean);
+            edge = rw (e, b) (clean-entry f u bytes (k - 1) o.room.family cut-clean);
             some = λ _. omega arith;
             held = rw (c, x, q) (held_cut l p rest (rw y at squeezed-held) (rw y at s.networks.chain));
           }

@@ -1,22 +1,16 @@
 -- An entry taken in: its length is out of range, or it is one more network of those in range, with the bits past its length cleared. Assumes nothing.
-use mathlib.Core.Bool.{Bool, true, false, cond, ◌&&◌, ◌||◌}
+use mathlib.Core.Bool.{Bool, true, false, ◌||◌}
 use mathlib.Core.List.{List, [], ◌∷◌, ◌++◌, append-nil}
-use mathlib.Core.Path.{◌≡◌, refl, ap, sym, ◌∙◌}
+use mathlib.Core.Path.{◌≡◌, ap, sym, ◌∙◌}
 use Prim.Native.Nat.{ℕ, ◌+◌, ◌^◌, ◌≤◌, ◌<◌}
 use native.Mathlib.Nat.{zero-add}
 use native.Mathlib.Decide.{dec_le}
 use native.Mathlib.Omega.{arith}
-use lib.Dec.{eqb}
-use lib.ListN.{length}
 use borrow.Author.Tests.{le-ltb, lt-ltb}
-use Rattle.nets.specs.Bits.{Bits}
-use Rattle.nets.specs.Lists.{Place}
 use Rattle.nets.specs.Refusals.{number}
 use Rattle.nets.specs.Networks.{is_family, width, address, net_bits, net_from, refusal_of, cleared, has_bit_past, no_entry, entered_as, entered}
 use Rattle.nets.specs.declared.Net.{Net}
 use Rattle.nets.specs.declared.Refusal.{Refusal}
-use Rattle.nets.specs.declared.Entered.{Entered}
-use Rattle.nets.specs.declared.Entered.TheVariants as entering
 use Rattle.nets.proofs.Answers.{number-some, answered-granted}
 use Rattle.nets.proofs.Numbers.{refusal_of-is, is-refusal_of, net_bits-cleared}
 use Rattle.setfile_format.specs.Files.{entry_net}
@@ -25,6 +19,7 @@ use Rattle.salvage_lists.specs.Salvaging.{is_long, in_range_in}
 use Rattle.salvage_lists.proofs.Counts.{in_range_in-append}
 use Rattle.salvage_batch.specs.Buffers.{Clean}
 use Rattle.salvage_batch.proofs.Orders.{clean-net_from}
+use Rattle.std.specs.Prelude.{Result, Ok, Err}
 
 module _ (f : ℕ) (d : List ℕ) (i : ℕ) (family : is_family f ≡ true) {n : Net} (e : n ≡ entry_net f d i) (range : address n < 2 ^ width f) where
   entry-family : n.family ≡ f
@@ -56,13 +51,13 @@ module _ (f : ℕ) (d : List ℕ) (i : ℕ) (family : is_family f ≡ true) {n :
   unfolding in_range_in
   in_range-short h = in_range_in-append f d 0 i 1 ∙ rw (zero-add i, h)
 
-  module _ {r : Entered} (a : entered_as r ≡ entered n) where
-    pub taken-long : (x : Refusal) → r ≡ entering.Refused x → in_range_in f d 0 (i + 1) ≡ in_range_in f d 0 i
+  module _ {r : (Result (Net × Bool) Refusal)} (a : entered_as r ≡ entered n) where
+    pub taken-long : (x : Refusal) → r ≡ Err x → in_range_in f d 0 (i + 1) ≡ in_range_in f d 0 i
     taken-long x q =
         let p : number x ≡ refusal_of n = ap (λ y. y.0) (sym (ap entered_as q) ∙ a) in
         in_range-long (entry-long (λ z. number-some x (p ∙ z)))
 
-    module _ (x : Net) (b : Bool) (q : r ≡ entering.Network x b) where
+    module _ (x : Net) (b : Bool) (q : r ≡ Ok (x, b)) where
       granted : (refusal_of n ≡ 0) × (◌≡◌ {A = Net × Bool} (x, b) (cleared n, has_bit_past n))
       granted = answered-granted (refusal_of n) no_entry (cleared n, has_bit_past n) (x, b) (sym (ap entered_as q) ∙ a)
 

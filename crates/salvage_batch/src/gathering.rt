@@ -8,8 +8,8 @@ ghost use Rattle.salvage_batch.specs.Buffers.{Clean, Ended, Room, Holds, Kept, G
 
 use crate::holding::hold;
 use crate::squeezing::squeeze;
-use crate::{Batch, Edge, Hold, order};
-use nets::Entered;
+use crate::{Batch, Hold, order};
+use nets::Net;
 use setfile_entries::reading;
 
 // Takes entry i in, where its length is in range and it begins behind the place.
@@ -17,7 +17,7 @@ fn take(
     bytes: &[u8],
     family: u8,
     i: usize,
-    after: Edge,
+    after: Option<Net>,
     buf: &mut [u8],
     most: usize,
     h: Hold,
@@ -29,8 +29,8 @@ fn take(
 {
     let taken = reading::entry(bytes, family, i).to_network();
     match taken {
-        Entered::Refused(_) => h,
-        Entered::Network(x, _) => {
+        Err(_) => h,
+        Ok((x, _)) => {
             if !order::is_past(after, x) {
                 return h;
             }
@@ -40,19 +40,25 @@ fn take(
 }
 
 // What is left of the first n entries behind a place, as many as there is room for, from entry 0 of the buffer on in address order.
-pub fn gather(bytes: &[u8], family: u8, n: usize, after: Edge, buf: &mut [u8], most: usize) -> Batch
+pub fn gather(
+    bytes: &[u8],
+    family: u8,
+    n: usize,
+    after: Option<Net>,
+    buf: &mut [u8],
+    most: usize,
+) -> Batch
     requires { (n ≤ most_entries) × (file_bytes family n ≤ length bytes.now) × Ended family after × Room family buf.old most }
     ensures { Gathers family (in_range_in family bytes.now 0 n) (place_of after) most buf.old result buf.new }
 {
-    let edge = order::no_edge();
-    let mut h = Hold { count: 0, edge };
-    let mut i = 0;
-    while i < n {
+    let mut h = Hold {
+        count: 0,
+        edge: None,
+    };
+    for i in 0..n {
         h = take(bytes, family, i, after, buf, most, h);
-        i += 1;
     }
-    let bound = h.edge;
-    let more = bound.set;
+    let more = h.edge.is_some();
     let count = squeeze(buf, family, h.count);
     Batch { count, more }
 }

@@ -6,7 +6,7 @@ ghost use Rattle.nets.specs.Networks.{net_bits};
 ghost use Rattle.salvage_lists.specs.Ahead.{is_past};
 ghost use Rattle.salvage_batch.specs.Buffers.{Clean, Holds, Kept};
 
-use crate::{Edge, Hold, order, squeezing};
+use crate::{Hold, order, squeezing};
 use nets::Net;
 use setfile_entries::reading;
 
@@ -23,12 +23,13 @@ fn make_room(buf: &mut [u8], family: u8, most: usize, h: Hold) -> Hold
     let n = squeezing::squeeze(buf, family, h.count);
     let half = most / 2;
     if n <= half {
-        let edge = h.edge;
-        return Hold { count: n, edge };
+        return Hold { count: n, ..h };
     }
     let net = reading::entry(buf, family, half - 1);
-    let edge = Edge { set: true, net };
-    Hold { count: half, edge }
+    Hold {
+        count: half,
+        edge: Some(net),
+    }
 }
 
 // Holds one more, unless it begins behind the bound.
@@ -40,11 +41,10 @@ pub fn hold(buf: &mut [u8], family: u8, most: usize, h: Hold, x: Net) -> Hold
         → Holds family buf.new most (S ++ (net_bits x ∷ [])) a result }
 {
     let g = make_room(buf, family, most, h);
-    let edge = g.edge;
-    if order::is_beyond(edge, x) {
+    if order::is_beyond(g.edge, x) {
         return g;
     }
     let k = g.count;
     squeezing::put_entry(buf, family, k, x);
-    Hold { count: k + 1, edge }
+    Hold { count: k + 1, ..g }
 }

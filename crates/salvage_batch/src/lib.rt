@@ -6,18 +6,11 @@ mod holding;
 pub mod order;
 pub mod squeezing;
 
-// The end of a network, behind which others are looked for, or no bound.
-#[derive(Clone, Copy)]
-pub struct Edge {
-    pub set: bool,
-    pub net: Net,
-}
-
-// How many entries are held, and the end behind which none is.
+// How many entries are held, and the network behind whose end none is, where there is such a bound.
 #[derive(Clone, Copy)]
 pub struct Hold {
     pub count: usize,
-    pub edge: Edge,
+    pub edge: Option<Net>,
 }
 
 // How many networks a batch has, and whether there may be more behind it.

@@ -1,42 +1,20 @@
 // Networks in the order of addresses: which comes first, which lies inside, which ends before the other begins.
-ghost use Rattle.std.specs.Prelude.{false, ◌≡◌, ℕ};
+ghost use Rattle.std.specs.Prelude.{◌≡◌, ℕ};
 ghost use Rattle.nets.specs.Bits.{leads};
 ghost use Rattle.nets.specs.Networks.{net_bits};
 ghost use Rattle.address_order.specs.Streams.{earlier};
 ghost use Rattle.salvage_lists.specs.Ahead.{ahead, is_past, is_beyond};
 ghost use Rattle.salvage_batch.specs.Buffers.{Clean, Ended, place_of};
 
-use crate::Edge;
 use address_order::sharing::shared;
 use nets::Net;
-
-// No bound.
-pub fn no_edge() -> Edge
-    ensures { result.set ≡ false }
-{
-    Edge {
-        set: false,
-        net: Net {
-            family: 0,
-            hi: 0,
-            lo: 0,
-            len: 0,
-        },
-    }
-}
 
 // The smaller address first, then the shorter length.
 fn is_earlier(x: Net, y: Net) -> bool
     requires { (f : ℕ) × Clean f x × Clean f y }
     ensures { result ≡ earlier (net_bits x) (net_bits y) }
 {
-    if x.hi != y.hi {
-        return x.hi < y.hi;
-    }
-    if x.lo != y.lo {
-        return x.lo < y.lo;
-    }
-    x.len < y.len
+    (x.hi, x.lo, x.len) < (y.hi, y.lo, y.len)
 }
 
 // y lies inside x, or is x.
@@ -58,24 +36,24 @@ fn is_ahead(x: Net, y: Net) -> bool
     !is_in(x, y)
 }
 
-// x begins behind the edge, or there is none.
-pub fn is_past(e: Edge, x: Net) -> bool
+// x begins behind the edge, the end of a network, or there is none.
+pub fn is_past(e: Option<Net>, x: Net) -> bool
     requires { (f : ℕ) × Clean f x × Ended f e }
     ensures { result ≡ is_past (place_of e) (net_bits x) }
 {
-    if !e.set {
-        return true;
+    match e {
+        None => true,
+        Some(net) => is_ahead(net, x),
     }
-    is_ahead(e.net, x)
 }
 
 // There is an edge, and x begins behind it.
-pub fn is_beyond(e: Edge, x: Net) -> bool
+pub fn is_beyond(e: Option<Net>, x: Net) -> bool
     requires { (f : ℕ) × Clean f x × Ended f e }
     ensures { result ≡ is_beyond (place_of e) (net_bits x) }
 {
-    if !e.set {
-        return false;
+    match e {
+        None => false,
+        Some(net) => is_ahead(net, x),
     }
-    is_ahead(e.net, x)
 }

@@ -55,10 +55,8 @@ fn thin(buf: &mut [u8], family: u8, n: usize) -> usize
         count: 1,
         last: reading::entry(buf, family, 0),
     };
-    let mut i = 1;
-    while i < n {
+    for i in 1..n {
         t = thin_one(buf, family, i, t);
-        i += 1;
     }
     t.count
 }

@@ -10,10 +10,10 @@ use Rattle.nets.proofs.Answers.{answered-granted}
 use Rattle.nets.proofs.Refused.{first_no-zero}
 use Rattle.salvage.specs.Calls.{saved_of, salvage_rules, counts_of, no_counts, salvaged_as, salvage_rule, Salvages}
 use Rattle.salvage.specs.declared.Counts.{Counts}
-use Rattle.salvage.specs.declared.Salvaged.{Salvaged}
-use Rattle.salvage.specs.declared.Salvaged.TheVariants as salvaged
+use Rattle.std.specs.Prelude.{Result, Ok}
+use Rattle.nets.specs.declared.Refusal.{Refusal}
 
-pub saved-fits : {d v u : List ℕ} {c : Counts} {r : Salvaged} → Salvages d v r u → r ≡ salvaged.File c → c.bytes ≤ length v
+pub saved-fits : {d v u : List ℕ} {c : Counts} {r : (Result Counts Refusal)} → Salvages d v r u → r ≡ Ok c → c.bytes ≤ length v
 unfolding salvage_rule salvage_rules counts_of
 saved-fits {d} {v} {u} {c} {r} s e =
     let g = answered-granted (first_no (salvage_rules d (length v))) no_counts (counts_of d) c (sym (ap salvaged_as e) ∙ s.answer) in

@@ -5,7 +5,7 @@
 // IPv4 entries.
 #![tactic(auto)]
 
-use salvage::{Counts, Salvaged, salvage};
+use salvage::{Counts, salvage};
 use tool_files::PATH;
 
 mod telling;
@@ -25,10 +25,8 @@ fn write(rt: &HostRuntime, path: &[u8], file: &[u8], c: Counts) {
 fn save(rt: &HostRuntime, wreck: &[u8], out: &mut [u8], path: &[u8]) {
     let a = salvage(wreck, out);
     match a {
-        Salvaged::Refused(no) => {
-            tool_files::say_refused(rt, b"salvage", no.number());
-        }
-        Salvaged::File(c) => {
+        Err(refusal) => tool_files::say_refused(rt, b"salvage", refusal),
+        Ok(c) => {
             let n = c.bytes as usize;
             write(rt, path, &out[..n], c);
         }
@@ -46,9 +44,8 @@ fn save_file(rt: &HostRuntime, wreck: &[u8], out: &mut [u8]) {
 
 // The whole work, in the bytes of two files.
 fn run(rt: &HostRuntime, wreck: &mut [u8], out: &mut [u8]) {
-    let a = tool_files::read_source(rt, b"salvage", 1, b"WRECK", wreck);
-    if a.whole {
-        save_file(rt, &wreck[..a.bytes], out);
+    if let Some(n) = tool_files::read_source(rt, b"salvage", 1, b"WRECK", wreck) {
+        save_file(rt, &wreck[..n], out);
     }
 }
 

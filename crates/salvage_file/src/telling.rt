@@ -4,13 +4,14 @@ use std::io;
 
 // Fails where they were not written.
 fn says_counts(out: &impl Print, c: Counts) -> io::Result<()> {
-    let read = c.read;
-    let trimmed = c.trimmed;
-    let long = c.long;
-    let covered = c.covered;
-    let bytes = c.bytes;
-    print!(out; "{read} entries read, {trimmed} trimmed, {long} dropped for their length, ")?;
-    println!(out; "{covered} dropped as covered, {bytes} bytes written")
+    print!(out;
+        "{} entries read, {} trimmed, {} dropped for their length, ",
+        c.read, c.trimmed, c.long
+    )?;
+    println!(out;
+        "{} dropped as covered, {} bytes written",
+        c.covered, c.bytes
+    )
 }
 
 pub fn tell(rt: &HostRuntime, c: Counts) {

@@ -1,37 +1,30 @@
 -- Batches put one behind the other: counted, and written. Assumes nothing.
 use mathlib.Core.Bool.{Bool, true, false, cond, true≢false}
-use mathlib.Core.List.{List, [], ◌∷◌, ◌++◌}
+use mathlib.Core.List.{List, [], ◌++◌}
 use mathlib.Core.Path.{◌≡◌, refl, ap, sym, ◌∙◌}
 use Prim.Native.Nat.{ℕ, zero, suc, ◌+◌, ◌-◌, ◌*◌, ◌≤◌, ◌<◌}
-use native.Mathlib.Nat.{zero-add, add-zero, mul-add, mul-le-mul}
-use native.Mathlib.Numerals.{add-one}
-use native.Mathlib.Decide.{dec_le, dec_lt}
 use native.Mathlib.Omega.{arith}
 use lib.Dec.{eqb}
 use borrow.Author.Tests.{eqb-true, eqb-false}
-use lib.ListN.{length, get_or, take, drop, length-append, length-drop}
-use lib.Seq.{get_or-drop}
+use lib.ListN.{length, length-append}
+use Rattle.std.specs.Prelude.{Some, None}
 use Rattle.nets.specs.Bits.{Bits}
-use Rattle.nets.specs.Lists.{Place, start, past, member}
-use Rattle.nets.specs.Networks.{is_family, width, net_bits}
+use Rattle.nets.specs.Lists.{Place, start, past}
+use Rattle.nets.specs.Networks.{is_family, net_bits}
 use Rattle.nets.specs.declared.Net.{Net}
-use Rattle.nodes.specs.Words.{put}
-use Rattle.setfile_format.specs.Files.{header_bytes, entry_bytes, file_bytes, most_entries, entry_at, entry_of, entry_net, is_clean, are_clean, networks_in}
+use Rattle.setfile_format.specs.Files.{header_bytes, entry_bytes, file_bytes, most_entries, entry_net, is_clean, networks_in}
 use Rattle.setfile_format.proofs.Bytes.{Bytes}
 use Rattle.setfile_format.proofs.Written.{entry_bytes-4, entry_bytes-6, file_bytes-mono}
 use Rattle.setfile_format.proofs.RoundTrip.{length-networks_in}
-use Rattle.setfile_format.proofs.FileOrder.{network_at, are_clean-at, networks_in-append}
-use Rattle.salvage_lists.specs.Ahead.{is_past, Part, Whole, Batch as IsBatch}
-use Rattle.salvage_lists.proofs.Chains.{chain-rise, rise-fewer, part-start, part_end, part_step, part_none}
-use Rattle.salvage_lists.proofs.Left.{whole-few, part_length, part-whole, whole-one}
-use Rattle.salvage_batch.specs.Buffers.{Clean, Ended, place_of, Stands, Kept, Room, Gathers}
-use Rattle.salvage_batch.specs.declared.Edge.{Edge}
+use Rattle.setfile_format.proofs.FileOrder.{network_at, are_clean-at}
+use Rattle.salvage_lists.specs.Ahead.{Part, Batch as IsBatch}
+use Rattle.salvage_lists.proofs.Chains.{chain-rise, rise-fewer, part-start, part_end, part_step}
+use Rattle.salvage_lists.proofs.Left.{whole-few}
+use Rattle.salvage_batch.specs.Buffers.{Ended, place_of, Stands, Room, Gathers}
 use Rattle.salvage_batch.specs.declared.Batch.{Batch}
-use Rattle.salvage_batch.proofs.Places.{entry_net-cong, networks_in-cong, are_clean-cong, are_clean-append, entry-ends, networks_in-put, are_clean-put, put-there}
-use Rattle.salvage_batch.proofs.Orders.{place_none, place-some}
-use Rattle.salvage_batch.proofs.Thinnings.{clean-entry, kept_same, kept_trans, kept_more, kept-written}
+use Rattle.salvage_batch.proofs.Thinnings.{clean-entry}
 use Rattle.salvage_batch.proofs.Holdings.{networks_in-split}
-use Rattle.salvage_passes.specs.Parts.{place_at, Sofar, Onward, Counted, Filling}
+use Rattle.salvage_passes.specs.Parts.{place_at, Sofar, Onward}
 use Rattle.salvage_passes.specs.declared.counting.Tail.{Tail}
 
 -- The place behind the last of n entries.
@@ -48,16 +41,16 @@ stands_at : {f n : ℕ} {v : List ℕ} → Stands f v n → (i : ℕ) → i < n 
 stands_at {f} {n} {v} s i h = are_clean-at f v 0 n i s.clean (omega arith) (omega arith)
 
 module _ {f n : ℕ} {v : List ℕ} (s : Stands f v n) where
-  pub last_none : n ≡ 0 → (r : Edge) → r.set ≡ false → Ended f r × (place_of r ≡ place_at f v n)
-  last_none e r h = ((λ t. absurd (true≢false (sym t ∙ h))), place_none r h ∙ sym (place_at-none f v n e))
+  pub last_none : n ≡ 0 → Ended f None × (place_of None ≡ place_at f v n)
+  last_none e = (tt, sym (place_at-none f v n e))
 
   pub last_fits : (n ≡ 0 → ⊥) → (n - 1 ≤ 4194304) × (file_bytes f (n - 1 + 1) ≤ length v)
   last_fits h = (omega (arith, s.few), omega (arith, s.fits, file_bytes-mono f {i = n - 1 + 1} {n = n} (omega arith)))
 
-  pub last_some : Bytes v → (n ≡ 0 → ⊥) → (r : Edge) → r.set ≡ true → r.net ≡ entry_net f v (n - 1) → Ended f r × (place_of r ≡ place_at f v n)
-  last_some bytes h r t e = (
-    λ _. rw e (clean-entry f v bytes (n - 1) s.family (stands_at s (n - 1) (omega arith))),
-    place-some r t ∙ ap (λ z. past (net_bits z)) e ∙ sym (place_at-some f v n (omega arith)),
+  pub last_some : Bytes v → (n ≡ 0 → ⊥) → (x : Net) → x ≡ entry_net f v (n - 1) → Ended f (Some x) × (place_of (Some x) ≡ place_at f v n)
+  last_some bytes h x e = (
+    rw e (clean-entry f v bytes (n - 1) s.family (stands_at s (n - 1) (omega arith))),
+    ap (λ z. past (net_bits z)) e ∙ sym (place_at-some f v n (omega arith)),
   )
 
 -- A batch behind a part.
@@ -77,14 +70,14 @@ sofar-few {S = S} {t = t} o = go t.more refl
     go true e = omega (arith, o.long, part-few (o.part e))
     go false e = omega (arith, o.long, whole-few (o.whole e))
 
-pub sofar-start : (f : ℕ) (S : List Bits) (t : Tail) → is_family f ≡ true → t.count ≡ 0 → t.after.set ≡ false → t.more ≡ true → Sofar f S t
+pub sofar-start : (f : ℕ) (S : List Bits) (t : Tail) → is_family f ≡ true → t.count ≡ 0 → t.after ≡ None → t.more ≡ true → Sofar f S t
 sofar-start f S t e c a m =
     record {
       family = e;
-      ended = λ h. absurd (true≢false (sym h ∙ a));
+      ended = rw a tt;
       list = [];
       long = sym c;
-      part = λ _. rw (place_none t.after a) part-start;
+      part = λ _. rw a part-start;
       whole = λ h. absurd (true≢false (sym m ∙ h));
     }
 

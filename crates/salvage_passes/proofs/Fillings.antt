@@ -1,9 +1,9 @@
 -- What is left, written batch by batch: a batch stands behind the entries that are there, in a part of the bytes. Assumes nothing.
-use mathlib.Core.Bool.{Bool, true, false, true≢false}
+use mathlib.Core.Bool.{Bool, true, false}
 use mathlib.Core.List.{List, [], ◌∷◌, ◌++◌, append-nil}
 use mathlib.Core.Path.{◌≡◌, refl, ap, sym, ◌∙◌}
-use Prim.Native.Nat.{ℕ, zero, suc, ◌+◌, ◌-◌, ◌*◌, ◌^◌, ◌≤◌, ◌<◌}
-use native.Mathlib.Nat.{zero-add, add-zero, mul-add, mul-suc}
+use Prim.Native.Nat.{ℕ, suc, ◌+◌, ◌-◌, ◌*◌, ◌^◌, ◌≤◌, ◌<◌}
+use native.Mathlib.Nat.{zero-add, mul-add}
 use native.Mathlib.Numerals.{add-one}
 use native.Mathlib.Decide.{dec_lt}
 use native.Mathlib.Omega.{arith}
@@ -11,26 +11,24 @@ use lib.ListN.{length, get_or, take, drop, length-append, length-drop, drop_of_l
 use lib.Pow.{split}
 use lib.Seq.{get_or-drop, get_or-take, get_or-append-add, length-take-le, take_all}
 use Rattle.nets.specs.Bits.{Bits}
-use Rattle.nets.specs.Lists.{Place, start, past}
+use Rattle.nets.specs.Lists.{Place}
 use Rattle.nets.specs.Networks.{is_family, width, address, net_bits, net_from, big_endian}
 use Rattle.nets.specs.declared.Net.{Net}
 use Rattle.nets.proofs.Numbers.{net_bits-net_from}
 use Rattle.nodes.specs.Words.{put}
 use Rattle.nodes.proofs.Put.{length-put}
 use Rattle.setfile_format.specs.Files.{header_bytes, address_bytes, entry_bytes, file_bytes, most_entries, entry_at, entry_of, entry_net, is_clean, are_clean, networks_in}
-use Rattle.setfile_format.proofs.Bytes.{Bytes}
 use Rattle.setfile_format.proofs.Written.{file_bytes-mono, file_bytes-few}
 use Rattle.setfile_format.proofs.RoundTrip.{length-networks_in, clean-number, clean-length}
 use Rattle.setfile_format.proofs.FileOrder.{network_at, network_at-within, are_clean-at, networks_in-append}
-use Rattle.salvage_lists.specs.Ahead.{is_past, Part, Whole, Batch as IsBatch}
+use Rattle.salvage_lists.specs.Ahead.{Part, Whole}
 use Rattle.salvage_lists.proofs.Chains.{part-start, part_none}
 use Rattle.salvage_lists.proofs.Left.{part_length, part-whole, whole-one}
-use Rattle.salvage_batch.specs.Buffers.{Clean, Ended, place_of, Stands, Kept, Room, Gathers}
-use Rattle.salvage_batch.specs.declared.Edge.{Edge}
+use Rattle.salvage_batch.specs.Buffers.{Clean, Stands, Kept, Room, Gathers}
 use Rattle.salvage_batch.specs.declared.Batch.{Batch}
 use Rattle.salvage_batch.proofs.Places.{entry_net-cong, networks_in-cong, are_clean-cong, are_clean-append, entry-ends, networks_in-put, are_clean-put, put-here}
 use Rattle.salvage_batch.proofs.Orders.{clean-net_from}
-use Rattle.salvage_batch.proofs.Thinnings.{clean-entry, kept_same, kept_trans, kept-written}
+use Rattle.salvage_batch.proofs.Thinnings.{kept_trans, kept-written}
 use Rattle.salvage_passes.specs.Parts.{place_at, Filling}
 use Rattle.salvage_passes.proofs.Batches.{place_at-some, part-batch}
 
@@ -42,6 +40,10 @@ entry-is f d i c low =
 
 entry-clean : (f : ℕ) (d : List ℕ) (i : ℕ) → is_family f ≡ true → is_clean (entry_net f d i) ≡ true → address (entry_net f d i) < 2 ^ width f → Clean f (entry_net f d i)
 entry-clean f d i e c low = rw (← entry-is f d i c low) (clean-net_from f (network_at f d i) e (network_at-within f d i))
+
+-- where the room behind the entries that are done begins
+pub at-place : (f done : ℕ) {s : ℕ} → s ≡ entry_bytes f → s * done ≡ entry_bytes f * done
+at-place f done e = ap (λ k. k * done) e
 
 module _ {f : ℕ} {S T : List Bits} {m : ℕ} {v u : List ℕ} {done : ℕ} (o : Filling f S T m v u done) where
   pub filling-stands : Stands f u done

@@ -6,9 +6,8 @@ ghost use Rattle.salvage_lists.specs.Salvaging.{in_range_in};
 ghost use Rattle.salvage_batch.specs.Buffers.{Stands, Kept, Room, Ended, place_of};
 ghost use Rattle.salvage_passes.specs.Parts.{place_at, Sofar, Onward, Counted};
 
-use salvage_batch::Edge;
+use nets::Net;
 use salvage_batch::gathering::gather;
-use salvage_batch::order::no_edge;
 use setfile_entries::reading;
 
 // Entries of a local buffer, and its bytes, at 17 an entry.
@@ -16,24 +15,23 @@ pub const ROOM: usize = 4096;
 
 pub const BYTES: usize = 69648;
 
-// How many networks are counted, the end of the last, and whether there may be more behind it.
+// How many networks are counted, the last of them, and whether there may be more behind it.
 #[derive(Clone, Copy)]
 struct Tail {
     count: usize,
-    after: Edge,
+    after: Option<Net>,
     more: bool,
 }
 
-// The end of the last of n entries.
-pub fn last(buf: &[u8], family: u8, n: usize) -> Edge
+// The last of n entries, if there is one.
+pub fn last(buf: &[u8], family: u8, n: usize) -> Option<Net>
     requires { Stands family buf.now n }
     ensures { Ended family result × (place_of result ≡ place_at family buf.now n) }
 {
     if n == 0 {
-        return no_edge();
+        return None;
     }
-    let net = reading::entry(buf, family, n - 1);
-    Edge { set: true, net }
+    Some(reading::entry(buf, family, n - 1))
 }
 
 // One batch more, in a buffer with room for so many.
@@ -42,12 +40,10 @@ fn count_batch(bytes: &[u8], family: u8, n: usize, buf: &mut [u8], most: usize, 
     requires sofar { Sofar family (in_range_in family bytes.now 0 n) t × (t.more ≡ true) }
     ensures { Kept family most buf.old buf.new × Onward family (in_range_in family bytes.now 0 n) t result }
 {
-    let after = t.after;
-    let b = gather(bytes, family, n, after, buf, most);
-    let k = b.count;
-    let after = last(buf, family, k);
+    let b = gather(bytes, family, n, t.after, buf, most);
+    let after = last(buf, family, b.count);
     Tail {
-        count: t.count + k,
+        count: t.count + b.count,
         after,
         more: b.more,
     }
@@ -84,10 +80,9 @@ pub fn count(bytes: &[u8], family: u8, n: usize, out: &mut [u8], room: usize) ->
     ensures { Counted family (in_range_in family bytes.now 0 n) out.old room result out.new }
 {
     let mut local = [0u8; BYTES];
-    let after = no_edge();
     let mut t = Tail {
         count: 0,
-        after,
+        after: None,
         more: true,
     };
     while t.more {

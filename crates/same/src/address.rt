@@ -2,7 +2,6 @@
 use nets::{IPV4, Net};
 use std::io;
 use std::io::ErrorKind;
-use text::Written;
 
 // More bytes than any line has.
 const LINE: usize = 64;
@@ -34,7 +33,7 @@ pub fn print(out: &impl Print, net: Net) -> io::Result<()> {
     let mut line = [0u8; LINE];
     let written = text_either::write_line(net, &mut line);
     match written {
-        Written::Bytes(n, _) => print_first(out, &line, n as usize, behind(net.family)),
-        Written::Refused(_) => Err(no_address()),
+        Ok((n, _)) => print_first(out, &line, n as usize, behind(net.family)),
+        Err(_) => Err(no_address()),
     }
 }

@@ -15,15 +15,13 @@ const ROOM: usize = 2000016;
 
 // Both files, in bytes that are lent.
 fn run(rt: &HostRuntime, first: &mut [u8], second: &mut [u8]) {
-    let a = tool_files::read_source(rt, b"same", 1, b"FIRST", first);
-    if !a.whole {
+    let Some(a) = tool_files::read_source(rt, b"same", 1, b"FIRST", first) else {
         return;
-    }
-    let b = tool_files::read_source(rt, b"same", 2, b"SECOND", second);
-    if !b.whole {
+    };
+    let Some(b) = tool_files::read_source(rt, b"same", 2, b"SECOND", second) else {
         return;
-    }
-    telling::tell(rt, compare(&first[..a.bytes], &second[..b.bytes]));
+    };
+    telling::tell(rt, compare(&first[..a], &second[..b]));
 }
 
 fn main(rt: HostRuntime) {

@@ -1,6 +1,6 @@
 // The answer in words.
 use crate::address::print;
-use nets::Net;
+use nets::{Net, Refusal};
 use setfile_compare::{Compared, Holder};
 use std::io;
 
@@ -14,23 +14,23 @@ fn differs(out: &impl Print, holder: Holder, net: Net) -> io::Result<()> {
 }
 
 // Fails where it was not written.
-fn says_answer(rt: &HostRuntime, c: Compared) -> io::Result<()> {
+fn says_answer(rt: &HostRuntime, c: Result<Compared, Refusal>) -> io::Result<()> {
     match c {
-        Compared::Differs(holder, net) => differs(rt, holder, net),
-        Compared::Longer => {
+        Ok(Compared::Differs(holder, net)) => differs(rt, holder, net),
+        Ok(Compared::Longer) => {
             rt.write_all(b"the same addresses, and the second file is not the shortest list\n")
         }
-        Compared::Shortest => {
+        Ok(Compared::Shortest) => {
             rt.write_all(b"the same addresses, and the second file is the shortest list\n")
         }
-        Compared::Refused(no) => {
-            tool_files::say_refused(rt, b"same", no.number());
+        Err(refusal) => {
+            tool_files::say_refused(rt, b"same", refusal);
             Ok(())
         }
     }
 }
 
-pub fn tell(rt: &HostRuntime, c: Compared) {
+pub fn tell(rt: &HostRuntime, c: Result<Compared, Refusal>) {
     if let Err(e) = says_answer(rt, c) {
         tool_files::say_failed(rt, b"same", b"standard output", &e);
     }

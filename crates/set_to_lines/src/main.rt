@@ -5,7 +5,6 @@
 #![tactic(auto)]
 
 use nets::{IPV4, IPV6};
-use pool_state::Answer;
 use tool_files::{BYTES, NODES, ROWS, WORDS};
 
 // The family that the header of a file says. Another number than 6 is that of IPv4, or of no file.
@@ -16,27 +15,23 @@ fn family_of(bytes: &[u8]) -> u8 {
     IPV4
 }
 
-// Lays the pool out for the file, and gives its set the list of it. The family, or 0 where it is refused.
-fn load(rt: &HostRuntime, pool: &mut [u32], bytes: &[u8]) -> u8 {
+// Lays the pool out for the file, and gives its set the list of it. The family, or None where the file is refused, and standard error says why.
+fn load(rt: &HostRuntime, pool: &mut [u32], bytes: &[u8]) -> Option<u8> {
     let family = family_of(bytes);
-    pool::layout(pool, family, 0, 1, NODES, &[NODES], &[NODES], 0);
-    let loaded = setfile::load(pool, 0, bytes);
-    match loaded {
-        Answer::Granted(_) => family,
-        Answer::Refused(no) => {
-            tool_files::say_refused(rt, b"set-to-lines", no.number());
-            0
+    let _ = pool::layout(pool, family, 0, 1, NODES, &[NODES], &[NODES], 0);
+    match setfile::load(pool, 0, bytes) {
+        Ok(_) => Some(family),
+        Err(refusal) => {
+            tool_files::say_refused(rt, b"set-to-lines", refusal);
+            None
         }
     }
 }
 
 // The same from the file that the argument names, by way of lent bytes.
-fn load_file(rt: &HostRuntime, pool: &mut [u32], bytes: &mut [u8]) -> u8 {
-    let a = tool_files::read_source(rt, b"set-to-lines", 1, b"SETFILE", bytes);
-    if !a.whole {
-        return 0;
-    }
-    load(rt, pool, &bytes[..a.bytes])
+fn load_file(rt: &HostRuntime, pool: &mut [u32], bytes: &mut [u8]) -> Option<u8> {
+    let n = tool_files::read_source(rt, b"set-to-lines", 1, b"SETFILE", bytes)?;
+    load(rt, pool, &bytes[..n])
 }
 
 // Prints the networks of the set, by way of lent rows.
@@ -48,8 +43,7 @@ fn print(rt: &HostRuntime, pool: &[u32], family: u8, rows: &mut [u64]) {
 
 // The whole work, in the words of a pool and the bytes of a file.
 fn run(rt: &HostRuntime, pool: &mut [u32], bytes: &mut [u8]) {
-    let family = load_file(rt, pool, bytes);
-    if family != 0 {
+    if let Some(family) = load_file(rt, pool, bytes) {
         let mut rows = [0u64; ROWS];
         print(rt, pool, family, &mut rows);
     }

@@ -22,7 +22,6 @@ use Rattle.pool_state.specs.Decode.{damaged, sound, decode}
 use Rattle.pool_state.specs.Rules.{answer_as, answer_on, survey_of}
 use Rattle.pool_state.specs.Changes.{set_at, list_at, with_set, change_rule, set_with, grant_rules, relist_rules, relist_set, relist_no}
 use Rattle.pool_state.specs.Steps.{Refuses}
-use Rattle.pool_state.specs.declared.Answer.{Answer}
 use Rattle.pool_state.proofs.Decoded.{decode-header}
 use Rattle.pool_state.proofs.Seen.{Seen, survey-seen}
 use Rattle.pool_state.proofs.Judged.{relist_no-known}
@@ -35,8 +34,9 @@ use Rattle.setfile_save.specs.Calls.{file_at, Saved}
 use Rattle.setfile.specs.Loading.{load_rules, file_list, Loaded}
 use Rattle.setfile_save.proofs.Outcomes.{save-reads}
 use Rattle.setfile.proofs.Loads.{load_rules-broken, load_rules-other, load_rules-occupied, load_rules-right}
+use Rattle.std.specs.Prelude.{Result}
 
-pub load-determined : {w v u : List ℕ} {k : ℕ} {r s : Answer} (d : List ℕ) → Loaded w k d (answer_as r) v → Loaded w k d (answer_as s) u → (r ≡ s) × (v ≡ u)
+pub load-determined : {w v u : List ℕ} {k : ℕ} {r s : (Result ℕ Refusal)} (d : List ℕ) → Loaded w k d (answer_as r) v → Loaded w k d (answer_as s) u → (r ≡ s) × (v ≡ u)
 load-determined d h g = changed-one h g
 
 -- The list of a file that is right for a set of the pool is one of the pool's width.
@@ -114,7 +114,7 @@ module _ {w v : List ℕ} {k : ℕ} {r : ℕ × ℕ} (d : List ℕ) (h : Loaded 
                     )
 
 -- What save wrote of a set loads as the list of that set, into any empty set that may have it.
-pub save-load : {w x u : List ℕ} {k : ℕ} {q : Answer} → Saved w k x q u → (S : State) → decode w ≡ sound S → k < length S.sets → length (file_at S k) ≤ length x
+pub save-load : {w x u : List ℕ} {k : ℕ} {q : (Result ℕ Refusal)} → Saved w k x q u → (S : State) → decode w ≡ sound S → k < length S.sets → length (file_at S k) ≤ length x
     → {z v : List ℕ} {j : ℕ} {r : ℕ × ℕ} → Loaded z j (take (length (file_at S k)) u) r v → (T : State) → decode z ≡ sound T → j < length T.sets → S.family ≡ T.family → list_at T j ≡ []
     → admits T.family (set_at T j) (list_at S k) ≡ true → held_l (set_at T j).form (list_at S k) ≤ (set_at T j).limit → held_l (set_at T j).form (list_at S k) ≤ room_of T j → (r ≡ (0, held_l (set_at T j).form (list_at S k))) × (decode v ≡ sound (with_set T j (set_with (set_at T j) (list_at S k))))
 save-load {u = u} {k = k} g S e lt le h T f lj own empty clear low fits = load-list (take (length (file_at S k)) u) h T f lj (save-reads g S e lt le) own empty clear low fits

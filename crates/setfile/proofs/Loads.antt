@@ -35,12 +35,10 @@ use Rattle.pool_state.proofs.Returns.{changed, is_empty-some, change-seat, chang
 use Rattle.setfile_format.specs.Files.{File, broken, file, read_file}
 use Rattle.setfile_format.proofs.RoundTrip.{read_file-is}
 use Rattle.setfile_order.specs.Flow.{checked_as, check_rule}
-use Rattle.setfile_order.specs.declared.Checked.{Checked}
-use Rattle.setfile_order.specs.declared.Checked.TheVariants as checked
 use Rattle.setfile_order.proofs.Answers.{checked-broken, checked-file}
 use Rattle.setfile.specs.Loading.{load_rules, file_list}
 use Rattle.setfile.specs.LoadSteps.{Ready, Asks, Admits, FileFits, moved, with_file}
-use Rattle.setfile.specs.declared.loading.Loadable.TheVariants as loadable
+use Rattle.std.specs.Prelude.{Option, Result, Ok, Err, Some, None}
 
 -- The number that a file and a set get.
 module _ (x : File) (k : ℕ) (S : State) where
@@ -63,34 +61,38 @@ module _ (x : File) (k : ℕ) (S : State) where
       load_rules-right n = rw (e, eq-eqb f S.family own, n)
 
 -- What `ask` finds.
-pub ask-refused : {w : List ℕ} {k : ℕ} (d : List ℕ) (x : Refusal) → Refuses (decode w) k (number x) → Asks w k d (loadable.Refused x)
+pub ask-refused : {w : List ℕ} {k : ℕ} (d : List ℕ) (x : Refusal) → Refuses (decode w) k (number x) → Asks w k d (Err x)
 ask-refused {w} {k} d x h = changed (change-seat (load_rules (read_file d) k) (λ S. file_list (read_file d)) w k h)
 
 module _ {w : List ℕ} {k : ℕ} {v : Survey} {s : Seat} (d : List ℕ) (h : Seats w k v s) where
-  ask-args : (x : Refusal) → ((S : State) → Seen w S k v → s.family ≡ S.family → first_no (load_rules (read_file d) k S) ≡ number x) → Asks w k d (loadable.Refused x)
+  ask-args : (x : Refusal) → ((S : State) → Seen w S k v → s.family ≡ S.family → first_no (load_rules (read_file d) k S) ≡ number x) → Asks w k d (Err x)
   ask-args x q =
       let (S, g) = seen h.surveyed in
       changed (change-args (load_rules (read_file d) k) (λ S. file_list (read_file d)) g (q S g (seats-family h ∙ (decode-header w S g.decoded).family)) (number-some x))
 
-  module _ {r : Checked} (c : checked_as r ≡ check_rule (read_file d)) where
-    pub ask-broken : r ≡ checked.Broken → Asks w k d (loadable.Refused BadFile)
+  module _ {r : (Option (ℕ × ℕ))} (c : checked_as r ≡ check_rule (read_file d)) where
+    pub ask-broken : r ≡ None → Asks w k d (Err BadFile)
     ask-broken i = ask-args BadFile (λ S g o. load_rules-broken (read_file d) k S (checked-broken (read_file d) c i))
 
-    module _ {f n : ℕ} (i : r ≡ checked.File f n) where
-      pub ask-family : (f ≡ s.family → ⊥) → Asks w k d (loadable.Refused WrongFamily)
+    module _ {f n : ℕ} (i : r ≡ Some (f, n)) where
+      pub ask-family : (f ≡ s.family → ⊥) → Asks w k d (Err WrongFamily)
       ask-family ne = let its = checked-file (read_file d) c i in ask-args WrongFamily (λ S g o. load_rules-other (read_file d) k S f its.0 its.1 (λ z. ne (z ∙ sym o)))
 
       module _ (own : f ≡ s.family) where
-        pub ask-occupied : (v.held ≡ 0 → ⊥) → Asks w k d (loadable.Refused Occupied)
+        pub ask-occupied : (v.held ≡ 0 → ⊥) → Asks w k d (Err Occupied)
         ask-occupied ne = let its = checked-file (read_file d) c i in ask-args Occupied (λ S g o. load_rules-occupied (read_file d) k S f its.0 its.1 (own ∙ o) (seen-some g ne))
 
         pub ask-reads : (g : ℕ) × (l : List Bits) × (read_file d ≡ file g l) × (n ≡ nodes_l l)
         ask-reads = let (l, reads, nodes) = checked-file (read_file d) c i in (f, l, reads, nodes)
 
-        pub ask-file : v.held ≡ 0 → {m : ℕ} → ((g : ℕ) (l : List Bits) → read_file d ≡ file g l → n ≡ nodes_l l → m ≡ held_l (form_in w) l) → Asks w k d (loadable.File v f m)
+        pub ask-file : v.held ≡ 0 → {m : ℕ} → ((g : ℕ) (l : List Bits) → read_file d ≡ file g l → n ≡ nodes_l l → m ≡ held_l (form_in w) l) → Asks w k d (Ok (v, f, m))
         ask-file z t =
             let (l, reads, nodes) = checked-file (read_file d) c i in
             record { surveyed = h.surveyed; empty = z; list = l; reads = reads; family = own ∙ seats-family h; nodes = t f l reads nodes }
+
+-- what the call goes on with
+pub asked : {w : List ℕ} {k : ℕ} {d : List ℕ} {v : Survey} {f n : ℕ} {r : Result (Survey × ℕ × ℕ) Refusal} → Asks w k d r → r ≡ Ok (v, f, n) → Ready w k d v f n
+asked h e = rw e at h
 
 -- A load that goes on, with the list of its file.
 module _ {w : List ℕ} {k : ℕ} {d : List ℕ} {v : Survey} {f n : ℕ} (c : Ready w k d v f n) where

@@ -5,7 +5,7 @@
 --   FileFits             what writing the file's list asks
 --   with_file             the words that it leaves
 --   FileGap              what it asks once the sets behind have moved
-use Rattle.std.specs.Prelude.{Bool, List, ◌≡◌, ℕ, suc, ◌+◌, ◌≤◌, length, get_or}
+use Rattle.std.specs.Prelude.{Bool, List, ◌≡◌, ℕ, suc, ◌+◌, ◌≤◌, length, get_or, Result, Ok, Err}
 use Rattle.nets.specs.Bits.{Bits}
 use Rattle.nets.specs.Refusals.{number}
 use Rattle.nodes.specs.Words.{put}
@@ -19,8 +19,7 @@ use Rattle.setfile_format.specs.Files.{file, read_file}
 use Rattle.setfile_build.specs.Building as build
 use Rattle.kept_build.specs.Building as kept
 use Rattle.setfile.specs.Loading.{Loaded}
-use Rattle.setfile.specs.declared.loading.Loadable.{Loadable}
-use Rattle.setfile.specs.declared.loading.Loadable.TheVariants as loadable
+use Rattle.nets.specs.declared.Refusal.{Refusal}
 
 pub record Ready (w : List ℕ) (k : ℕ) (d : List ℕ) (v : Survey) (f n : ℕ) : Type 0 where
   pub surveyed : Surveyed w k v
@@ -30,9 +29,9 @@ pub record Ready (w : List ℕ) (k : ℕ) (d : List ℕ) (v : Survey) (f n : ℕ
   pub family : f ≡ get_or w 1 0
   pub nodes : n ≡ held_l (form_in w) list
 
-abbrev pub Asks : List ℕ → ℕ → List ℕ → Loadable → Type 0
-Asks w k d (loadable.File v f n) = Ready w k d v f n
-Asks w k d (loadable.Refused x) = Loaded w k d (number x, 0) w
+abbrev pub Asks : List ℕ → ℕ → List ℕ → Result (Survey × ℕ × ℕ) Refusal → Type 0
+Asks w k d (Ok (v, f, n)) = Ready w k d v f n
+Asks w k d (Err x) = Loaded w k d (number x, 0) w
 
 abbrev pub Admits : List ℕ → ℕ → List ℕ → ℕ → Bool → Type 0
 Admits w k d f c = (S : State) (l : List Bits) → decode w ≡ sound S → f ≡ S.family → read_file d ≡ file f l → c ≡ admits S.family (set_at S k) l

@@ -15,17 +15,10 @@ use pool_change::judging::is_public;
 use pool_change::relinking::shift_behind;
 use pool_check::seats::seat_of;
 use pool_header::{HEAD, RECORD, stride_of};
-use pool_state::{Seated, Survey};
+use pool_state::Survey;
 use setfile_clear::entries::file_is_clear;
 use setfile_entries::reading::number;
-use setfile_order::{Checked, check};
-
-// A file that can be loaded: what a pass over the pool found for its set, the family of the file and the nodes that its list takes. Or the refusal.
-#[derive(Clone, Copy)]
-pub enum Loadable {
-    File(Survey, u8, u32),
-    Refused(Refusal),
-}
+use setfile_order::check;
 
 // The nodes that the list of a file takes in the form of a pool, where it has so many in the first: in the second there is one for each network, and one between two.
 fn nodes_in(pool: &[u32], bytes: &[u8], nodes: u32) -> u32
@@ -43,29 +36,21 @@ fn nodes_in(pool: &[u32], bytes: &[u8], nodes: u32) -> u32
 }
 
 // The pool is sound, the set is there, the file keeps its rules and is of the pool's family, and the set is empty.
-pub fn ask(pool: &[u32], set: u32, bytes: &[u8]) -> Loadable
+pub fn ask(pool: &[u32], set: u32, bytes: &[u8]) -> Result<(Survey, u8, u32), Refusal>
     ensures { Asks pool.now set bytes.now result }
 {
-    let seated = seat_of(pool, set);
-    match seated {
-        Seated::Refused(no) => Loadable::Refused(no),
-        Seated::At(found, seat) => {
-            let checked = check(bytes);
-            match checked {
-                Checked::Broken => Loadable::Refused(Refusal::BadFile),
-                Checked::File(family, nodes) => {
-                    if family != seat.family {
-                        return Loadable::Refused(Refusal::WrongFamily);
-                    }
-                    if found.held != 0 {
-                        return Loadable::Refused(Refusal::Occupied);
-                    }
-                    let n = nodes_in(pool, bytes, nodes);
-                    Loadable::File(found, family, n)
-                }
-            }
-        }
+    let (found, seat) = seat_of(pool, set)?;
+    let Some((family, nodes)) = check(bytes) else {
+        return Err(Refusal::BadFile);
+    };
+    if family != seat.family {
+        return Err(Refusal::WrongFamily);
     }
+    if found.held != 0 {
+        return Err(Refusal::Occupied);
+    }
+    let n = nodes_in(pool, bytes, nodes);
+    Ok((found, family, n))
 }
 
 // Whether the set may have the list of the file as far as its mark goes: it is not public-only, or no network of the file overlaps an inner one.
@@ -74,10 +59,7 @@ pub fn is_admitted(pool: &[u32], set: u32, v: Survey, bytes: &[u8], family: u8) 
     requires bytes_value { (l : List Bits) × (read_file bytes.now ≡ file family l) }
     ensures { Admits pool.now set bytes.now family result }
 {
-    if !is_public(pool, set, v) {
-        return true;
-    }
-    file_is_clear(bytes, family)
+    !is_public(pool, set, v) || file_is_clear(bytes, family)
 }
 
 // Writes the file's list, which takes n nodes, from node i on.

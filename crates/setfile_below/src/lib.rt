@@ -58,12 +58,10 @@ pub fn first(s: Below) -> Below
     ensures { (result.family ≡ s.family) × ((q p : Bits) (l r : Trie) (ms : List Bits) → Under s q p (node l r) ms → bare l r ≡ false
         → Under result q (snoc p false) l (below (snoc p true) r ++ ms)) }
 {
-    let head = s.head;
     Below {
-        family: s.family,
-        head,
         depth: s.depth + 1,
         some: !turns(s),
+        ..s
     }
 }
 
@@ -87,10 +85,10 @@ pub fn second(s: Below, head: Head) -> Below
         → Under result (last_of q (below (snoc p false) l)) (snoc p true) r ms) }
 {
     Below {
-        family: s.family,
         head,
         depth: s.depth + 1,
         some: more(s, head),
+        ..s
     }
 }
 

@@ -22,15 +22,13 @@ fn chain(w: &mut [u32], b: usize, e: usize, n: Net, d: usize, path: &mut [usize;
     ensures { Chained w.old w.new b e n d path.old path.new }
 {
     let len = n.len as usize;
-    let mut k = d;
     let mut i = e;
     let mut rest = bits_from(n, d);
-    while k < len {
+    for k in d..len {
         path[k] = i;
         let bit = rest >> 63 == 1;
         writing::store(w, b, i, 1 + bit as usize);
         rest = bits_behind(n, k, rest);
-        k += 1;
         i += 1;
     }
     path[len] = i;

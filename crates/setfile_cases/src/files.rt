@@ -33,9 +33,9 @@ pub fn quoted(row: &[u8], bytes: &mut [u8; ROOM]) -> usize {
         count: 0,
         last: 0,
     };
-    for i in 0..row.len() {
+    for &c in row {
         let k = d.count / 2 % ROOM;
-        d = with(d, row[i]);
+        d = with(d, c);
         bytes[k] = d.last;
     }
     d.count / 2

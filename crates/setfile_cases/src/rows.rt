@@ -2,38 +2,27 @@
 use crate::files::ROOM;
 use crate::salvaging;
 use nets::Refusal;
-use pool_state::Answer;
 use setfile_compare::{Compared, Holder, compare};
-use test_counts::calls::{Got, named, taken, tell};
+use test_counts::calls::{Got, named, refuses, taken, tell};
 use test_counts::table::{Word, number};
 use test_counts::{Tally, calls, same};
 
 // The words of the pools here: two sets, 140 nodes.
 pub const WORDS: usize = 1200;
 
-fn grants(a: Answer, n: usize) -> bool {
-    let Answer::Granted(m) = a else {
-        return false;
-    };
-    m as usize == n
-}
-
-fn refuses(a: Answer, no: u8) -> bool {
-    let Answer::Refused(y) = a else {
-        return false;
-    };
-    y.number() == no
+fn grants(a: Result<u32, Refusal>, n: usize) -> bool {
+    a.is_ok_and(|m| m as usize == n)
 }
 
 // The number of the refusal that the row must get.
-fn number_of(must: &[u8]) -> u8 {
-    (taken(must, 1) % 256) as u8
+fn number_of(must: &[u8]) -> u32 {
+    taken(must, 1) % 256
 }
 
 // Saves the set into the first bytes of the buffer.
-fn save_to(pool: &[u32], set: u32, out: &mut [u8], room: usize) -> Answer {
+fn save_to(pool: &[u32], set: u32, out: &mut [u8], room: usize) -> Result<u32, Refusal> {
     if out.len() < room {
-        return Answer::Refused(Refusal::BadSetup);
+        return Err(Refusal::BadSetup);
     }
     setfile::save(pool, set, &mut out[0..room])
 }
@@ -41,10 +30,7 @@ fn save_to(pool: &[u32], set: u32, out: &mut [u8], room: usize) -> Answer {
 // Whether the buffer begins with the bytes and is behind them as it was.
 pub fn begins(out: &[u8], bytes: &[u8], was: &[u8]) -> bool {
     let n = bytes.len();
-    if out.len() < n || was.len() < n {
-        return false;
-    }
-    &out[0..n] == bytes && &out[n..] == &was[n..]
+    out.starts_with(bytes) && out.get(n..) == was.get(n..)
 }
 
 // Saved to so many bytes, set 0 gives this file and leaves what is behind it.
@@ -73,7 +59,7 @@ fn denies(
     room: usize,
     row: &[u8],
     must: &[u8],
-    no: u8,
+    no: u32,
 ) -> Tally {
     let was = [165u8; ROOM];
     let mut out = [165u8; ROOM];
@@ -121,9 +107,9 @@ fn load_or(pool: &mut [u32], row: &[u8], bytes: &[u8]) -> Got {
 }
 
 // An answer of compare as the words of a row: which file alone holds the address, and the address; or which of the others it is.
-fn matched(c: Compared) -> Got {
+fn matched(c: Result<Compared, Refusal>) -> Got {
     match c {
-        Compared::Differs(h, n) => {
+        Ok(Compared::Differs(h, n)) => {
             let second = Word {
                 form: n.family,
                 hi: n.hi,
@@ -135,15 +121,15 @@ fn matched(c: Compared) -> Got {
             };
             Got { first, second }
         }
-        Compared::Longer => Got {
+        Ok(Compared::Longer) => Got {
             first: named(b'l'),
             second: number(0),
         },
-        Compared::Shortest => Got {
+        Ok(Compared::Shortest) => Got {
             first: named(b's'),
             second: number(0),
         },
-        Compared::Refused(no) => calls::refusal(no),
+        Err(no) => calls::refusal(no),
     }
 }
 

@@ -2,13 +2,13 @@
 use crate::files::ROOM;
 use crate::rows::begins;
 use nets::Refusal;
-use salvage::Salvaged;
+use salvage::Counts;
 use test_counts::Tally;
-use test_counts::calls::{letter, taken, tell};
+use test_counts::calls::{letter, refuses, taken, tell};
 
 // The counts that the row must get: read, trimmed, dropped for their length, dropped as covered; and the bytes.
-fn counts(a: Salvaged, must: &[u8], bytes: usize) -> bool {
-    let Salvaged::File(c) = a else {
+fn counts(a: Result<Counts, Refusal>, must: &[u8], bytes: usize) -> bool {
+    let Ok(c) = a else {
         return false;
     };
     let first = c.read == taken(must, 0) && c.trimmed == taken(must, 1);
@@ -16,17 +16,10 @@ fn counts(a: Salvaged, must: &[u8], bytes: usize) -> bool {
     first && second && c.bytes as usize == bytes
 }
 
-fn refuses(a: Salvaged, no: u32) -> bool {
-    let Salvaged::Refused(y) = a else {
-        return false;
-    };
-    y.number() as u32 == no
-}
-
 // Salvages into the first bytes of the buffer.
-fn salvage_to(file: &[u8], out: &mut [u8], room: usize) -> Salvaged {
+fn salvage_to(file: &[u8], out: &mut [u8], room: usize) -> Result<Counts, Refusal> {
     if out.len() < room {
-        return Salvaged::Refused(Refusal::BadSetup);
+        return Err(Refusal::BadSetup);
     }
     salvage::salvage(file, &mut out[0..room])
 }

@@ -13,13 +13,11 @@ pub fn file_is_clear(bytes: &[u8], family: u8) -> bool
     ensures { (l : List Bits) → read_file bytes.now ≡ file family l → result ≡ is_public family l }
 {
     let n = number(bytes, 1) as usize;
-    let mut i = 0;
-    while i < n {
+    for i in 0..n {
         let net = entry(bytes, family, i);
         if !is_public_net(net) {
             return false;
         }
-        i += 1;
     }
     true
 }

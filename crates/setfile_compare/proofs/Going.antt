@@ -22,6 +22,7 @@ use Rattle.setfile_sides.specs.declared.sides.Side.{Side}
 use Rattle.setfile_sides.specs.declared.words.Address.{Address}
 use Rattle.setfile_compare.specs.declared.Holder.{Holder}
 use Rattle.setfile_compare.specs.declared.Holder.TheVariants as holder
+use Rattle.std.specs.Prelude.{Ok}
 use Rattle.setfile_compare.specs.declared.Compared.TheVariants as compare
 use Rattle.setfile_compare.specs.declared.abreast.Meet.{Meet}
 use Rattle.setfile_compare.specs.declared.abreast.Meet.TheVariants as meet
@@ -156,16 +157,16 @@ module _ {first second : List ℕ} {f : ℕ} {c d : List ℕ} {a b : Side} {l m 
   short (e, h) = sym (and-true b.short) ∙ (rw h at g.two.short) ∙ tight-shortest (width f) m g.two-list
 
   pub going-shortest : (r : Meet) → Meets (width f) r g.x g.ms g.y g.ns → r ≡ meet.Over → b.short ≡ true
-      → compared_as compare.Shortest ≡ (0, verdict f l m)
+      → compared_as (Ok compare.Shortest) ≡ (0, verdict f l m)
   going-shortest r o q e = let z = rw q at o in rw (verdict-end z, ← short z, e)
 
   pub going-longer : (r : Meet) → Meets (width f) r g.x g.ms g.y g.ns → r ≡ meet.Over → b.short ≡ false
-      → compared_as compare.Longer ≡ (0, verdict f l m)
+      → compared_as (Ok compare.Longer) ≡ (0, verdict f l m)
   going-longer r o q e = let z = rw q at o in rw (verdict-end z, ← short z, e)
 
   -- only one of them holds the next address
   differs : (h : Holder) (n : Address) (w : ℕ) → w ≡ width f → n.lo < 2 ^ 64 → Meets (width f) (meet.Differ h n) g.x g.ms g.y g.ns
-      → compared_as (compare.Differs h (net_words f n.hi n.lo w)) ≡ (0, verdict f l m)
+      → compared_as (Ok (compare.Differs h (net_words f n.hi n.lo w))) ≡ (0, verdict f l m)
   differs holder.First n w v k (e, o) =
       let (t, u) = ahead-holds g.abreast o in
       let h = stands-high g.one.stands (ahead-some g.x g.ms g.y g.ns o) in
@@ -180,7 +181,7 @@ module _ {first second : List ℕ} {f : ℕ} {c d : List ℕ} {a b : Side} {l m 
 
   pub going-differs : (r : Meet) (h : Holder) (n : Address) (w : ℕ) → Meets (width f) r g.x g.ms g.y g.ns → r ≡ meet.Differ h n → w ≡ width f
       → n.lo < 2 ^ 64
-      → compared_as (compare.Differs h (net_words f n.hi n.lo w)) ≡ (0, verdict f l m)
+      → compared_as (Ok (compare.Differs h (net_words f n.hi n.lo w))) ≡ (0, verdict f l m)
   going-differs r h n w o q v k = differs h n w v k (rw q at o)
 
   -- both hold the addresses up to e

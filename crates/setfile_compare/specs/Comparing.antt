@@ -7,13 +7,14 @@
 --                       they cover the same, 4 where the second is the shortest too
 --   verdict f l m       the values that are due of the lists l and m of the family f
 --   compared x y        what is due of what two files read as
-use Rattle.std.specs.Prelude.{Bool, true, false, not, cond, ◌||◌, List, [], ◌∷◌, ℕ, zero, suc, eqb, leb, length}
+use Rattle.std.specs.Prelude.{Bool, true, false, not, cond, ◌||◌, List, [], ◌∷◌, ℕ, zero, suc, eqb, leb, length, Result, Ok, Err}
 use Rattle.std.specs.Bool.{beq as same}
 use Rattle.nets.specs.Bits.{Bits}
 use Rattle.nets.specs.Lists.{Found, found, missing, covers, simplify_l}
 use Rattle.nets.specs.Networks.{width, net_from, no_net}
 use Rattle.nets.specs.Refusals.{number, answered, Rule, first_no}
 use Rattle.nets.specs.declared.Net.{Net}
+use Rattle.nets.specs.declared.Refusal.{Refusal}
 use Rattle.nets.specs.declared.Refusal.TheVariants.{BadFile, WrongFamily}
 use Rattle.setfile_format.specs.Files.{File, broken, file}
 use Rattle.setfile_compare.specs.declared.Holder.{Holder}
@@ -51,11 +52,11 @@ holder_as holder.Second = 2
 abbrev pub none : Values
 none = (0, no_net)
 
-abbrev pub compared_as : Compared → ℕ × Values
-compared_as (compare.Differs x n) = (0, (holder_as x, n))
-compared_as compare.Longer = (0, (3, no_net))
-compared_as compare.Shortest = (0, (4, no_net))
-compared_as (compare.Refused r) = (number r, none)
+abbrev pub compared_as : Result Compared Refusal → ℕ × Values
+compared_as (Ok (compare.Differs x n)) = (0, (holder_as x, n))
+compared_as (Ok compare.Longer) = (0, (3, no_net))
+compared_as (Ok compare.Shortest) = (0, (4, no_net))
+compared_as (Err r) = (number r, none)
 
 -- what is due: by the smallest address on which the lists differ, if there is one
 abbrev pub by_address : ℕ → List Bits → List Bits → Found → Values

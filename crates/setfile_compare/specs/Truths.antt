@@ -3,11 +3,12 @@
 --   Holds h l m a         of the lists l and m only the one of the file h covers a
 --   FirstAt w h l m a     a is the smallest address of w bits on which l and m differ, and the file h holds it
 --   Truth f l m r         the answer r is true of the lists l and m of the family f
-use Rattle.std.specs.Prelude.{true, false, List, ◌≡◌, ℕ, ◌<◌, length}
+use Rattle.std.specs.Prelude.{true, false, List, ◌≡◌, ℕ, ◌<◌, length, Result, Ok, Err}
 use Rattle.nets.specs.Bits.{Bits, val}
 use Rattle.nets.specs.Lists.{covers}
 use Rattle.nets.specs.Networks.{width, net_from}
 use Rattle.nets.specs.Shortest.{Exactly, Shortest}
+use Rattle.nets.specs.declared.Refusal.{Refusal}
 use Rattle.setfile_compare.specs.declared.Holder.{Holder}
 use Rattle.setfile_compare.specs.declared.Holder.TheVariants as holder
 use Rattle.setfile_compare.specs.declared.Compared.{Compared}
@@ -22,8 +23,8 @@ pub record FirstAt (w : ℕ) (h : Holder) (l m : List Bits) (a : Bits) : Type 0 
   pub held : Holds h l m a
   pub before : (b : Bits) → length b ≡ w → val b < val a → covers l b ≡ covers m b
 
-abbrev pub Truth : ℕ → List Bits → List Bits → Compared → Type 0
-Truth f l m (compare.Differs h n) = (a : Bits) × FirstAt (width f) h l m a × (n ≡ net_from f a)
-Truth f l m compare.Longer = Exactly (width f) (covers l) m × (Shortest (width f) (covers l) m → ⊥)
-Truth f l m compare.Shortest = Shortest (width f) (covers l) m
-Truth f l m (compare.Refused r) = ⊥
+abbrev pub Truth : ℕ → List Bits → List Bits → Result Compared Refusal → Type 0
+Truth f l m (Ok (compare.Differs h n)) = (a : Bits) × FirstAt (width f) h l m a × (n ≡ net_from f a)
+Truth f l m (Ok compare.Longer) = Exactly (width f) (covers l) m × (Shortest (width f) (covers l) m → ⊥)
+Truth f l m (Ok compare.Shortest) = Shortest (width f) (covers l) m
+Truth f l m (Err r) = ⊥

@@ -1,5 +1,5 @@
 // Two files side by side. What both hold is taken away from both, from the smallest address on; where only one holds the next address they differ.
-ghost use Rattle.std.specs.Prelude.{◌≡◌, List, ℕ};
+ghost use Rattle.std.specs.Prelude.{◌≡◌, List, ℕ, Ok};
 ghost use Rattle.nets.specs.Bits.{Bits};
 ghost use Rattle.nets.specs.Networks.{width};
 ghost use Rattle.setfile_format.specs.Files.{read_file, file};
@@ -56,7 +56,7 @@ fn meeting(a: Side, b: Side) -> Meet
 pub fn side_by_side(first: &[u8], second: &[u8], family: u8) -> Compared
     requires { (l : List Bits) × (m : List Bits) × (read_file first.now ≡ file family l) × (read_file second.now ≡ file family m) }
     ensures { (l m : List Bits) → read_file first.now ≡ file family l → read_file second.now ≡ file family m
-        → compared_as result ≡ (0, verdict family l m) }
+        → compared_as (Ok result) ≡ (0, verdict family l m) }
 {
     let mut c = [0u64; CURSORS];
     let mut d = [0u64; CURSORS];

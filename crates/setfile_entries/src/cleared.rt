@@ -20,11 +20,5 @@ pub fn is_before(x: Net, y: Net) -> bool
     requires { Entry x.family x × Entry x.family y }
     ensures { result ≡ before (net_bits x) (net_bits y) }
 {
-    if x.len != y.len {
-        return x.len < y.len;
-    }
-    if x.hi != y.hi {
-        return x.hi < y.hi;
-    }
-    x.lo < y.lo
+    (x.len, x.hi, x.lo) < (y.len, y.hi, y.lo)
 }

@@ -122,8 +122,7 @@ pub fn in_order(bytes: &[u8], family: u8, n: usize) -> bool
     if !cleared::is_clean(last) {
         return false;
     }
-    let mut i = 1;
-    while i < n {
+    for i in 1..n {
         let x = entry(bytes, family, i);
         if !cleared::is_clean(x) {
             return false;
@@ -132,7 +131,6 @@ pub fn in_order(bytes: &[u8], family: u8, n: usize) -> bool
             return false;
         }
         last = x;
-        i += 1;
     }
     true
 }

@@ -19,7 +19,7 @@ use Rattle.setfile_format.proofs.Reading.{read_file-headless, read_file-unordere
 use Rattle.address_order.proofs.Streams.{shared-leads, shared-le-right, length-order}
 use Rattle.setfile_order.specs.Flow.{checked_as, check_rule, surveyed, head_as, Flow}
 use Rattle.setfile_order.specs.declared.Head.{Head}
-use Rattle.setfile_order.specs.declared.Checked.TheVariants as checked
+use Rattle.std.specs.Prelude.{Some, None}
 
 -- the networks of the first n entries in address order
 abbrev pub all_of : List ℕ → ℕ → ℕ → List Bits
@@ -42,7 +42,7 @@ net-len : (n : Net) (f : ℕ) (q : Bits) → n ≡ net_from f q → n.len ≡ le
 unfolding net_from
 net-len n f q e = ap (λ (x : Net). x.len) e
 
-pub survey-none : (d : List ℕ) (f n : ℕ) → n ≡ 0 → checked_as (checked.File f 0) ≡ surveyed f (all_of d f n)
+pub survey-none : (d : List ℕ) (f n : ℕ) → n ≡ 0 → checked_as (Some (f, 0)) ≡ surveyed f (all_of d f n)
 unfolding surveyed networks_in in_address_order loose path_nodes
 survey-none d f n e = rw e
 
@@ -66,11 +66,11 @@ survey-first {d} {f} {n} {c} {h} s (i, e) = go (all_of d f n) refl
 
 module _ {d : List ℕ} {f n : ℕ} {c : List ℕ} {h : Head} {k v : ℕ} (s : Survey d f n c h k v) where
   -- the last head: all is counted
-  pub survey-end : n ≤ k → checked_as (checked.File f v) ≡ surveyed f (all_of d f n)
+  pub survey-end : n ≤ k → checked_as (Some (f, v)) ≡ surveyed f (all_of d f n)
   unfolding surveyed loose more_nodes
   survey-end l = go s.ms refl
     where
-      go : (ms : List Bits) → s.ms ≡ ms → checked_as (checked.File f v) ≡ cond (loose (all_of d f n)) (checked_as (checked.File f (path_nodes (all_of d f n)))) (checked_as checked.Broken)
+      go : (ms : List Bits) → s.ms ≡ ms → checked_as (Some (f, v)) ≡ cond (loose (all_of d f n)) (checked_as (Some (f, (path_nodes (all_of d f n))))) (checked_as None)
       go [] x =
           let a : loose (all_of d f n) ≡ true = sym (rw x at s.apart) in
           let b : path_nodes (all_of d f n) ≡ v = omega (arith, rw x at s.nodes) in
@@ -102,7 +102,7 @@ module _ {d : List ℕ} {f n : ℕ} {c : List ℕ} {h : Head} {k v : ℕ} (s : S
     unfolding loose
     inside b e = sym (rw next.is at s.apart) ∙ ap (λ z. not z && loose (next.m ∷ next.ms)) (shared-leads s.q next.m ∙ e)
 
-    pub survey-inside : x.deep ≡ h.net.len + 1 → checked_as checked.Broken ≡ surveyed f (all_of d f n)
+    pub survey-inside : x.deep ≡ h.net.len + 1 → checked_as None ≡ surveyed f (all_of d f n)
     unfolding surveyed
     survey-inside e = rw (inside true (eq-eqb (shared s.q next.m) (length s.q) (omega (arith, next.deep, net-len h.net f s.q s.net))))
 
@@ -129,11 +129,11 @@ module _ {d : List ℕ} {f n : ℕ} {c : List ℕ} {h : Head} {k v : ℕ} (s : S
 
 -- What `check` answers, test by test.
 module _ (d : List ℕ) where
-  pub check-headless : is_file_header d ≡ false → checked_as checked.Broken ≡ check_rule (read_file d)
+  pub check-headless : is_file_header d ≡ false → checked_as None ≡ check_rule (read_file d)
   unfolding check_rule
   check-headless e = rw (read_file-headless d e)
 
-  pub check-unordered : (are_clean (head_number d 0) d 0 (head_number d 1) && ascending (networks_in (head_number d 0) d 0 (head_number d 1))) ≡ false → checked_as checked.Broken ≡ check_rule (read_file d)
+  pub check-unordered : (are_clean (head_number d 0) d 0 (head_number d 1) && ascending (networks_in (head_number d 0) d 0 (head_number d 1))) ≡ false → checked_as None ≡ check_rule (read_file d)
   unfolding check_rule
   check-unordered e = rw (read_file-unordered d e)
 
@@ -143,6 +143,6 @@ module _ (d : List ℕ) where
   check-survey h o = go (loose (all_of d (head_number d 0) (head_number d 1))) refl
     where
       go : (b : Bool) → loose (all_of d (head_number d 0) (head_number d 1)) ≡ b
-          → cond b (checked_as (checked.File (head_number d 0) (path_nodes (all_of d (head_number d 0) (head_number d 1))))) (checked_as checked.Broken) ≡ check_rule (read_file d)
+          → cond b (checked_as (Some ((head_number d 0), (path_nodes (all_of d (head_number d 0) (head_number d 1)))))) (checked_as None) ≡ check_rule (read_file d)
       go true e = rw (read_file-list d h o e, read_file-nodes d h o e)
       go false e = rw (read_file-inside d e)

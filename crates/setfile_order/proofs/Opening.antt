@@ -1,9 +1,10 @@
 -- What a file's tests say of its entries: they are networks of its family, ascending; and in address order those of the trie of its list, where it reads as one. Assumes nothing.
-use mathlib.Core.Bool.{true, ◌&&◌}
+use mathlib.Core.Bool.{Bool, true, false, not, ◌&&◌}
 use mathlib.Core.List.{List}
-use mathlib.Core.Path.{◌≡◌, ap, ◌∙◌}
+use mathlib.Core.Path.{◌≡◌, sym, ap, ◌∙◌}
 use Prim.Native.Nat.{ℕ, ◌≤◌, ◌<◌}
 use native.Mathlib.Omega.{arith}
+use borrow.Author.Tests.{not-false}
 use lib.ListN.{length, get_or}
 use Rattle.nets.specs.Bits.{Bits}
 use Rattle.nets.specs.Lists.{ascending}
@@ -52,6 +53,9 @@ module _ (d : List ℕ) (bytes : (i : ℕ) → get_or d i 0 < 256) where
 pub file-long : (d : List ℕ) (f : ℕ) (l : List Bits) → read_file d ≡ file f l → 16 ≤ length d
 unfolding file_bytes
 file-long d f l e = omega (arith, (read_file-is d f l e).long)
+
+pub header-tested : (d : List ℕ) {r : Bool} → r ≡ is_file_header d → not r ≡ false → is_file_header d ≡ true
+header-tested d e h = sym e ∙ not-false _ h
 
 pub header-long : (d : List ℕ) → is_file_header d ≡ true → 16 ≤ length d
 unfolding file_bytes

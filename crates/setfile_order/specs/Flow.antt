@@ -5,7 +5,7 @@
 --   surveyed f ms    what `survey` answers of the networks ms in address order, the same way: their nodes, unless one lies inside another
 --   Flow d f c ms    the cursors c have the networks ms of the file d of the family f still to give, in this order: the lanes have them, and stand in the order of their next ones
 --   Behind d f c last q ms   so, and last is the network q, behind which they come
-use Rattle.std.specs.Prelude.{true, cond, List, [], ◌∷◌, ◌≡◌, ℕ, suc, ◌≤◌, ◌<◌, length}
+use Rattle.std.specs.Prelude.{true, cond, List, [], ◌∷◌, ◌≡◌, ℕ, suc, ◌≤◌, ◌<◌, length, Option, Some, None}
 use Rattle.nets.specs.Bits.{Bits}
 use Rattle.nets.specs.Lists.{nodes_l}
 use Rattle.nets.specs.Networks.{width, net_from, no_net}
@@ -16,13 +16,11 @@ use Rattle.setfile_format.specs.Files.{File, broken, file}
 use Rattle.address_order.specs.Streams.{shared, rising, loose, path_nodes}
 use Rattle.setfile_lanes.specs.Lanes.{lane_at, lanes_of, Live, Sorted, Entries, Lanes}
 use Rattle.setfile_order.specs.declared.Head.{Head}
-use Rattle.setfile_order.specs.declared.Checked.{Checked}
-use Rattle.setfile_order.specs.declared.Checked.TheVariants as checked
 
 -- the number and the values of an answer: of a broken file the refusal's number, and zeros
-abbrev pub checked_as : Checked → ℕ × (ℕ × ℕ)
-checked_as (checked.File f n) = (0, (f, n))
-checked_as checked.Broken = (number BadFile, (0, 0))
+abbrev pub checked_as : Option (ℕ × ℕ) → ℕ × (ℕ × ℕ)
+checked_as (Some (f, n)) = (0, (f, n))
+checked_as None = (number BadFile, (0, 0))
 
 unfoldable pub check_rule : File → ℕ × (ℕ × ℕ)
 check_rule (file f l) = (0, (f, nodes_l l))

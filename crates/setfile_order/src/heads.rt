@@ -22,19 +22,17 @@ fn onward(bytes: &[u8], family: u8, x: Lane) -> Lane
     if x.end <= next {
         return Lane {
             next,
-            end: x.end,
             hi: 0,
             lo: 0,
-            len: x.len,
+            ..x
         };
     }
     let e = reading::entry(bytes, family, next as usize);
     Lane {
         next,
-        end: x.end,
         hi: e.hi,
         lo: e.lo,
-        len: x.len,
+        ..x
     }
 }
 

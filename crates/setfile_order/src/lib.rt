@@ -19,50 +19,41 @@ pub struct Head {
     pub net: Net,
 }
 
-// A file's family and the nodes of its list.
-#[derive(Clone, Copy)]
-pub enum Checked {
-    Broken,
-    File(u8, u32),
-}
-
 // The nodes of the networks, unless one lies inside another: in address order it then lies inside the one before it.
-fn survey(bytes: &[u8], family: u8, n: usize) -> Checked
+fn survey(bytes: &[u8], family: u8, n: usize) -> Option<(u8, u32)>
     requires { Ordered bytes.now family n }
     ensures { checked_as result ≡ surveyed family (in_address_order (networks_in family bytes.now 0 n)) }
 {
     if n == 0 {
-        return Checked::File(family, 0);
+        return Some((family, 0));
     }
     let mut cursors = [0u64; CURSORS];
     let mut h = heads::begin(bytes, family, n, &mut cursors);
     let mut nodes = h.net.len as u32 + 1;
-    let mut k = 1;
     // the two parts of `advance`: called as one it may not be compiled into the loop, and would pass the head through memory
-    while k < n {
+    for k in 1..n {
         let whole = h.net.len as usize + 1;
         heads::move_on(bytes, family, &mut cursors);
         h = heads::head(family, &cursors, h.net);
         if h.deep == whole {
-            return Checked::Broken;
+            return None;
         }
         nodes += (h.net.len as usize + 1 - h.deep) as u32;
-        k += 1;
     }
-    Checked::File(family, nodes)
+    Some((family, nodes))
 }
 
 // Whether the bytes are a set file: its family, and the nodes of its list.
-pub fn check(bytes: &[u8]) -> Checked
+pub fn check(bytes: &[u8]) -> Option<(u8, u32)>
     ensures { checked_as result ≡ check_rule (read_file bytes.now) }
 {
     if !reading::is_header(bytes) {
-        return Checked::Broken;
+        return None;
     }
     let family = reading::number(bytes, 0) as u8;
     let n = reading::number(bytes, 1) as usize;
     if !reading::in_order(bytes, family, n) {
-        return Checked::Broken;
+        return None;
     }
     survey(bytes, family, n)
 }

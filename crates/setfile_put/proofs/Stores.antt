@@ -1,10 +1,11 @@
 -- Numbers and entries as bytes: the stores of each are one write of its bytes. Assumes nothing.
 use mathlib.Core.Path.{◌≡◌, refl, sym, ap, ◌∙◌}
 use mathlib.Core.List.{List, [], ◌∷◌, ◌++◌}
-use Prim.Native.Nat.{ℕ, ◌+◌, ◌-◌, ◌*◌, ◌/◌, ◌%◌, ◌^◌, ◌≤◌, ◌<◌}
+use Prim.Native.Nat.{ℕ, zero, suc, ◌+◌, ◌-◌, ◌*◌, ◌/◌, ◌%◌, ◌^◌, ◌≤◌, ◌<◌}
 use native.Mathlib.Nat.{add-mul, one-mul, div-one, mod-eq_of_lt}
+use Rattle.std.specs.Int.{w32, w64, to_be_bytes}
 use native.Mathlib.Omega.{arith}
-use lib.ListN.{length, set, length-append, length-set}
+use lib.ListN.{length, set, take, drop, length-append, length-set}
 use Rattle.nets.specs.Bits.{Bits, val}
 use Rattle.nets.specs.Networks.{width, net_from}
 use Rattle.nets.specs.declared.Net.{Net}
@@ -20,20 +21,23 @@ use Rattle.setfile_format.proofs.Written.{number_lt}
 store : (v : List ℕ) (k j y : ℕ) (xs : List ℕ) → j ≡ k + length xs → set (put v k xs) j y ≡ put v k (xs ++ (y ∷ []))
 store v k j y xs e = set-put (put v k xs) j y ∙ put-behind-at v k j xs (y ∷ []) e
 
-pub number-stores : (v : List ℕ) (k x : ℕ) → x < 4294967296
-    → set (set (set (set v k (x / 16777216)) (k + 1) (x / 65536 % 256)) (k + 2) (x / 256 % 256)) (k + 3) (x % 256) ≡ put v k (bytes_of 4 x)
-unfolding bytes_of
-number-stores v k x h =
-    let a = x / 16777216 in
-    let b = x / 65536 % 256 in
-    let c = x / 256 % 256 in
-    let m : a % 256 ≡ a = mod-eq_of_lt (omega arith) in
-    rw (set-put v k a, store v k (k + 1) b (a ∷ []) refl, store v k (k + 2) c (a ∷ b ∷ []) refl, store v k (k + 3) (x % 256) (a ∷ b ∷ c ∷ []) refl, m, div-one x)
+-- bytes in the place of as many are one write of them
+pub put-spliced : (w : List ℕ) (p : ℕ) (xs : List ℕ) → p + length xs ≤ length w → take p w ++ (xs ++ drop (length xs) (drop p w)) ≡ put w p xs
+unfolding put
+put-spliced [] zero [] h = refl
+put-spliced [] zero (x ∷ xs) h = absurd (omega arith)
+put-spliced [] (suc p) xs h = absurd (omega arith)
+put-spliced (y ∷ w) (suc p) xs h = ap (λ l. y ∷ l) (put-spliced w p xs (omega arith))
+put-spliced (y ∷ w) zero [] h = refl
+put-spliced (y ∷ w) zero (x ∷ xs) h = ap (λ l. x ∷ l) (put-spliced w zero xs (omega arith))
 
-pub word-stores : (v : List ℕ) (k x : ℕ) {a b : List ℕ} → a ≡ put v k (bytes_of 4 (x / 4294967296)) → b ≡ put a (k + 4) (bytes_of 4 (x % 4294967296)) → b ≡ put v k (bytes_of 8 x)
-word-stores v k x h g =
-    let xs = bytes_of 4 (x / 4294967296) in
-    g ∙ rw (h, bytes_of_mod 4 x, put-behind-at v k (k + 4) xs (bytes_of 4 x) (rw (length-bytes_of 4 (x / 4294967296))), bytes_of-parts 4 4 x)
+pub bytes-number : (x : ℕ) → to_be_bytes w32 x ≡ bytes_of 4 x
+unfolding bytes_of
+bytes-number x = rw (div-one x)
+
+pub bytes-word : (x : ℕ) → to_be_bytes w64 x ≡ bytes_of 8 x
+unfolding bytes_of
+bytes-word x = rw (div-one x)
 
 -- at most as many entries as bytes
 pub entry-count : (f k : ℕ) → k ≤ entry_at f k

@@ -13,10 +13,7 @@ pub fn put_number(out: &mut [u8], at: usize, x: u32)
     requires { at + 4 ≤ length out.old }
     ensures { out.new ≡ put out.old at (bytes_of 4 x) }
 {
-    out[at] = (x / 16777216) as u8;
-    out[at + 1] = (x / 65536 % 256) as u8;
-    out[at + 2] = (x / 256 % 256) as u8;
-    out[at + 3] = (x % 256) as u8;
+    out[at..at + 4].copy_from_slice(&x.to_be_bytes());
 }
 
 // Writes the eight bytes of a number.
@@ -24,8 +21,7 @@ pub fn put_word(out: &mut [u8], at: usize, x: u64)
     requires { at + 8 ≤ length out.old }
     ensures { out.new ≡ put out.old at (bytes_of 8 x) }
 {
-    put_number(out, at, (x / 4294967296) as u32);
-    put_number(out, at + 4, (x % 4294967296) as u32);
+    out[at..at + 8].copy_from_slice(&x.to_be_bytes());
 }
 
 // Writes the entry of a network from the byte k on.

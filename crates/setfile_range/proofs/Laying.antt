@@ -6,13 +6,14 @@ use Prim.Native.Nat.{ℕ, zero, suc, ◌+◌, ◌-◌, ◌≤◌, ◌<◌}
 use native.Mathlib.Nat.{mul-add}
 use native.Mathlib.Numerals.{add-one}
 use native.Mathlib.Omega.{arith}
+use borrow.Author.Tests.{not-false}
 use lib.Dec.{ltb}
 use lib.ListN.{length, length-append}
 use Rattle.nets.specs.Bits.{Bits, equal, val}
 use Rattle.nets.specs.Tries.{Trie, bare, level, below, list_of}
 use Rattle.nets.specs.Networks.{width, net_from}
 use Rattle.nets.specs.declared.Net.{Net}
-use Rattle.nets.proofs.Strings.{same_refl}
+use Rattle.nets.proofs.Strings.{same_refl, same-is}
 use Rattle.nets.proofs.Handing.{length-bits_left}
 use Rattle.nodes.specs.Words.{put}
 use Rattle.nodes.proofs.Put.{length-put, put-nil, put-behind-at}
@@ -95,6 +96,10 @@ aside-other false t b p c h = refl
 pub aside-one : (b : Bool) (p : Bits) {z t c : Bool} → z ≡ true → t ≡ true → c ≡ b → aside_of z t b p c ≡ snoc p (not b) ∷ []
 unfolding aside_of aside
 aside-one b p e g h = rw (e, g, h, same_refl b)
+
+-- the same, by the tests of the code
+pub aside-left : (z t b : Bool) (p : Bits) {r c : Bool} → not z ≡ false → not t ≡ false → r ≡ c → not (same r b) ≡ false → aside_of z t b p c ≡ snoc p (not b) ∷ []
+aside-left z t b p h g e i = aside-one b p (not-false _ h) (not-false _ g) (sym e ∙ same-is _ _ (not-false _ i))
 
 -- both edges: one behind the other
 module _ (z l r : Bool) (p q : Bits) (c d : Bool) {f n : ℕ} where

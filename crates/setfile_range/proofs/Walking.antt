@@ -14,10 +14,6 @@ use Rattle.nets.specs.Bits.{Bits, bits}
 use Rattle.nets.specs.Networks.{is_family, width, value, net_words, net_bits, net_from, refusal_of, bits_left, start_of, no_bits, prefix_as, next_as, next_of}
 use Rattle.nets.specs.Refusals.{answered}
 use Rattle.nets.specs.declared.Net.{Net}
-use Rattle.nets.specs.declared.NextBit.{NextBit}
-use Rattle.nets.specs.declared.NextBit.TheVariants.{Bit, End}
-use Rattle.nets.specs.declared.Prefix.{Prefix}
-use Rattle.nets.specs.declared.Prefix.TheVariants as prefix
 use Rattle.nets.specs.declared.PrefixBits.{PrefixBits}
 use Rattle.nets.specs.declared.Refusal.{Refusal}
 use Rattle.nets.proofs.Answers.{number-some, prefix-bits, prefix-refused}
@@ -30,6 +26,7 @@ use Rattle.trie_paths.specs.Spans.{snoc}
 use Rattle.trie_paths.proofs.Paths.{path-is}
 use Rattle.setfile_range.specs.Edges.{On}
 use Rattle.setfile_range.specs.declared.edges.Edge.{Edge}
+use Rattle.std.specs.Prelude.{Result, Option, Ok, Err, Some, None}
 
 -- The address in front.
 abbrev words : ℕ → ℕ → Address
@@ -78,11 +75,11 @@ module _ (f : ℕ) (a : Address) (fam : is_family f ≡ true) (low : address_of 
   unfolding net_bits
   host-bits = rw long (sym (ap (λ k. take k (bits (width f) (address_of a))) (length-bits (width f) (address_of a))) ∙ take-length (bits (width f) (address_of a)))
 
-  module _ (p : Prefix) (e : prefix_as p ≡ answered (refusal_of host) no_bits (start_of host)) where
-    pub edge-refused : (x : Refusal) → p ≡ prefix.Refused x → ⊥
+  module _ (p : Result PrefixBits Refusal) (e : prefix_as p ≡ answered (refusal_of host) no_bits (start_of host)) where
+    pub edge-refused : (x : Refusal) → p ≡ Err x → ⊥
     edge-refused x g = number-some x (sym (prefix-refused host p x e g) ∙ is-net)
 
-    pub edge-starts : (s : PrefixBits) (b : Bool) (n : Net) → n ≡ net_from f [] → p ≡ prefix.Bits s → On f (record { there = b; path = n; ahead = s }) [] (bits (width f) (address_of a))
+    pub edge-starts : (s : PrefixBits) (b : Bool) (n : Net) → n ≡ net_from f [] → p ≡ Ok s → On f (record { there = b; path = n; ahead = s }) [] (bits (width f) (address_of a))
     edge-starts s b n o g =
         let q = (prefix-bits host p s e g).1 in
         record { path = o; ahead = rw q (bits_left-start host is-net ∙ host-bits); few = rw q (start_of-few host is-net); whole = length-bits (width f) (address_of a) }
@@ -93,11 +90,11 @@ module _ {f : ℕ} {x : Edge} {p : Bits} {c : Bool} {q : Bits} (o : On f x p (c 
   pub goes_on : x.path.len < width x.path.family
   goes_on = let i = path-is x.path f p o.path in omega (arith, i.0, ap width i.1, o.whole, length-append p (c ∷ q))
 
-  module _ (n : NextBit) (e : next_as n ≡ next_of x.ahead) where
-    pub bit-none : n ≡ End → ⊥
+  module _ (n : Option (Bool × PrefixBits)) (e : next_as n ≡ next_of x.ahead) where
+    pub bit-none : n ≡ None → ⊥
     bit-none g = let z : ◌≡◌ {A = ℕ} 0 (suc (length q)) = ap length (sym (hands_end x.ahead n o.few e g) ∙ o.ahead) in omega arith
 
-    module _ (b : Bool) (s : PrefixBits) (g : n ≡ Bit b s) where
+    module _ (b : Bool) (s : PrefixBits) (g : n ≡ Some (b, s)) where
       handed : Hands x.ahead b s
       handed = hands x.ahead b s n o.few e g
 

@@ -7,7 +7,7 @@ ghost use Rattle.trie_paths.specs.Spans.{snoc};
 ghost use Rattle.setfile_range.specs.Edges.{On};
 
 use nets::families::width;
-use nets::{Net, NextBit, Prefix, PrefixBits};
+use nets::{Net, PrefixBits};
 use ranges::addresses::{Address, after};
 use trie_paths::halves;
 
@@ -62,8 +62,8 @@ fn edge_at(family: u8, there: bool, a: Address) -> Edge
     let path = halves::whole(family);
     let prefix = n.prefix_bits();
     match prefix {
-        Prefix::Bits(ahead) => Edge { there, path, ahead },
-        Prefix::Refused(_) => Edge {
+        Ok(ahead) => Edge { there, path, ahead },
+        Err(_) => Edge {
             there,
             path,
             ahead: PrefixBits {
@@ -111,8 +111,8 @@ pub fn bit_of(x: Edge) -> bool
     let s = x.ahead;
     let next = s.next();
     match next {
-        NextBit::Bit(bit, _) => bit,
-        NextBit::End => false,
+        Some((bit, _)) => bit,
+        None => false,
     }
 }
 
@@ -124,7 +124,7 @@ pub fn onward(x: Edge) -> Edge
     let s = x.ahead;
     let next = s.next();
     match next {
-        NextBit::Bit(bit, ahead) => {
+        Some((bit, ahead)) => {
             let path = down(x.path, bit);
             Edge {
                 there: x.there,
@@ -132,6 +132,6 @@ pub fn onward(x: Edge) -> Edge
                 ahead,
             }
         }
-        NextBit::End => x,
+        None => x,
     }
 }

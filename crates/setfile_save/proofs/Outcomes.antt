@@ -5,15 +5,12 @@ use mathlib.Core.List.{List, [], ◌∷◌}
 use Prim.Native.Nat.{ℕ, ◌≤◌, ◌<◌}
 use native.Mathlib.Omega.{arith}
 use lib.ListN.{length, get_or, take}
-use Rattle.nets.specs.Networks.{width}
 use Rattle.nets.specs.declared.Refusal.TheVariants.{Damaged, NoSet, ShortBuffer}
 use Rattle.nodes.specs.Words.{put}
 use Rattle.nodes.proofs.Put.{length-put, get_or-put-behind}
 use Rattle.pool_state.specs.States.{State}
 use Rattle.pool_state.specs.Decode.{damaged, sound, decode}
 use Rattle.pool_state.specs.Changes.{set_at, list_at}
-use Rattle.pool_state.specs.declared.Answer.{Answer}
-use Rattle.pool_state.specs.declared.Answer.TheVariants as answer
 use Rattle.pool_state.proofs.Claims.{is_state-family, is_set-list}
 use Rattle.pool_state.proofs.Filled.{filled-one, filled-damaged, filled-noset, filled-short, filled-whole}
 use Rattle.pool_state.proofs.Decoded.{decode-state, decode-set}
@@ -21,8 +18,10 @@ use Rattle.setfile_format.specs.Files.{file, read_file}
 use Rattle.setfile_format.proofs.Written.{read_file-file_of}
 use Rattle.setfile_save.specs.Calls.{file_at, Saved}
 use Rattle.setfile_save.proofs.Returns.{save-fills, decode-few}
+use Rattle.std.specs.Prelude.{Result, Ok, Err}
+use Rattle.nets.specs.declared.Refusal.{Refusal}
 
-pub save-determined : {w v u x : List ℕ} {k : ℕ} {r s : Answer} → Saved w k v r u → Saved w k v s x → (r ≡ s) × (u ≡ x)
+pub save-determined : {w v u x : List ℕ} {k : ℕ} {r s : (Result ℕ Refusal)} → Saved w k v r u → Saved w k v s x → (r ≡ s) × (u ≡ x)
 save-determined g h = filled-one (save-fills g) (save-fills h)
 
 -- the file of a set of a sound pool reads as its family and its list
@@ -39,20 +38,20 @@ take_put [] (x ∷ xs) h = absurd (omega arith)
 take_put (y ∷ v) [] h = refl
 take_put (y ∷ v) (x ∷ xs) h = ap (λ l. x ∷ l) (take_put v xs (omega arith))
 
-module _ {w v u : List ℕ} {k : ℕ} {r : Answer} (h : Saved w k v r u) where
-  pub save-damaged : decode w ≡ damaged → (r ≡ answer.Refused Damaged) × (u ≡ v)
+module _ {w v u : List ℕ} {k : ℕ} {r : (Result ℕ Refusal)} (h : Saved w k v r u) where
+  pub save-damaged : decode w ≡ damaged → (r ≡ Err Damaged) × (u ≡ v)
   save-damaged = filled-damaged (save-fills h)
 
   module _ (S : State) (d : decode w ≡ sound S) where
-    pub save-noset : length S.sets ≤ k → (r ≡ answer.Refused NoSet) × (u ≡ v)
+    pub save-noset : length S.sets ≤ k → (r ≡ Err NoSet) × (u ≡ v)
     save-noset = filled-noset (save-fills h) S d
 
     module _ (lt : k < length S.sets) where
-      pub save-small : length v < length (file_at S k) → (r ≡ answer.Refused ShortBuffer) × (u ≡ v)
+      pub save-small : length v < length (file_at S k) → (r ≡ Err ShortBuffer) × (u ≡ v)
       save-small = filled-short (save-fills h) S d lt
 
       module _ (le : length (file_at S k) ≤ length v) where
-        pub save-file : (r ≡ answer.Granted (length (file_at S k))) × (u ≡ put v 0 (file_at S k))
+        pub save-file : (r ≡ Ok (length (file_at S k))) × (u ≡ put v 0 (file_at S k))
         save-file = filled-whole (save-fills h) S d lt le
 
         pub save-reads : read_file (take (length (file_at S k)) u) ≡ file S.family (list_at S k)

@@ -1,5 +1,5 @@
 -- A law for each return of save, by the tests on the way to it. Assumes nothing.
-use mathlib.Core.Path.{◌≡◌, refl, sym, ap, ◌∙◌}
+use mathlib.Core.Path.{◌≡◌, sym, ap, ◌∙◌}
 use mathlib.Core.Bool.{Bool, true, false}
 use mathlib.Core.List.{List}
 use Prim.Native.Nat.{ℕ, ◌-◌, ◌≤◌, ◌<◌}
@@ -20,8 +20,6 @@ use Rattle.pool_state.specs.States.{State}
 use Rattle.pool_state.specs.Decode.{sound, decode, form_in}
 use Rattle.pool_state.specs.Changes.{set_at, list_at}
 use Rattle.pool_state.specs.Steps.{Refuses}
-use Rattle.pool_state.specs.declared.Answer.{Answer}
-use Rattle.pool_state.specs.declared.Answer.TheVariants as answer
 use Rattle.pool_state.proofs.Filled.{Filled, fill-refused, fill-short, fill-granted}
 use Rattle.pool_state.proofs.Claims.{is_state-claimed, claimed_but-is, is_list-list_at}
 use Rattle.pool_state.proofs.Header.{is_header-header}
@@ -38,11 +36,12 @@ use Rattle.setfile_write.specs.Saving.{Savable}
 use Rattle.kept_save.specs.Saved.{KeptWritable}
 use Rattle.setfile_save.specs.Calls.{file_at, save_rules, save_rule, bytes_after, Saved}
 use Rattle.setfile_save.specs.SaveSteps.{SavableIn}
+use Rattle.std.specs.Prelude.{Result, Ok, Err}
 
-abbrev Fills : List ℕ → ℕ → List ℕ → Answer → List ℕ → Type 0
+abbrev Fills : List ℕ → ℕ → List ℕ → Result ℕ Refusal → List ℕ → Type 0
 Fills w k v r u = Filled (decode w) k (length v) (λ S. length (file_at S k)) (λ S. length (file_at S k)) v (λ S. put v 0 (file_at S k)) r u
 
-module _ {w v u : List ℕ} {k : ℕ} {r : Answer} where
+module _ {w v u : List ℕ} {k : ℕ} {r : (Result ℕ Refusal)} where
   pub save-fills : Saved w k v r u → Fills w k v r u
   unfolding save_rule bytes_after save_rules
   save-fills h = record { answer = h.answer; left = h.bytes }
@@ -51,7 +50,7 @@ module _ {w v u : List ℕ} {k : ℕ} {r : Answer} where
   unfolding save_rule bytes_after save_rules
   saved h = record { answer = h.answer; bytes = h.left }
 
-pub save-refused : {w v : List ℕ} {k : ℕ} (x : Refusal) → Refuses (decode w) k (number x) → Saved w k v (answer.Refused x) v
+pub save-refused : {w v : List ℕ} {k : ℕ} (x : Refusal) → Refuses (decode w) k (number x) → Saved w k v (Err x) v
 save-refused {w} {v} {k} x e = saved (fill-refused (decode w) k (length v) _ _ v _ x e)
 
 -- a list has no more networks than nodes, in either form
@@ -87,13 +86,13 @@ module _ {w : List ℕ} {k : ℕ} {S : State} {s : Seat} (h : Sits w k S s) {n :
     pub save-fits : m ≤ 71303184
     save-fits = rw q (file_bytes-few s.family n save-few)
 
-    pub save-short : {v : List ℕ} → length v < m → Saved w k v (answer.Refused ShortBuffer) v
+    pub save-short : {v : List ℕ} → length v < m → Saved w k v (Err ShortBuffer) v
     save-short {v} lt = saved (fill-short (decode w) k (length v) _ _ v _ S h.decoded h.known (rw sized at lt))
 
     pub save-savable : {r : ℕ} {c₀ c₁ : List ℕ} → c₀ ≡ tallied 0 (trie_of (list_at S k)) clear → Starts c₀ c₁ → m ≤ r → SavableIn w s n c₁ r (trie_of (list_at S k))
     save-savable e o le = record { holds = h.holds; count = c; few = save-few; starts = rw e at o; fits = rw q at le }
 
-    pub save-granted : {v u : List ℕ} → m ≤ length v → u ≡ put v 0 (file_of s.family (list_of (trie_of (list_at S k)))) → Saved w k v (answer.Granted m) u
+    pub save-granted : {v u : List ℕ} → m ≤ length v → u ≡ put v 0 (file_of s.family (list_of (trie_of (list_at S k)))) → Saved w k v (Ok m) u
     save-granted {v} {u} le f =
         let r : u ≡ put v 0 (file_at S k) = rw (h.list, h.family) at f in
         rw (sized, r) (saved (fill-granted (decode w) k (length v) _ _ v _ S h.decoded h.known (rw sized at le)))

@@ -2,15 +2,15 @@
 --
 --   save_rules, save_rule  the answer of save: 3 no such set, 11 fewer bytes than the set's file has, else how many it has
 --   bytes_after           the bytes that it leaves;  Saved: both, as its contract
-use Rattle.std.specs.Prelude.{List, [], ◌∷◌, ◌≡◌, ℕ, length}
+use Rattle.std.specs.Prelude.{List, [], ◌∷◌, ◌≡◌, ℕ, length, Result}
 use Rattle.nets.specs.Refusals.{Rule}
 use Rattle.nodes.specs.Words.{put}
 use Rattle.pool_state.specs.States.{State}
 use Rattle.pool_state.specs.Decode.{Decoded, decode}
 use Rattle.pool_state.specs.Rules.{answer_on, left_on, unknown, short, answer_as}
 use Rattle.pool_state.specs.Changes.{list_at}
-use Rattle.pool_state.specs.declared.Answer.{Answer}
 use Rattle.setfile_format.specs.Files.{file_of}
+use Rattle.nets.specs.declared.Refusal.{Refusal}
 
 -- the file of set k
 abbrev pub file_at : State → ℕ → List ℕ
@@ -26,6 +26,6 @@ unfoldable pub bytes_after : List ℕ → Decoded → ℕ → List ℕ
 bytes_after v d k = left_on d (save_rules k (length v)) v (λ S. put v 0 (file_at S k))
 
 -- from the words w and the bytes v save on set k answers r and leaves the bytes u
-pub record Saved (w : List ℕ) (k : ℕ) (v : List ℕ) (r : Answer) (u : List ℕ) : Type 0 where
+pub record Saved (w : List ℕ) (k : ℕ) (v : List ℕ) (r : Result ℕ Refusal) (u : List ℕ) : Type 0 where
   pub answer : answer_as r ≡ save_rule (decode w) k (length v)
   pub bytes : u ≡ bytes_after v (decode w) k

@@ -1,6 +1,6 @@
 -- Addresses in two words: their low bits set, and the address behind one. Assumes nothing.
 use Rattle.std.proofs.Common.{◌≡◌, ℕ, suc, ◌+◌, ◌-◌, ◌*◌, ◌%◌, ◌^◌, ◌<◌, ◌≤◌, Bool, true, false, ltb, sym, refl, ap, ◌∙◌, mod-eq_of_lt, arith, pow_pos, ltb-false, ltb-true, le-ltb, lt-ltb}
-use native.Mathlib.Decide.{dec_lt}
+use native.Mathlib.Decide.{dec_lt, ℕ_discrete}
 use lib.Arith.{digits_lt}
 use lib.Bits.{bit_or, or_add_and, and_mask}
 use lib.Pow.{split, ones_split}
@@ -8,6 +8,7 @@ use Rattle.nets.specs.Networks.{width, value, address}
 use Rattle.nets.specs.declared.Net.{Net}
 use Rattle.nets.proofs.Numbers.{width-le}
 use Rattle.nets.proofs.TwoWords.{shl_one, keep_all, value-keep}
+use Rattle.setfile_entries.proofs.Clean.{value-other, value_same}
 use Rattle.setfile_sides.specs.Sides.{kept, ones}
 
 -- one bit, k places to the left
@@ -73,3 +74,12 @@ module _ (hi lo : ℕ) (h : hi < 2 ^ 64) (l : lo < 2 ^ 64) where
       go : Dec (hi + 1 < 2 ^ 64) → (hi + 1) % 2 ^ 64 * 2 ^ 64 + 0 ≡ ((hi + 1) * 2 ^ 64 + 0) % 2 ^ 128
       go (yes k) = rw (mod-eq_of_lt k) (sym (mod-eq_of_lt (digits_lt k (pow_pos 64))))
       go (no k) = let z : hi + 1 ≡ 2 ^ 64 = omega arith in rw z
+
+-- The order of addresses is that of their words, one after the other.
+pub less-words : (hi lo hi' lo' : ℕ) → lo < 2 ^ 64 → lo' < 2 ^ 64 → {r : Bool} → (hi ≡ hi' → r ≡ ltb lo lo') → ((hi ≡ hi' → ⊥) → r ≡ ltb hi hi')
+    → r ≡ ltb (value hi lo) (value hi' lo')
+less-words hi lo hi' lo' k l {r} low high = go (ℕ_discrete hi hi')
+  where
+    go : Dec (hi ≡ hi') → r ≡ ltb (value hi lo) (value hi' lo')
+    go (yes e) = low e ∙ value_same hi lo hi' lo' k l e
+    go (no n) = high n ∙ value-other hi lo hi' lo' k l n

@@ -79,17 +79,13 @@ pub fn pass(bytes: &[u8], family: u8, cursors: &mut [u64; CURSORS], s: Side, e: 
         → Along bytes.now family cursors.new result t (from_behind (width family) (value e.hi e.lo) ms)
         (passed (width family) (value e.hi e.lo) ms) }
 {
-    let head = s.head;
-    let end = s.last;
-    if less(e, end) {
+    if less(e, s.last) {
         return Side {
-            head,
             from: behind(e),
-            last: end,
-            short: s.short,
+            ..s
         };
     }
-    let next = advance(bytes, family, cursors, head);
-    let short = still_short(s.short, head.net, next);
+    let next = advance(bytes, family, cursors, s.head);
+    let short = still_short(s.short, s.head.net, next);
     arrived(next, short)
 }

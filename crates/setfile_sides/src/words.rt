@@ -8,7 +8,7 @@ use nets::families::width;
 use nets::lengths::less_by;
 
 // An address. Those of 32 bits stand in the low word.
-#[derive(Clone, Copy)]
+#[derive(Debug, Clone, Copy, PartialEq, Eq, PartialOrd, Ord)]
 pub struct Address {
     pub hi: u64,
     pub lo: u64,
@@ -54,8 +54,5 @@ pub fn behind(a: Address) -> Address
 pub fn less(a: Address, b: Address) -> bool
     ensures { result ≡ nat_lt (value a.hi a.lo) (value b.hi b.lo) }
 {
-    if a.hi == b.hi {
-        return a.lo < b.lo;
-    }
-    a.hi < b.hi
+    a < b
 }

@@ -1,15 +1,14 @@
 // The calls on a pool that rows of several programs make, and answers held to the words of a row.
-ghost use Rattle.std.specs.Prelude.{◌<◌};
+ghost use Rattle.std.specs.Prelude.{◌<◌, ◌≡◌, ◌↔◌, IsTrue, IsErrAnd};
+ghost use Rattle.nets.specs.Refusals.{number};
 
 use crate::table::{NAME, Word, number, word_at};
 use crate::{Tally, count, same};
-use change::Noted;
 use nets::{Net, Refusal};
-use pool_state::{Answer, Report};
 
 // What a call answers, as the first two words behind the sign =: numbers, the name `refused` and its number, or a network. Of add and
 // remove the second is the name `cut` where a set bit past the length was cut.
-#[derive(Clone, Copy)]
+#[derive(Clone, Copy, Debug, PartialEq, Eq)]
 pub struct Got {
     pub first: Word,
     pub second: Word,
@@ -36,11 +35,18 @@ pub fn refusal(no: Refusal) -> Got {
     Got { first, second }
 }
 
-pub fn answer(a: Answer) -> Got {
+// Whether the call is refused with this number.
+pub fn refuses<T: Copy>(a: Result<T, Refusal>, no: u32) -> bool
+    ensures { IsTrue result ↔ IsErrAnd a (λ r. number r ≡ no) }
+{
     match a {
-        Answer::Granted(n) => numbers(n as u64, 0),
-        Answer::Refused(no) => refusal(no),
+        Ok(_) => false,
+        Err(refusal) => refusal.number() as u32 == no,
     }
+}
+
+pub fn answer(a: Result<u32, Refusal>) -> Got {
+    a.map_or_else(refusal, |n| numbers(n as u64, 0))
 }
 
 fn mark(cut: bool) -> Word {
@@ -50,21 +56,18 @@ fn mark(cut: bool) -> Word {
     number(0)
 }
 
-fn noted(a: Noted) -> Got {
+fn noted(a: Result<(u32, bool), Refusal>) -> Got {
     match a {
-        Noted::Granted(n, cut) => Got {
+        Ok((n, cut)) => Got {
             first: number(n as u64),
             second: mark(cut),
         },
-        Noted::Refused(no) => refusal(no),
+        Err(no) => refusal(no),
     }
 }
 
-fn report(r: Report) -> Got {
-    match r {
-        Report::Numbers(n, k) => numbers(n as u64, k as u64),
-        Report::Refused(no) => refusal(no),
-    }
+fn report(r: Result<(u32, u32), Refusal>) -> Got {
+    r.map_or_else(refusal, |(n, k)| numbers(n as u64, k as u64))
 }
 
 // The number at a place of the row, cut to 32 bits.
@@ -88,13 +91,6 @@ pub fn net(row: &[u8]) -> Net {
     }
 }
 
-// Every word becomes 0.
-fn wipe(pool: &mut [u32]) {
-    for i in 0..pool.len() {
-        pool[i] = 0;
-    }
-}
-
 // Every other one of six numbers of the row.
 fn three(row: &[u8], place: usize) -> [u32; 3]
     requires { place < 9 }
@@ -108,7 +104,7 @@ fn three(row: &[u8], place: usize) -> [u32; 3]
 
 // Lays out for a family, one to three sets and so many nodes, with a share and a limit for each set; behind three of these may stand the marks of the indexed sets, and
 // behind these the form.
-fn lay(pool: &mut [u32], row: &[u8]) -> Answer {
+fn lay(pool: &mut [u32], row: &[u8]) -> Result<u32, Refusal> {
     let family = (taken(row, 1) % 256) as u8;
     let sets = taken(row, 2);
     let shares = three(row, 4);
@@ -116,7 +112,7 @@ fn lay(pool: &mut [u32], row: &[u8]) -> Answer {
     let indexed = taken(row, 10) as u64;
     let form = taken(row, 11);
     if sets > 3 {
-        return Answer::Refused(Refusal::BadSetup);
+        return Err(Refusal::BadSetup);
     }
     let n = sets as usize;
     pool::layout(
@@ -132,7 +128,7 @@ fn lay(pool: &mut [u32], row: &[u8]) -> Answer {
 }
 
 fn layout(pool: &mut [u32], row: &[u8]) -> Got {
-    wipe(pool);
+    pool.fill(0);
     answer(lay(pool, row))
 }
 
@@ -172,24 +168,16 @@ pub fn tell(rt: &impl Print, t: Tally, row: &[u8], must: &[u8], right: bool) -> 
     count(t, right)
 }
 
-fn is(v: Word, w: Word) -> bool {
-    v.form == w.form && v.hi == w.hi && v.lo == w.lo
-}
-
 // Where the row is a case, what it must answer is held to this answer.
 pub fn score(rt: &impl Print, t: Tally, row: &[u8], must: &[u8], got: Got) -> Tally {
     if must.len() == 0 {
         return t;
     }
-    let first = got.first;
-    let second = got.second;
-    tell(
-        rt,
-        t,
-        row,
-        must,
-        is(word_at(must, 0), first) && is(word_at(must, 1), second),
-    )
+    let wanted = Got {
+        first: word_at(must, 0),
+        second: word_at(must, 1),
+    };
+    tell(rt, t, row, must, got == wanted)
 }
 
 // Where `kept` stands behind a refusal: another case, that the call left every word.
@@ -201,7 +189,7 @@ pub fn keeps(
     was: &[u32],
     pool: &[u32],
 ) -> Tally {
-    if !is(word_at(must, 2), named(b'k')) {
+    if word_at(must, 2) != named(b'k') {
         return t;
     }
     tell(rt, t, row, must, same(was, pool))

@@ -1,14 +1,14 @@
 // What a program that runs cases counts, and the line in which it says so; and how it compares words.
 #![tactic(auto)]
 
-ghost use Rattle.std.specs.Prelude.{◌≡◌, ◌+◌, ◌%◌, ◌^◌, true, if◌then◌else◌};
+ghost use Rattle.std.specs.Prelude.{◌≡◌, ◌+◌, ◌%◌, ◌^◌, true, if◌then◌else◌, IsTrue, take, length};
 
 use std::io;
 
 pub mod calls;
 pub mod table;
 
-#[derive(Clone, Copy)]
+#[derive(Clone, Copy, Debug, PartialEq, Eq)]
 pub struct Tally {
     pub cases: u32,
     pub wrong: u32,
@@ -40,17 +40,17 @@ pub fn count(t: Tally, right: bool) -> Tally
 pub fn same(a: &[u32], b: &[u32]) -> bool
     ensures { (result ≡ true → a.now ≡ b.now) × (a.now ≡ b.now → result ≡ true) }
 {
-    if a.len() != b.len() {
-        return false;
+    a == b
+}
+
+// Whether the bytes are this line and behind it the byte 170 alone.
+pub fn holds(out: &[u8], line: &[u8]) -> bool
+    ensures { IsTrue result → take (length line.now) out.now ≡ line.now }
+{
+    match out.strip_prefix(line) {
+        Some(rest) => rest.iter().all(|x| *x == 170),
+        None => false,
     }
-    let mut i = 0;
-    while i < a.len() {
-        if a[i] != b[i] {
-            return false;
-        }
-        i += 1;
-    }
-    true
 }
 
 // Writes how many cases there were, and how many of them came out wrong.

@@ -7,8 +7,9 @@
 // A row is a call, what it takes, and behind the sign = what it must answer; without that sign it is no case. Its words are names, of which the first
 // letter counts, decimal numbers, and addresses, as four numbers or as eight groups in hexadecimal; a text in quotes is left to the program. All other
 // bytes only stand between words.
-ghost use Rattle.std.specs.Prelude.{◌≡◌, ◌≤◌};
+ghost use Rattle.std.specs.Prelude.{◌≡◌, ◌++◌, IfSome, length};
 
+use crate::{Tally, none};
 use std::num::wrapping_add_u64;
 
 // What a word is: a number, a name, of which the first letter counts, or with the number of its family an address.
@@ -16,7 +17,7 @@ pub const NUMBER: u8 = 0;
 
 pub const NAME: u8 = 1;
 
-#[derive(Clone, Copy)]
+#[derive(Clone, Copy, Debug, PartialEq, Eq)]
 pub struct Word {
     pub form: u8,
     pub hi: u64,
@@ -25,7 +26,7 @@ pub struct Word {
 
 // The word that is being read: how many words come before the one that is wanted, and whether that one has ended; what is known of it, and its last
 // group of digits read both ways.
-#[derive(Clone, Copy)]
+#[derive(Clone, Copy, Debug, PartialEq, Eq)]
 struct Part {
     before: usize,
     ended: bool,
@@ -167,17 +168,18 @@ pub fn number(n: u64) -> Word {
 // The word of a row, or of a part of one, at the place.
 pub fn word_at(row: &[u8], place: usize) -> Word {
     let mut p = nothing(place);
-    let mut at = 0;
-    while at < row.len() && !p.ended {
-        p = onward(p, row[at]);
-        at += 1;
+    for &c in row {
+        if p.ended {
+            break;
+        }
+        p = onward(p, c);
     }
     finished(p)
 }
 
 // Where a row stands: its first byte, its sign = or else its end, and its end; the byte that ends the text or the comment that is being read, and
 // whether the row is whole.
-#[derive(Clone, Copy)]
+#[derive(Clone, Copy, Debug, PartialEq, Eq)]
 pub struct Place {
     pub start: usize,
     pub sign: usize,
@@ -256,43 +258,40 @@ pub fn next(p: Place, c: u8, at: usize) -> Place {
     longer_by(p, c)
 }
 
-// A row in a text: its first byte, its sign and its end, in order; or none.
+// A row: what stands before its sign =, and from there on.
 #[derive(Clone, Copy)]
-pub struct Row {
-    pub whole: bool,
-    pub start: usize,
-    pub sign: usize,
-    pub end: usize,
+pub struct Row<'a> {
+    pub whole: &'a [u8],
+    pub call: &'a [u8],
+    pub must: &'a [u8],
 }
 
-fn no_row() -> Row
-    ensures { (result.start ≤ result.sign) × (result.sign ≤ result.end) × (result.end ≡ 0) }
+// The row of the text that is whole at the place, if one is.
+pub fn row_at<'a>(text: &'a [u8], p: Place) -> Option<Row<'a>>
+    ensures { IfSome result (λ r. r.whole.now ≡ r.call.now ++ r.must.now) }
 {
-    Row {
-        whole: false,
-        start: 0,
-        sign: 0,
-        end: 0,
+    if !p.whole || p.sign < p.start || p.end < p.sign || text.len() < p.end {
+        return None;
     }
+    Some(Row {
+        whole: &text[p.start..p.end],
+        call: &text[p.start..p.sign],
+        must: &text[p.sign..p.end],
+    })
 }
 
-// The row that is whole at the place, in a text of so many bytes. The places are in order: the tests say so to the proof.
-pub fn row_in(p: Place, bytes: usize) -> Row
-    ensures { (result.start ≤ result.sign) × (result.sign ≤ result.end) × (result.end ≤ bytes) }
+// The rows of a text, each given to `case` with what the cases before it came to. A text without a byte has no case.
+pub fn run<'a, F: FnMut(Tally, Row<'a>) -> Tally>(text: &'a [u8], mut case: F) -> Tally
+    requires { F.IsAlwaysCallable case }
+    ensures { length text.now ≡ 0 → (result.cases ≡ 0) × (result.wrong ≡ 0) }
 {
-    if p.sign < p.start {
-        return no_row();
+    let mut t = none();
+    let mut p = begin();
+    for at in 0..text.len() {
+        p = next(p, text[at], at);
+        if let Some(row) = row_at(text, p) {
+            t = case(t, row);
+        }
     }
-    if p.end < p.sign {
-        return no_row();
-    }
-    if bytes < p.end {
-        return no_row();
-    }
-    Row {
-        whole: p.whole,
-        start: p.start,
-        sign: p.sign,
-        end: p.end,
-    }
+    t
 }

@@ -1,6 +1,6 @@
 -- The dec-octets of RFC 3986 are the numbers up to 255. What follows an alternative lies between the number of its first bytes and that of its last, which are
 -- those of the RFC's comments: 0-9, 10-99, 100-199, 200-249, 250-255. Assumes nothing.
-use mathlib.Core.Bool.{Bool, true, false, true≢false, ◌&&◌, ◌||◌}
+use mathlib.Core.Bool.{Bool, true, false, true≢false, ◌&&◌}
 use mathlib.Core.List.{List, [], ◌∷◌, map}
 use mathlib.Core.Logic.{⊎_elim}
 use mathlib.Core.Path.{◌≡◌, refl, sym}

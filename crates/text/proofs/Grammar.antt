@@ -12,7 +12,6 @@ use Rattle.nets.specs.declared.Net.{Net}
 use Rattle.text_decimal.specs.Spans.{starts_of}
 use Rattle.text_decimal.specs.Decimal.{is_digit, decimal, is_number, Parsed, parsed, nothing, and_then, read_number}
 use Rattle.text.specs.Ipv4.{dot, slash, address, ipv4, joined, IsLine, ended_by, read_next, read_quad, bad_text, with_length, with_address, read_line}
-use Rattle.text_decimal.specs.Places.{starts_digit}
 use Rattle.text_decimal.proofs.Numbers.{read_number-append, read_number-is}
 use Rattle.text.proofs.Writing.{length-joined}
 use Rattle.text.proofs.Digits.{length-number, length-number-two}

@@ -8,14 +8,28 @@ use lib.Dec.{eqb}
 use lib.ListN.{length, drop, get_or, drop_of_length-le}
 use lib.Seq.{drop-cons}
 use Rattle.text_decimal.specs.Decimal.{Parsed, parsed, nothing, read_number}
+use Rattle.nets.specs.declared.Refusal.{Refusal}
+use Rattle.nets.specs.declared.Refusal.TheVariants.{BadText}
 use Rattle.text.specs.Ipv4.{ipv4, ended_by, read_next, read_quad, bad_text, with_length, read_line}
 use Rattle.text_decimal.specs.Places.{starts_byte, read_as}
-use Rattle.text_decimal.specs.declared.cursor.Read.{Read}
 use Rattle.text_decimal.proofs.Places.{starts-within}
+use Rattle.std.specs.Prelude.{Option, Some, None, Result, Ok, Err, ok_or}
+use Rattle.text_decimal.specs.declared.cursor.Cursor.{Cursor}
 
 -- What an answer has found, once it is known which one it is.
-pub read_as-is : (s : List ℕ) {r y : Read} {x : Parsed} → r ≡ y → read_as s r ≡ x → read_as s y ≡ x
+pub read_as-is : (s : List ℕ) {r y : (Option (ℕ × Cursor))} {x : Parsed} → r ≡ y → read_as s r ≡ x → read_as s y ≡ x
 read_as-is s e h = sym (ap (read_as s) e) ∙ h
+
+-- What was found where an answer became a refusal, or did not.
+pub read_as-ok : {r : Result (ℕ × Cursor) Refusal} {v : ℕ} {c : Cursor} {x : Parsed} (s : List ℕ) (o : Option (ℕ × Cursor))
+    → r ≡ ok_or o BadText → r ≡ Ok (v, c) → read_as s o ≡ x → parsed v (drop c.at s) ≡ x
+read_as-ok {v = v} {c = c} s (Some p) h k g = let y : p ≡ (v, c) = cc in rw y at g
+read_as-ok s None h k g = absurd (cc (sym h ∙ k))
+
+pub read_as-err : {r : Result (ℕ × Cursor) Refusal} {y : Refusal} {x : Parsed} (s : List ℕ) (o : Option (ℕ × Cursor))
+    → r ≡ ok_or o BadText → r ≡ Err y → read_as s o ≡ x → (y ≡ BadText) × (nothing ≡ x)
+read_as-err s None h k g = (cc, g)
+read_as-err s (Some p) h k g = absurd (cc (sym h ∙ k))
 
 -- A number that is ended by a byte.
 pub ended_by-other : (e v : ℕ) (s : List ℕ) → starts_byte e s ≡ false → ended_by e v s ≡ nothing

@@ -4,28 +4,23 @@ use mathlib.Core.Bool.{Bool, true, false, cond, ◌&&◌}
 use mathlib.Core.List.{List}
 use mathlib.Core.Logic.{◌↔◌}
 use mathlib.Core.Path.{◌≡◌, refl, ap, sym, ◌∙◌}
-use Prim.Native.Nat.{ℕ, ◌+◌, ◌-◌, ◌*◌, ◌/◌, ◌%◌, ◌^◌, ◌≤◌, ◌<◌}
+use Prim.Native.Nat.{ℕ, ◌+◌, ◌*◌, ◌/◌, ◌%◌, ◌^◌, ◌≤◌, ◌<◌}
 use native.Mathlib.Omega.{arith}
 use lib.Dec.{eqb, leb, ltb}
-use lib.ListN.{length, take, drop}
-use lib.Seq.{take-append_seam}
+use lib.ListN.{length, take}
 use borrow.Author.Tests.{leb-true, ltb-true, eqb-true, le-leb, lt-ltb}
 use Rattle.nets.proofs.Answers.{answered-granted}
 use Rattle.nets.proofs.Numbers.{refusal_of-cleared, cleared-one, cleared-cleared, family-cleared}
 use Rattle.nets.proofs.Strings.{and_left, and_right}
 use Rattle.nets.proofs.TwoWords.{in_range-4, cleared-same, has_bit_past-cleared}
-use Rattle.nets.specs.Networks.{in_range, refusal_of, net_bits, cleared, has_bit_past, no_net, taken_as, no_entry, entered_as, entered}
+use Rattle.nets.specs.Networks.{in_range, refusal_of, net_bits, cleared, has_bit_past, taken_as, no_entry, entered_as, entered}
 use Rattle.nets.specs.Refusals.{number}
 use Rattle.nets.specs.declared.Net.{Net}
 use Rattle.nets.specs.declared.Refusal.{Refusal}
-use Rattle.nets.specs.declared.Taken.{Taken}
-use Rattle.nets.specs.declared.Taken.TheVariants as taken
-use Rattle.nets.specs.declared.Entered.{Entered}
 use Rattle.text_decimal.specs.Decimal.{decimal, digits_of}
 use Rattle.text.specs.DecOctet.{is_dec_octet}
 use Rattle.text.specs.Ipv4.{address, ipv4, IsLine, read_line, octet_of, line_as, line_of}
-use Rattle.text.specs.Answers.{entered_line, none_written, line_refusal, over_bytes, Wrote}
-use Rattle.text.specs.declared.Written.TheVariants.{Bytes}
+use Rattle.text.specs.Answers.{entered_line, line_refusal, Wrote}
 use Rattle.text_decimal.proofs.Numbers.{is_number-is}
 use Rattle.text_decimal.proofs.Writing.{length-digits_of-two, is_number-digits_of, decimal-digits_of}
 use Rattle.text.proofs.Writing.{length-line_as}
@@ -33,6 +28,7 @@ use Rattle.text.proofs.Digits.{number-known}
 use Rattle.text.proofs.DecOctet.{octet-number, number-octet}
 use Rattle.text.proofs.Grammar.{read_line-accepts}
 use Rattle.text.proofs.Answers.{in_range-granted, taken_in-network, taken_in-refused, over-granted}
+use Rattle.std.specs.Prelude.{Result, Ok, Err}
 
 -- The numbers of an IPv4 network.
 record Ipv4 (n : Net) : Type 0 where
@@ -120,11 +116,11 @@ pub read_line-granted : (s : List ℕ) (n : Net) → read_line s ≡ (0, n) → 
 read_line-granted s n e = is_line-granted s n ((read_line-accepts s n).0 e)
 
 -- so it is taken in, and what is refused is refused
-pub entered_line-network : {t : Taken} {n : Net} (s : List ℕ) (r : Entered) → t ≡ taken.Network n → taken_as t ≡ read_line s → entered_as r ≡ entered n → entered_as r ≡ entered_line s
+pub entered_line-network : {t : (Result Net Refusal)} {n : Net} (s : List ℕ) (r : Result (Net × Bool) Refusal) → t ≡ Ok n → taken_as t ≡ read_line s → entered_as r ≡ entered n → entered_as r ≡ entered_line s
 unfolding entered_line
 entered_line-network {t} {n} s r e h k = taken_in-network (read_line s) r e h (read_line-granted s n (sym h ∙ ap taken_as e)).1 k
 
-pub entered_line-refused : {t : Taken} {x : Refusal} (s : List ℕ) → t ≡ taken.Refused x → taken_as t ≡ read_line s → (number x, no_entry) ≡ entered_line s
+pub entered_line-refused : {t : (Result Net Refusal)} {x : Refusal} (s : List ℕ) → t ≡ Err x → taken_as t ≡ read_line s → (number x, no_entry) ≡ entered_line s
 unfolding entered_line
 entered_line-refused s e h = taken_in-refused (read_line s) e h
 
@@ -168,7 +164,7 @@ module _ (n : Net) (f : n.family ≡ 4) (e : refusal_of n ≡ 0) where
   entered_line-line_of = rw (line_of-reads, cleared-cleared n e, has_bit_past-cleared n e)
 
 -- the bytes that a call has written do so, and its report says whether a bit was cut
-pub written-reads : (n : Net) (old new : List ℕ) (k : ℕ) (b : Bool) → Wrote n old new (Bytes k b) → (entered_line (take k new) ≡ (0, (cleared n, false))) × (b ≡ has_bit_past n)
+pub written-reads : (n : Net) (old new : List ℕ) (k : ℕ) (b : Bool) → Wrote n old new (Ok (k, b)) → (entered_line (take k new) ≡ (0, (cleared n, false))) × (b ≡ has_bit_past n)
 written-reads n old new k b w =
     let a = over-granted (line_refusal n (length old)) (line_of n) (has_bit_past n) old new k b w in
     let g = line_refusal-zero n (length old) a.0 in

@@ -5,14 +5,13 @@
 --   line_refusal n room     why a network cannot be written to room bytes, or 0
 --   WroteOver k s b old new r   the answer r and the bytes new, where the line s is written over the bytes old: its refusal is k, or 0, and b says whether a bit was cut
 --   Wrote n old new r      so for the line of n
-use Rattle.std.specs.Prelude.{Bool, false, cond, List, ◌++◌, ◌≡◌, ℕ, eqb, leb, length, drop}
+use Rattle.std.specs.Prelude.{Bool, false, cond, List, ◌++◌, ◌≡◌, ℕ, eqb, leb, length, drop, Result, Ok, Err}
 use Rattle.nets.specs.Networks.{in_range, has_bit_past, taken_in}
 use Rattle.nets.specs.Refusals.{number, answered}
 use Rattle.nets.specs.declared.Net.{Net}
 use Rattle.nets.specs.declared.Refusal.TheVariants.{WrongFamily, BadNetwork, ShortBuffer}
 use Rattle.text.specs.Ipv4.{read_line, line_of}
-use Rattle.text.specs.declared.Written.{Written}
-use Rattle.text.specs.declared.Written.TheVariants.{Bytes, Refused}
+use Rattle.nets.specs.declared.Refusal.{Refusal}
 
 unfoldable pub entered_line : List ℕ → ℕ × (Net × Bool)
 entered_line s = taken_in (read_line s).0 (read_line s).1
@@ -21,9 +20,9 @@ entered_line s = taken_in (read_line s).0 (read_line s).1
 abbrev pub none_written : ℕ × Bool
 none_written = (0, false)
 
-abbrev pub written_as : Written → ℕ × (ℕ × Bool)
-written_as (Bytes k b) = (0, (k, b))
-written_as (Refused r) = (number r, none_written)
+abbrev pub written_as : Result (ℕ × Bool) Refusal → ℕ × (ℕ × Bool)
+written_as (Ok (k, b)) = (0, (k, b))
+written_as (Err r) = (number r, none_written)
 
 unfoldable pub line_refusal : Net → ℕ → ℕ
 line_refusal n room =
@@ -33,9 +32,9 @@ line_refusal n room =
 abbrev pub over_bytes : List ℕ → List ℕ → List ℕ
 over_bytes s old = s ++ drop (length s) old
 
-pub record WroteOver (no : ℕ) (line : List ℕ) (cut : Bool) (old new : List ℕ) (r : Written) : Type 0 where
+pub record WroteOver (no : ℕ) (line : List ℕ) (cut : Bool) (old new : List ℕ) (r : Result (ℕ × Bool) Refusal) : Type 0 where
   pub answer : written_as r ≡ answered no none_written (length line, cut)
   pub bytes : new ≡ cond (eqb no 0) (over_bytes line old) old
 
-abbrev pub Wrote : Net → List ℕ → List ℕ → Written → Type 0
+abbrev pub Wrote : Net → List ℕ → List ℕ → Result (ℕ × Bool) Refusal → Type 0
 Wrote n old new r = WroteOver (line_refusal n (length old)) (line_of n) (has_bit_past n) old new r

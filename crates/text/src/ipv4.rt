@@ -4,56 +4,45 @@ ghost use Rattle.nets.specs.Networks.{taken_as};
 ghost use Rattle.text.specs.Ipv4.{read_next, read_quad, read_line, octet_of, line_as};
 ghost use Rattle.text_decimal.specs.Places.{read_as, value_of, Stored};
 
-use nets::{Net, Refusal, Taken};
-use text_decimal::cursor::{Cursor, Read};
+use nets::{Net, Refusal};
+use text_decimal::cursor::Cursor;
 use text_decimal::{cursor, decimal};
 
 // What was read with one more of the four numbers behind it, and the byte that ends that number.
-pub fn next(s: &[u8], read: Read, end: u8) -> Read
+pub fn next(s: &[u8], read: Option<(u32, Cursor)>, end: u8) -> Option<(u32, Cursor)>
     requires { value_of read < 2 ^ 24 }
     ensures result_value { read_as s.now result ≡ read_next end (read_as s.now read) }
     ensures result_bound { value_of result ≤ value_of read * 256 + 255 }
 {
-    let Read::Number(high, c) = read else {
-        return Read::Nothing;
-    };
-    let r = decimal::number(s, c, 255);
-    let Read::Number(low, behind) = r else {
-        return Read::Nothing;
-    };
+    let (high, c) = read?;
+    let (low, behind) = decimal::number(s, c, 255)?;
     let at = behind.at;
     if !cursor::byte_at(s, at, end) {
-        return Read::Nothing;
+        return None;
     }
-    Read::Number(high * 256 + low, Cursor { at: at + 1 })
+    Some((high * 256 + low, Cursor { at: at + 1 }))
 }
 
 // The address of the four numbers, the last of them ended by the slash.
-fn quad(s: &[u8], start: Cursor) -> Read
+fn quad(s: &[u8], start: Cursor) -> Option<(u32, Cursor)>
     ensures { read_as s.now result ≡ read_quad (drop start.at s.now) }
 {
-    let a = next(s, Read::Number(0, start), b'.');
+    let a = next(s, Some((0, start)), b'.');
     let b = next(s, a, b'.');
     let c = next(s, b, b'.');
     next(s, c, b'/')
 }
 
 // The network of a line, with its address as the line has it.
-pub fn read(line: &[u8]) -> Taken
+pub fn read(line: &[u8]) -> Result<Net, Refusal>
     ensures { taken_as result ≡ read_line line.now }
 {
-    let r = quad(line, Cursor { at: 0 });
-    let Read::Number(address, next) = r else {
-        return Taken::Refused(Refusal::BadText);
-    };
-    let r = decimal::number(line, next, 32);
-    let Read::Number(len, end) = r else {
-        return Taken::Refused(Refusal::BadText);
-    };
+    let (address, next) = quad(line, Cursor { at: 0 }).ok_or(Refusal::BadText)?;
+    let (len, end) = decimal::number(line, next, 32).ok_or(Refusal::BadText)?;
     if end.at < line.len() {
-        return Taken::Refused(Refusal::BadText);
+        return Err(Refusal::BadText);
     }
-    Taken::Network(Net {
+    Ok(Net {
         family: 4,
         hi: 0,
         lo: address as u64,

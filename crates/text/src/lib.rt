@@ -4,41 +4,28 @@ ghost use Rattle.std.specs.Prelude.{◌≡◌};
 ghost use Rattle.nets.specs.Networks.{entered_as};
 ghost use Rattle.text.specs.Answers.{entered_line, Wrote};
 
-use nets::{Entered, Net, Refusal, Taken};
+use nets::{Net, Refusal};
 
 pub mod ipv4;
 
-// How many bytes were written, and whether a set bit past the length was cleared.
-#[derive(Clone, Copy)]
-pub enum Written {
-    Bytes(u32, bool),
-    Refused(Refusal),
-}
-
 // The network of a line, taken in.
-pub fn read_line(line: &[u8]) -> Entered
+pub fn read_line(line: &[u8]) -> Result<(Net, bool), Refusal>
     ensures { entered_as result ≡ entered_line line.now }
 {
-    let t = ipv4::read(line);
-    match t {
-        Taken::Network(n) => n.to_network(),
-        Taken::Refused(no) => Entered::Refused(no),
-    }
+    let n = ipv4::read(line)?;
+    n.to_network()
 }
 
 // Writes the line of a network from the buffer's first byte on, and says how many bytes that took.
-pub fn write_line(net: Net, out: &mut [u8]) -> Written
+pub fn write_line(net: Net, out: &mut [u8]) -> Result<(u32, bool), Refusal>
     ensures { Wrote net out.old out.new result }
 {
     if net.family != 4 {
-        return Written::Refused(Refusal::WrongFamily);
+        return Err(Refusal::WrongFamily);
     }
-    let t = net.to_network();
-    let Entered::Network(n, trimmed) = t else {
-        return Written::Refused(Refusal::BadNetwork);
-    };
+    let (n, trimmed) = net.to_network()?;
     if out.len() < ipv4::length(n) {
-        return Written::Refused(Refusal::ShortBuffer);
+        return Err(Refusal::ShortBuffer);
     }
-    Written::Bytes(ipv4::write(n, out) as u32, trimmed)
+    Ok((ipv4::write(n, out) as u32, trimmed))
 }

@@ -4,53 +4,21 @@
 
 mod expect;
 
-ghost use Rattle.std.specs.Prelude.{◌≤◌, length};
-
 use std::io;
 use test_counts::calls::taken;
-use test_counts::table::{Place, Word};
+use test_counts::table::Word;
 use test_counts::{Tally, table};
 use tool_files::read_full;
 
-// The place of the first quote from a place on, or else the end.
-fn quote_from(s: &[u8], from: usize) -> usize
-    requires { from ≤ length s.now }
-    ensures { (from ≤ result) × (result ≤ length s.now) }
-{
-    let mut at = from;
-    while at < s.len() && s[at] != b'"' {
-        at += 1;
-    }
-    at
-}
-
-// A text in quotes: its first byte, and the quote that ends it.
-#[derive(Clone, Copy)]
-struct Span {
-    from: usize,
-    to: usize,
-}
-
-// The first such text.
-fn quoted(s: &[u8]) -> Span
-    ensures { (result.from ≤ result.to) × (result.to ≤ length s.now) }
-{
-    let at = quote_from(s, 0);
-    if at == s.len() {
-        return Span { from: 0, to: 0 };
-    }
-    let from = at + 1;
-    let to = quote_from(s, from);
-    Span { from, to }
+// The first text in quotes, or an empty one.
+fn quoted(s: &[u8]) -> &[u8] {
+    s.split(|c| *c == b'"').nth(1).unwrap_or(b"")
 }
 
 // The line is read as the network of the word and the length behind it, which is written as the text.
 fn read(t: Tally, line: &[u8], w: Word, must: &[u8]) -> Tally {
-    let q = quoted(must);
-    let from = q.from;
-    let to = q.to;
     let len = (taken(must, 1) % 256) as u8;
-    expect::reads(t, line, w.hi, w.lo, len, &must[from..to])
+    expect::reads(t, line, w.hi, w.lo, len, quoted(must))
 }
 
 // A row without a sign is no case.
@@ -58,36 +26,16 @@ fn case(t: Tally, row: &[u8], must: &[u8]) -> Tally {
     if must.len() == 0 {
         return t;
     }
-    let q = quoted(row);
-    let from = q.from;
-    let to = q.to;
+    let line = quoted(row);
     let w = table::word_at(must, 0);
     if w.form == table::NAME {
-        return expect::refuses(t, &row[from..to]);
+        return expect::refuses(t, line);
     }
-    read(t, &row[from..to], w, must)
-}
-
-// The row, where it is whole.
-fn at_end(t: Tally, text: &[u8], p: Place) -> Tally {
-    let r = table::row_in(p, text.len());
-    let start = r.start;
-    let sign = r.sign;
-    let end = r.end;
-    if !r.whole {
-        return t;
-    }
-    case(t, &text[start..sign], &text[sign..end])
+    read(t, line, w, must)
 }
 
 fn run(text: &[u8]) -> Tally {
-    let mut t = test_counts::none();
-    let mut p = table::begin();
-    for at in 0..text.len() {
-        p = table::next(p, text[at], at);
-        t = at_end(t, text, p);
-    }
-    t
+    table::run(text, |t, row| case(t, row.call, row.must))
 }
 
 // The most bytes of the input.

@@ -1,5 +1,5 @@
 // Networks taken in: the address that is left, and the report.
-use nets::{Entered, Net};
+use nets::Net;
 use test_counts::{Tally, count};
 
 // The network of a family and a length with the address in two words, taken in: these words are left, with this report.
@@ -10,18 +10,8 @@ fn enters(t: Tally, family: u8, len: u8, given: [u64; 2], left: [u64; 2], trimme
         lo: given[1],
         len,
     };
-    let r = net.to_network();
-    match r {
-        Entered::Network(n, cut) => count(
-            t,
-            (n.family == family)
-                & (n.hi == left[0])
-                & (n.lo == left[1])
-                & (n.len == len)
-                & (cut == trimmed),
-        ),
-        Entered::Refused(_) => count(t, false),
-    }
+    let [hi, lo] = left;
+    count(t, net.to_network() == Ok((Net { hi, lo, ..net }, trimmed)))
 }
 
 // A network without a set bit past its length.

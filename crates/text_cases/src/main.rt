@@ -8,12 +8,12 @@ mod rows;
 
 ghost use Rattle.std.specs.Prelude.{◌≤◌};
 
-use nets::Net;
+use nets::{Net, Refusal};
 use std::io;
 use test_counts::{Tally, count};
 
 // The numbers, written to so many bytes, get this refusal.
-fn denies(t: Tally, family: u8, hi: u64, lo: u64, len: u8, room: usize, no: u8) -> Tally
+fn denies(t: Tally, family: u8, hi: u64, lo: u64, len: u8, room: usize, no: Refusal) -> Tally
     requires { room ≤ 24 }
 {
     let net = Net {
@@ -22,19 +22,19 @@ fn denies(t: Tally, family: u8, hi: u64, lo: u64, len: u8, room: usize, no: u8) 
         lo,
         len,
     };
-    count(t, expect::writes(net, room, b"", no, false))
+    count(t, expect::writes(net, room, b"", Err(no)))
 }
 
 // Numbers that are no IPv4 network: the family comes first, then the range, then the room.
 fn denied(t: Tally) -> Tally {
-    let mut t = denies(t, 6, 0, 1, 128, 24, 6);
-    t = denies(t, 0, 0, 0, 0, 24, 6);
-    t = denies(t, 5, 1, 0, 255, 0, 6);
-    t = denies(t, 4, 0, 0, 33, 24, 7);
-    t = denies(t, 4, 0, 0, 255, 24, 7);
-    t = denies(t, 4, 0, 0x1_0000_0000, 8, 24, 7);
-    t = denies(t, 4, 1, 0, 8, 24, 7);
-    denies(t, 4, 1, 0, 8, 0, 7)
+    let mut t = denies(t, 6, 0, 1, 128, 24, Refusal::WrongFamily);
+    t = denies(t, 0, 0, 0, 0, 24, Refusal::WrongFamily);
+    t = denies(t, 5, 1, 0, 255, 0, Refusal::WrongFamily);
+    t = denies(t, 4, 0, 0, 33, 24, Refusal::BadNetwork);
+    t = denies(t, 4, 0, 0, 255, 24, Refusal::BadNetwork);
+    t = denies(t, 4, 0, 0x1_0000_0000, 8, 24, Refusal::BadNetwork);
+    t = denies(t, 4, 1, 0, 8, 24, Refusal::BadNetwork);
+    denies(t, 4, 1, 0, 8, 0, Refusal::BadNetwork)
 }
 
 // Lines with a set bit past the length, the first and the last one too, and at a /0 any.

@@ -1,37 +1,36 @@
 // The lines of a row, one after the other: a bar ends each, and the first of them have an entry.
 use crate::expect;
-use nets::Net;
+use nets::Refusal;
 use test_counts::{Tally, count};
 
 // The network of the entry, written to buffers of every length, gives the line and the report, or is refused where they are too short.
 fn rooms(t: Tally, line: &[u8], entry: u64, trimmed: bool) -> Tally {
-    let net = Net {
-        family: 4,
-        hi: 0,
-        lo: entry / 256,
-        len: (entry % 256) as u8,
-    };
+    let net = expect::net_of(entry);
     let mut t = t;
     for room in 0..25 {
-        let no = if room < line.len() { 11 } else { 0 };
-        t = count(t, expect::writes(net, room, line, no, trimmed));
+        let must = if room < line.len() {
+            Err(Refusal::ShortBuffer)
+        } else {
+            Ok(trimmed)
+        };
+        t = count(t, expect::writes(net, room, line, must));
     }
     t
 }
 
 // A line with a set bit past its length, and its address as given: read as the entry without it, and written as the line without it, both with the report.
 pub fn trimmed(t: Tally, line: &[u8], given: u64, clear: &[u8], entry: u64) -> Tally {
-    let t = count(t, expect::reads(line, entry, true));
+    let t = count(t, expect::reads(line, Some(entry), true));
     rooms(t, clear, given, true)
 }
 
-// The line is read as entry k, which is written as the line, nothing being cut; where there is no such entry the line is refused.
-fn line(t: Tally, line: &[u8], entries: &[u64], k: usize) -> Tally {
-    if entries.len() <= k {
-        return count(t, expect::reads(line, expect::NONE, false));
+// The line is read as the entry, which is written as the line, nothing being cut; where there is none the line is refused.
+fn line(t: Tally, line: &[u8], entry: Option<u64>) -> Tally {
+    let t = count(t, expect::reads(line, entry, false));
+    match entry {
+        Some(e) => rooms(t, line, e, false),
+        None => t,
     }
-    let t = count(t, expect::reads(line, entries[k], false));
-    rooms(t, line, entries[k], false)
 }
 
 pub fn lines(t: Tally, row: &[u8], entries: &[u64]) -> Tally {
@@ -40,7 +39,7 @@ pub fn lines(t: Tally, row: &[u8], entries: &[u64]) -> Tally {
     let mut k = 0;
     for at in 0..row.len() {
         if row[at] == b'|' {
-            t = line(t, &row[from..at], entries, k);
+            t = line(t, &row[from..at], entries.get(k).copied());
             from = at + 1;
             k += 1;
         }

@@ -7,7 +7,7 @@ use native.Mathlib.Omega.{arith}
 use lib.Dec.{eqb, leb}
 use lib.ListN.{length}
 use borrow.Author.Tests.{eqb-true, leb-true, le-leb}
-use Rattle.nets.proofs.Strings.{and_left, and_right, and_both}
+use Rattle.nets.proofs.Strings.{and_left, and_right}
 use Rattle.text_decimal.specs.Spans.{starts_of, leading_of}
 use Rattle.text_decimal.specs.Decimal.{is_digit, all_digits, decimal, decimal_from, plain, is_number, leading, behind, parsed, nothing, read_number}
 use Rattle.text_decimal.specs.Places.{starts_digit, starts_zero}

@@ -2,7 +2,7 @@
 use mathlib.Core.Bool.{Bool, true, false, false≢true}
 use mathlib.Core.List.{List, [], ◌∷◌}
 use mathlib.Core.Path.{◌≡◌, refl, sym, ◌∙◌}
-use Prim.Native.Nat.{ℕ, ◌+◌, ◌≤◌, ◌<◌}
+use Prim.Native.Nat.{ℕ, suc, ◌+◌, ◌≤◌, ◌<◌}
 use native.Mathlib.Numerals.{add-one}
 use lib.Dec.{eqb, ltb}
 use lib.ListN.{length, drop, get_or, drop_of_length-le}
@@ -28,6 +28,14 @@ module _ (f : List ℕ → Bool) (none : f [] ≡ false) (s : List ℕ) (at : �
 pub starts_of-at : (f : ℕ → Bool) (s : List ℕ) (at : ℕ) → starts_of f (drop at s) ≡ true → (at < length s) × (f (get_or s at 0) ≡ true)
 unfolding starts_of
 starts_of-at f s at e = let h = starts-within (starts_of f) refl s at e in (h, rw (drop-cons s at 0 h) at e)
+
+-- What a place holds, by whether there is one.
+module _ (s : List ℕ) (at : ℕ) where
+  pub got-byte : {x : ℕ} → true ≡ ltb at (length s) → x ≡ get_or s at x → drop at s ≡ x ∷ drop (suc at) s
+  got-byte {x = x} h e = let d = drop-cons s at x (ltb-true at (length s) (sym h)) in rw (← e) at d
+
+  pub got-none : (f : List ℕ → Bool) → f [] ≡ false → false ≡ ltb at (length s) → false ≡ f (drop at s)
+  got-none f none h = sym (starts-past f none s at (ltb-false at (length s) (sym h)))
 
 pub record Digit (s : List ℕ) (at : ℕ) : Type 0 where
   pub within : at < length s

@@ -4,12 +4,11 @@
 --   starts_zero s                    a 0 stands first, and a digit behind it
 --   read_as s r                      what the answer r found in the bytes s;  value_of r: the number alone
 --   Stored old at s new next        the bytes s were written over old from at on, which made new, up to next
-use Rattle.std.specs.Prelude.{Bool, false, ◌&&◌, List, [], ◌∷◌, ◌≡◌, ℕ, ◌+◌, eqb, length, drop}
+use Rattle.std.specs.Prelude.{Bool, false, ◌&&◌, List, [], ◌∷◌, ◌≡◌, ℕ, ◌+◌, eqb, length, drop, Option, Some, None}
 use Rattle.std.proofs.lemmas.List.Edits.{sets}
 use Rattle.text_decimal.specs.Spans.{starts_of}
 use Rattle.text_decimal.specs.Decimal.{is_digit, Parsed, parsed, nothing}
-use Rattle.text_decimal.specs.declared.cursor.Read.{Read}
-use Rattle.text_decimal.specs.declared.cursor.Read.TheVariants.{Number, Nothing}
+use Rattle.text_decimal.specs.declared.cursor.Cursor.{Cursor}
 
 abbrev pub starts_digit : List ℕ → Bool
 starts_digit s = starts_of is_digit s
@@ -22,13 +21,13 @@ unfoldable pub starts_zero : List ℕ → Bool
 starts_zero [] = false
 starts_zero (c ∷ s) = eqb c 48 && starts_digit s
 
-abbrev pub read_as : List ℕ → Read → Parsed
-read_as s (Number v c) = parsed v (drop c.at s)
-read_as s Nothing = nothing
+abbrev pub read_as : List ℕ → Option (ℕ × Cursor) → Parsed
+read_as s (Some (v, c)) = parsed v (drop c.at s)
+read_as s None = nothing
 
-abbrev pub value_of : Read → ℕ
-value_of (Number v c) = v
-value_of Nothing = 0
+abbrev pub value_of : Option (ℕ × Cursor) → ℕ
+value_of (Some (v, c)) = v
+value_of None = 0
 
 pub record Stored (old : List ℕ) (at : ℕ) (s new : List ℕ) (next : ℕ) : Type 0 where
   pub place : next ≡ at + length s

@@ -7,32 +7,21 @@ pub struct Cursor {
     pub at: usize,
 }
 
-// What reading at a cursor finds: a number and the place behind it.
-#[derive(Clone, Copy)]
-pub enum Read {
-    Number(u32, Cursor),
-    Nothing,
-}
-
 // Whether a digit stands at the place.
 pub fn digit_at(s: &[u8], at: usize) -> bool
     ensures { result ≡ starts_digit (drop at s.now) }
 {
-    if s.len() <= at {
-        return false;
+    match s.get(at) {
+        Some(b) => b.is_ascii_digit(),
+        None => false,
     }
-    let b = s[at];
-    48 <= b && b <= 57
 }
 
 // Whether the byte stands at the place.
 pub fn byte_at(s: &[u8], at: usize, b: u8) -> bool
     ensures { result ≡ starts_byte b (drop at s.now) }
 {
-    if s.len() <= at {
-        return false;
-    }
-    s[at] == b
+    s.get(at) == Some(&b)
 }
 
 // Whether a 0 stands at the place, and a digit behind it.

@@ -1,28 +1,27 @@
 -- The loop that finds the end of a first line, the family that the line tells, and that a part of an input that is long enough tells it too. Assumes nothing.
-use mathlib.Core.Bool.{Bool, true, false, not, cond}
+use mathlib.Core.Bool.{Bool, true, false, cond}
 use mathlib.Core.List.{List, [], ◌∷◌, ◌++◌}
 use mathlib.Core.Path.{◌≡◌, refl, ap, sym, ◌∙◌}
 use Prim.Native.Nat.{ℕ, zero, suc, ◌+◌, ◌≤◌, ◌<◌}
 use native.Mathlib.Numerals.{add-one}
 use native.Mathlib.Omega.{arith}
-use lib.Dec.{eqb, leb}
+use lib.Dec.{leb}
 use lib.ListN.{length, take, drop, get_or, drop_of_length-le}
 use lib.Seq.{take-suc, take_all, drop-cons, append_snoc, length-take-le}
 use borrow.Author.Tests.{eq-eqb, ne_eqb, leb-true, leb-false}
 use mathlib.Core.List.{append-nil}
 use Rattle.nets.proofs.Answers.{number-some}
 use Rattle.nets.proofs.Numbers.{family-cleared}
-use Rattle.nets.specs.Networks.{entered_as, no_entry}
+use Rattle.nets.specs.Networks.{entered_as}
 use Rattle.nets.specs.Refusals.{number}
 use Rattle.nets.specs.declared.Net.{Net}
 use Rattle.nets.specs.declared.Refusal.{Refusal}
-use Rattle.nets.specs.declared.Entered.{Entered}
-use Rattle.nets.specs.declared.Entered.TheVariants as entering
 use Rattle.text_decimal.specs.Spans.{leading_of}
 use Rattle.text_either.specs.Either.{read_either, entered_either}
 use Rattle.text_either.specs.First.{in_line, first_line, family_in, first_family}
 use Rattle.text_either.proofs.Reading.{entered_either-no, read_either-long}
 use Rattle.text_either.proofs.RoundTrip.{took}
+use Rattle.std.specs.Prelude.{Result, Ok, Err}
 
 -- What was passed, with what is left, is the first line.
 pub Passed : List ℕ → ℕ → Type 0
@@ -51,13 +50,13 @@ passed-end s at h p =
     (p.0, sym (append-nil (take at s)) ∙ (rw f at p.1))
 
 -- The family of a line, by what it is taken in as.
-pub family-network : {t : Entered} {n : Net} {b : Bool} (l : List ℕ) → t ≡ entering.Network n b → entered_as t ≡ entered_either l → n.family ≡ family_in l
+pub family-network : {t : (Result (Net × Bool) Refusal)} {n : Net} {b : Bool} (l : List ℕ) → t ≡ Ok (n, b) → entered_as t ≡ entered_either l → n.family ≡ family_in l
 unfolding family_in
 family-network {t} {n} {b} l e h =
     let x = took l n b (sym h ∙ ap entered_as e) in
     rw x.reads (ap (λ m. m.family) x.network ∙ family-cleared x.read)
 
-pub family-refused : {t : Entered} {x : Refusal} (l : List ℕ) → t ≡ entering.Refused x → entered_as t ≡ entered_either l → 4 ≡ family_in l
+pub family-refused : {t : (Result (Net × Bool) Refusal)} {x : Refusal} (l : List ℕ) → t ≡ Err x → entered_as t ≡ entered_either l → 4 ≡ family_in l
 unfolding family_in
 family-refused {t} {x} l e h =
     let q : (read_either l).0 ≡ number x = sym (entered_either-no l) ∙ ap (λ p. p.0) (sym h ∙ ap entered_as e) in

@@ -4,12 +4,12 @@ use mathlib.Core.Bool.{Bool, true, false, cond, true≢false}
 use mathlib.Core.List.{List}
 use mathlib.Core.Logic.{◌⊎◌, inl, inr, ⊎_elim}
 use mathlib.Core.Path.{◌≡◌, refl, ap, sym, ◌∙◌}
-use Prim.Native.Nat.{ℕ, ◌+◌, ◌%◌, ◌^◌, ◌≤◌, ◌<◌}
+use Prim.Native.Nat.{ℕ, ◌^◌, ◌≤◌, ◌<◌}
 use native.Mathlib.Omega.{arith}
 use lib.Dec.{eqb, leb}
 use lib.ListN.{length, take}
 use borrow.Author.Tests.{eqb-true, eqb-false, eq-eqb, ne_eqb, leb-true, le-leb, lt-leb}
-use Rattle.nets.proofs.Answers.{answered-granted, number-some}
+use Rattle.nets.proofs.Answers.{answered-granted}
 use Rattle.nets.proofs.Numbers.{refusal_of-is, refusal_of-cleared, cleared-cleared, family-cleared}
 use Rattle.nets.proofs.Strings.{or_cases}
 use Rattle.nets.proofs.TwoWords.{has_bit_past-cleared}
@@ -19,8 +19,6 @@ use Rattle.nets.specs.declared.Net.{Net}
 use Rattle.nets.specs.declared.Refusal.{Refusal}
 use Rattle.nets.specs.declared.Refusal.TheVariants.{ShortBuffer}
 use Rattle.text.specs.Ipv4.{line_as, line_of}
-use Rattle.text.specs.declared.Written.{Written}
-use Rattle.text.specs.declared.Written.TheVariants.{Bytes, Refused}
 use Rattle.text.proofs.Answers.{over-granted, over-determined}
 use Rattle.text.proofs.RoundTrip.{line_as-is, line_as-short, line_of-one}
 use Rattle.text_ipv6_write.specs.Ipv6.{line_as6, line_of6}
@@ -28,6 +26,7 @@ use Rattle.text_ipv6_write.proofs.Lines.{length-line_of6, line_of6-one}
 use Rattle.text_either.specs.Either.{IsEither, read_either, entered_either, either_as, line_either, either_refusal, WroteEither}
 use Rattle.text_either.proofs.Reading.{read_either-accepts, read_either-granted}
 use Rattle.text_either.proofs.Written6.{line_as6-is}
+use Rattle.std.specs.Prelude.{Result, Ok}
 
 -- The families of networks.
 pub families : (n : Net) → refusal_of n ≡ 0 → (n.family ≡ 4) ⊎ (n.family ≡ 6)
@@ -90,13 +89,13 @@ either_refusal-zero n room e = go (eqb (refusal_of n) 0) (leb (length (line_eith
     go false b h g e = absurd (true≢false (sym (eq-eqb (refusal_of n) 0 e) ∙ h))
 
 -- the bytes that a call has written read back, and its report says whether a bit was cut
-pub written-reads : (n : Net) (old new : List ℕ) (k : ℕ) (b : Bool) → WroteEither n old new (Bytes k b)
+pub written-reads : (n : Net) (old new : List ℕ) (k : ℕ) (b : Bool) → WroteEither n old new (Ok (k, b))
     → (entered_either (take k new) ≡ (0, (cleared n, false))) × (b ≡ has_bit_past n)
 written-reads n old new k b w =
     let a = over-granted (either_refusal n (length old)) (line_either n) (has_bit_past n) old new k b w in
     (ap entered_either a.2 ∙ entered_either-line n (either_refusal-zero n (length old) a.0).0, a.3)
 
-pub write-determined : (n : Net) (old new last : List ℕ) (r t : Written) → WroteEither n old new r → WroteEither n old last t → (r ≡ t) × (new ≡ last)
+pub write-determined : (n : Net) (old new last : List ℕ) (r t : Result (ℕ × Bool) Refusal) → WroteEither n old new r → WroteEither n old last t → (r ≡ t) × (new ≡ last)
 write-determined n old new last r t h k = over-determined h k
 
 -- Networks of one family with the same bits are written alike.

@@ -1,5 +1,5 @@
 -- What is written for an IPv6 network is a line of its grammar, and reads back as the network. Assumes nothing.
-use mathlib.Core.Bool.{Bool, true, false, cond, ◌&&◌}
+use mathlib.Core.Bool.{true, false}
 use mathlib.Core.List.{List, [], ◌∷◌, ◌++◌}
 use mathlib.Core.Path.{◌≡◌, refl, ap, sym, ◌∙◌}
 use Prim.Native.Nat.{ℕ, ◌+◌, ◌-◌, ◌^◌, ◌≤◌, ◌<◌}
@@ -9,13 +9,13 @@ use borrow.Author.Tests.{ltb-true}
 use Rattle.nets.proofs.Numbers.{refusal_of-is}
 use Rattle.nets.proofs.Strings.{and_left, and_right}
 use Rattle.nets.proofs.TwoWords.{net_of-value}
-use Rattle.nets.specs.Networks.{width, value, net_words, net_of, address, big_endian, refusal_of}
+use Rattle.nets.specs.Networks.{width, net_of, address, big_endian, refusal_of}
 use Rattle.nets.specs.declared.Net.{Net}
 use Rattle.text_decimal.specs.Spans.{all_of}
-use Rattle.text_decimal.specs.Decimal.{decimal, digits_of}
+use Rattle.text_decimal.specs.Decimal.{digits_of}
 use Rattle.text_decimal.proofs.Spans.{all_append}
 use Rattle.text_decimal.proofs.Writing.{is_number-digits_of, decimal-digits_of}
-use Rattle.text_hex.specs.Hex.{hex_number, hex_digits_of}
+use Rattle.text_hex.specs.Hex.{hex_digits_of}
 use Rattle.text_hex.proofs.Written.{length-hex_digits_of, all_hex_digits-hex_digits_of, hex_number-hex_digits_of}
 use Rattle.text_ipv6_runs.specs.Runs.{is_group}
 use Rattle.text_ipv6_read.specs.Ipv6.{Pieces, group, more, Side, empty, pieces, around, IsAddress, full, shortened, IsLine6}

@@ -7,17 +7,17 @@
 --   line_either n       the line that is written for n: its bits past the length are cleared
 --   either_refusal n k  why n cannot be written to k bytes: 6 or 7 where it is no network, 11 where there is no room, else 0
 --   WroteEither n old new r   the answer r and the bytes new, where n is written over the bytes old
-use Rattle.std.specs.Prelude.{Bool, cond, List, ◌⊎◌, ℕ, eqb, leb, length}
+use Rattle.std.specs.Prelude.{Bool, cond, List, ◌⊎◌, ℕ, eqb, leb, length, Result}
 use Rattle.nets.specs.Networks.{taken_in, refusal_of, cleared, has_bit_past}
 use Rattle.nets.specs.Refusals.{number}
 use Rattle.nets.specs.declared.Net.{Net}
 use Rattle.nets.specs.declared.Refusal.TheVariants.{ShortBuffer}
 use Rattle.text.specs.Ipv4.{IsLine, read_line, line_as}
 use Rattle.text.specs.Answers.{WroteOver}
-use Rattle.text.specs.declared.Written.{Written}
 use Rattle.text_ipv6_read.specs.Ipv6.{IsLine6}
 use Rattle.text_ipv6_read.specs.Reader.{read_line6}
 use Rattle.text_ipv6_write.specs.Ipv6.{line_as6}
+use Rattle.nets.specs.declared.Refusal.{Refusal}
 
 abbrev pub IsEither : List ℕ → Net → Type 0
 IsEither s n = IsLine s n ⊎ IsLine6 s n
@@ -38,5 +38,5 @@ line_either n = either_as (cleared n)
 unfoldable pub either_refusal : Net → ℕ → ℕ
 either_refusal n room = cond (eqb (refusal_of n) 0) (cond (leb (length (line_either n)) room) 0 (number ShortBuffer)) (refusal_of n)
 
-abbrev pub WroteEither : Net → List ℕ → List ℕ → Written → Type 0
+abbrev pub WroteEither : Net → List ℕ → List ℕ → Result (ℕ × Bool) Refusal → Type 0
 WroteEither n old new r = WroteOver (either_refusal n (length old)) (line_either n) (has_bit_past n) old new r

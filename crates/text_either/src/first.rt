@@ -2,20 +2,18 @@
 ghost use Rattle.std.specs.Prelude.{◌≡◌, ◌≤◌, length, take};
 ghost use Rattle.text_either.specs.First.{first_line, first_family};
 
-use nets::{Entered, IPV4};
+use nets::IPV4;
 
 // Where the first line ends.
 pub fn end(input: &[u8]) -> usize
     ensures { (result ≤ length input.now) × (take result input.now ≡ first_line input.now) }
 {
-    let mut at = 0;
-    while at < input.len() {
+    for at in 0..input.len() {
         if input[at] == b'\n' {
             return at;
         }
-        at += 1;
     }
-    at
+    input.len()
 }
 
 // The family of the first line. One that is no network tells none: it is refused in a pool of either family.
@@ -23,9 +21,8 @@ pub fn family(input: &[u8]) -> u8
     ensures { result ≡ first_family input.now }
 {
     let at = end(input);
-    let taken = crate::read_line(&input[..at]);
-    match taken {
-        Entered::Network(net, _) => net.family,
-        Entered::Refused(_) => IPV4,
+    match crate::read_line(&input[..at]) {
+        Ok((net, _)) => net.family,
+        Err(_) => IPV4,
     }
 }

@@ -5,33 +5,29 @@ ghost use Rattle.nets.specs.Networks.{taken_as, entered_as};
 ghost use Rattle.text_decimal.specs.Places.{Stored};
 ghost use Rattle.text_either.specs.Either.{read_either, entered_either, either_as, WroteEither};
 
-use nets::{Entered, IPV4, Net, Refusal, Taken};
-use text::{Written, ipv4};
+use nets::{IPV4, Net, Refusal};
+use text::ipv4;
 use text_ipv6_read::ipv6;
 use text_ipv6_write::ipv6 as written6;
 
 pub mod first;
 
 // The network of a line, with its address as the line has it.
-fn read(line: &[u8]) -> Taken
+fn read(line: &[u8]) -> Result<Net, Refusal>
     ensures { taken_as result ≡ read_either line.now }
 {
-    let t = ipv4::read(line);
-    match t {
-        Taken::Network(n) => Taken::Network(n),
-        Taken::Refused(_) => ipv6::read(line),
+    match ipv4::read(line) {
+        Ok(n) => Ok(n),
+        Err(_) => ipv6::read(line),
     }
 }
 
 // The network of a line, taken in.
-pub fn read_line(line: &[u8]) -> Entered
+pub fn read_line(line: &[u8]) -> Result<(Net, bool), Refusal>
     ensures { entered_as result ≡ entered_either line.now }
 {
-    let t = read(line);
-    match t {
-        Taken::Network(n) => n.to_network(),
-        Taken::Refused(no) => Entered::Refused(no),
-    }
+    let n = read(line)?;
+    n.to_network()
 }
 
 // How many bytes the line of the numbers has, as they stand.
@@ -56,17 +52,12 @@ fn write(net: Net, out: &mut [u8]) -> usize
 }
 
 // Writes the line of a network from the buffer's first byte on, and says how many bytes that took.
-pub fn write_line(net: Net, out: &mut [u8]) -> Written
+pub fn write_line(net: Net, out: &mut [u8]) -> Result<(u32, bool), Refusal>
     ensures { WroteEither net out.old out.new result }
 {
-    let t = net.to_network();
-    match t {
-        Entered::Refused(no) => Written::Refused(no),
-        Entered::Network(n, trimmed) => {
-            if out.len() < length(n) {
-                return Written::Refused(Refusal::ShortBuffer);
-            }
-            Written::Bytes(write(n, out) as u32, trimmed)
-        }
+    let (n, trimmed) = net.to_network()?;
+    if out.len() < length(n) {
+        return Err(Refusal::ShortBuffer);
     }
+    Ok((write(n, out) as u32, trimmed))
 }

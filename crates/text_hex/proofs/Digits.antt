@@ -2,12 +2,13 @@
 use mathlib.Core.Bool.{Bool, true, false, ◌&&◌, ◌||◌}
 use mathlib.Core.List.{List, [], ◌∷◌}
 use mathlib.Core.Logic.{◌⊎◌, inl, inr, ⊎_elim}
-use mathlib.Core.Path.{◌≡◌, refl}
+use mathlib.Core.Path.{◌≡◌, refl, sym}
 use Prim.Native.Nat.{ℕ, ◌+◌, ◌-◌, ◌≤◌, ◌<◌}
 use native.Mathlib.Omega.{arith}
 use lib.Dec.{leb}
 use lib.ListN.{length}
 use borrow.Author.Tests.{leb-true, le-leb, lt-leb}
+use Rattle.std.specs.Char.{is_ascii_hexdigit}
 use Rattle.nets.proofs.Strings.{and_left, and_right, or_cases}
 use Rattle.text_hex.specs.Hex.{within, is_hex_digit, hex_value, hex_number, hex_number_from}
 
@@ -26,6 +27,25 @@ within-past a b c h = go (leb a c)
 
 pub within-before : (a b c : ℕ) → c < a → within a b c ≡ false
 within-before a b c h = rw (lt-leb a c h)
+
+pub within-not : (a b c : ℕ) → (a ≤ c → c ≤ b → ⊥) → within a b c ≡ false
+within-not a b c h = go (within a b c) refl
+  where
+    go : (t : Bool) → within a b c ≡ t → t ≡ false
+    go true e = let k = within-is a b c e in absurd (h k.0 k.1)
+    go false e = refl
+
+-- the library's word for a digit
+pub hexdigit-is : (c : ℕ) → is_ascii_hexdigit c ≡ is_hex_digit c
+unfolding is_hex_digit
+hexdigit-is c = go (within 48 57 c) (within 97 102 c) (within 65 70 c)
+  where
+    go : (x y z : Bool) → ((x || z) || y) ≡ (x || (y || z))
+    go true y z = refl
+    go false true true = refl
+    go false true false = refl
+    go false false true = refl
+    go false false false = refl
 
 -- the three ranges
 pub is_hex_digit-is : (c : ℕ) → is_hex_digit c ≡ true → ((48 ≤ c) × (c ≤ 57)) ⊎ (((97 ≤ c) × (c ≤ 102)) ⊎ ((65 ≤ c) × (c ≤ 70)))
@@ -51,6 +71,9 @@ hex_value-upper c h g = rw (within-past 48 57 c (omega arith), within-before 97 
 pub hex_value-other : (c : ℕ) → within 48 57 c ≡ false → within 97 102 c ≡ false → within 65 70 c ≡ false → hex_value c ≡ 0
 unfolding hex_value
 hex_value-other c e f g = rw (e, f, g)
+
+pub hex_value-none : (c : ℕ) → (48 ≤ c → c ≤ 57 → ⊥) → (97 ≤ c → c ≤ 102 → ⊥) → (65 ≤ c → c ≤ 70 → ⊥) → 0 ≡ hex_value c
+hex_value-none c f g h = sym (hex_value-other c (within-not 48 57 c f) (within-not 97 102 c g) (within-not 65 70 c h))
 
 pub hex_value-most : (c : ℕ) → hex_value c < 16
 unfolding hex_value

@@ -4,18 +4,14 @@ use mathlib.Core.List.{List, [], ◌∷◌, ◌++◌}
 use mathlib.Core.Path.{◌≡◌, refl, ap, sym, ◌∙◌}
 use Prim.Native.Nat.{ℕ, zero, suc, ◌+◌, ◌-◌, ◌*◌, ◌^◌, ◌≤◌, ◌<◌}
 use native.Mathlib.Omega.{arith}
-use lib.Dec.{leb}
 use lib.ListN.{length, get_or, replicate, length-append}
 use borrow.Author.Tests.{le-leb}
 use Rattle.nets.proofs.Answers.{entered_as-one}
 use Rattle.nets.proofs.TwoWords.{net_of-value, in_range-6}
-use Rattle.nets.specs.Networks.{value, net_words, net_of, big_endian, refusal_of, taken_as, no_entry, entered_as, entered}
+use Rattle.nets.specs.Networks.{net_words, net_of, refusal_of, taken_as, no_entry, entered_as, entered}
 use Rattle.nets.specs.Refusals.{number}
 use Rattle.nets.specs.declared.Net.{Net}
 use Rattle.nets.specs.declared.Refusal.{Refusal}
-use Rattle.nets.specs.declared.Taken.{Taken}
-use Rattle.nets.specs.declared.Taken.TheVariants as taken
-use Rattle.nets.specs.declared.Entered.{Entered}
 use Rattle.addresses.proofs.Words.{big_endian-groups}
 use Rattle.text_decimal.specs.Decimal.{decimal}
 use Rattle.text.specs.DecOctet.{is_dec_octet}
@@ -27,11 +23,12 @@ use Rattle.text.proofs.Answers.{taken_in-network, taken_in-refused}
 use Rattle.text_hex.specs.Hex.{hex_number, colon}
 use Rattle.text_hex.proofs.Digits.{hex_number-most}
 use Rattle.text_ipv6_runs.specs.Runs.{is_group}
-use Rattle.text_ipv6_read.specs.Ipv6.{dotted, Pieces, group, quad, more, Side, empty, pieces, around, IsAddress, full, shortened, ipv6, IsLine6}
+use Rattle.text_ipv6_read.specs.Ipv6.{dotted, Pieces, group, quad, more, Side, empty, pieces, IsAddress, full, shortened, ipv6, IsLine6}
 use Rattle.text_ipv6_read.specs.Reader.{read_line6, entered_line6}
 use Rattle.text_ipv6_runs.proofs.Groups.{is_group-is}
 use Rattle.text_ipv6_read.proofs.Dotted.{octet-most}
 use Rattle.text_ipv6_read.proofs.Grammar.{read_line6-accepts, read_line6-refuses}
+use Rattle.std.specs.Prelude.{Result, Ok, Err}
 
 -- Every group has 16 bits.
 pub Small : List ℕ → Type 0
@@ -109,16 +106,16 @@ pub read_line6-granted : (s : List ℕ) (n : Net) → read_line6 s ≡ (0, n) �
 read_line6-granted s n e = is_line6-granted s n ((read_line6-accepts s n).0 e)
 
 -- It is taken in, and what is refused is refused.
-pub entered_line6-network : {t : Taken} {n : Net} (s : List ℕ) (r : Entered) → t ≡ taken.Network n → taken_as t ≡ read_line6 s → entered_as r ≡ entered n
+pub entered_line6-network : {t : (Result Net Refusal)} {n : Net} (s : List ℕ) (r : Result (Net × Bool) Refusal) → t ≡ Ok n → taken_as t ≡ read_line6 s → entered_as r ≡ entered n
     → entered_as r ≡ entered_line6 s
 unfolding entered_line6
 entered_line6-network {t} {n} s r e h k = taken_in-network (read_line6 s) r e h (read_line6-granted s n (sym h ∙ ap taken_as e)).1 k
 
-pub entered_line6-refused : {t : Taken} {x : Refusal} (s : List ℕ) → t ≡ taken.Refused x → taken_as t ≡ read_line6 s → (number x, no_entry) ≡ entered_line6 s
+pub entered_line6-refused : {t : (Result Net Refusal)} {x : Refusal} (s : List ℕ) → t ≡ Err x → taken_as t ≡ read_line6 s → (number x, no_entry) ≡ entered_line6 s
 unfolding entered_line6
 entered_line6-refused s e h = taken_in-refused (read_line6 s) e h
 
-pub read-determined : (s : List ℕ) (r t : Entered) → entered_as r ≡ entered_line6 s → entered_as t ≡ entered_line6 s → r ≡ t
+pub read-determined : (s : List ℕ) (r t : Result (Net × Bool) Refusal) → entered_as r ≡ entered_line6 s → entered_as t ≡ entered_line6 s → r ≡ t
 read-determined s r t e f = entered_as-one r t (e ∙ sym f)
 
 -- No line has more than 49 bytes: six groups of four digits with their colons, a quad of four numbers of three digits, a slash and three digits more.

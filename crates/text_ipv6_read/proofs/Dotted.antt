@@ -3,11 +3,11 @@
 use mathlib.Core.Bool.{Bool, true, false, cond, true≢false}
 use mathlib.Core.List.{List, [], ◌∷◌, ◌++◌, append_assoc}
 use mathlib.Core.Logic.{⊎_elim}
-use mathlib.Core.Path.{◌≡◌, refl, ap, sym, ◌∙◌}
-use Prim.Native.Nat.{ℕ, ◌+◌, ◌*◌, ◌/◌, ◌%◌, ◌≤◌, ◌<◌}
+use mathlib.Core.Path.{◌≡◌, refl, sym, ◌∙◌}
+use Prim.Native.Nat.{ℕ, ◌+◌, ◌*◌, ◌/◌, ◌%◌, ◌≤◌}
 use native.Mathlib.Omega.{arith}
-use lib.Dec.{eqb, leb}
-use borrow.Author.Tests.{le-leb, ne_eqb}
+use lib.Dec.{eqb}
+use borrow.Author.Tests.{ne_eqb}
 use Rattle.nets.proofs.Strings.{and_left, and_right}
 use Rattle.text_decimal.specs.Spans.{all_of, starts_of, behind_of}
 use Rattle.text_decimal.specs.Decimal.{is_digit, decimal, is_number, leading, behind, Parsed, parsed, nothing, and_then, read_number}
@@ -19,7 +19,7 @@ use Rattle.text_decimal.proofs.Numbers.{is_number-is, is_digit-is, read_number-a
 use Rattle.text.proofs.DecOctet.{octet-number, number-octet}
 use Rattle.text.proofs.Reading.{ended_by-other}
 use Rattle.text.proofs.Grammar.{read_next-append, read_next-is, parsed-one, parsed-some}
-use Rattle.text_hex.specs.Hex.{is_hex_digit, within}
+use Rattle.text_hex.specs.Hex.{is_hex_digit}
 use Rattle.text_hex.proofs.Digits.{within-le, is_hex_digit-is}
 use Rattle.text_ipv6_read.specs.Ipv6.{dotted, pair}
 use Rattle.text_ipv6_runs.specs.Runs.{read_dotted}

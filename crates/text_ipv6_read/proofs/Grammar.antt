@@ -4,25 +4,25 @@ use mathlib.Core.Bool.{Bool, true, false, not, cond, ◌&&◌, true≢false}
 use mathlib.Core.List.{List, [], ◌∷◌, ◌++◌, append_assoc, append-nil}
 use mathlib.Core.Logic.{◌↔◌, ◌⊎◌, inl, inr, ⊎_elim}
 use mathlib.Core.Path.{◌≡◌, refl, ap, sym, ◌∙◌}
-use Prim.Native.Nat.{ℕ, ◌+◌, ◌-◌, ◌*◌, ◌≤◌, ◌<◌}
+use Prim.Native.Nat.{ℕ, ◌+◌, ◌-◌, ◌≤◌}
 use native.Mathlib.Omega.{arith}
-use lib.Dec.{eqb, leb}
-use lib.ListN.{length, take, drop, replicate, length-append}
+use lib.Dec.{eqb}
+use lib.ListN.{length, drop, length-append}
 use lib.Seq.{take-length, drop-length, take-append_seam, drop-append_seam}
-use borrow.Author.Tests.{eqb-true, eq-eqb, leb-true, le-leb, not-true}
+use borrow.Author.Tests.{eqb-true, eq-eqb, leb-true, le-leb}
 use Rattle.nets.proofs.Strings.{and_left, and_right}
 use Rattle.nets.specs.declared.Net.{Net}
 use Rattle.text_decimal.specs.Spans.{starts_of}
 use Rattle.text_decimal.specs.Decimal.{decimal, is_number, Parsed, parsed, nothing, read_number}
-use Rattle.text.specs.Ipv4.{slash, joined, IsLine, bad_text, read_line}
+use Rattle.text.specs.Ipv4.{slash, joined, bad_text, read_line}
 use Rattle.text_decimal.specs.Places.{starts_byte}
 use Rattle.text_decimal.proofs.Numbers.{read_number-is}
 use Rattle.text.proofs.Grammar.{read_number-all, bad_text-some, read_line-accepts}
 use Rattle.text_hex.specs.Hex.{is_hex_digit, colon}
 use Rattle.text_ipv6_read.specs.Ipv6.{dotted, Pieces, quad, Side, empty, pieces, around, IsAddress, full, shortened, ipv6, IsLine6}
-use Rattle.text_ipv6_runs.specs.Runs.{Ran, ran, run_from}
-use Rattle.text_ipv6_read.specs.Reader.{Outline, outline, starts_double, behind_run, whole_run, address_from, read_address, is_outline, laid, with_length6, line_from, read_line6}
-use Rattle.text_ipv6_read.proofs.Joined.{stops-slash, stops-double, run-pieces, run-side, Went, run-went}
+use Rattle.text_ipv6_runs.specs.Runs.{run_from}
+use Rattle.text_ipv6_read.specs.Reader.{Outline, outline, starts_double, behind_run, whole_run, read_address, is_outline, laid, with_length6, line_from, read_line6}
+use Rattle.text_ipv6_read.proofs.Joined.{stops-slash, stops-double, run-pieces, run-side, run-went}
 
 -- Groups laid out.
 laid-full : (xs : List ℕ) → length xs ≡ 8 → laid xs (length xs) ≡ xs

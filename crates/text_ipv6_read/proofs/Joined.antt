@@ -1,15 +1,14 @@
 -- Reading a run is reading pieces that colons join: whatever stops behind such pieces, they are read whole; and what is read is such pieces. Assumes nothing.
-use mathlib.Core.Bool.{Bool, true, false, cond, ◌&&◌, true≢false}
+use mathlib.Core.Bool.{Bool, true, false, cond, true≢false}
 use mathlib.Core.List.{List, [], ◌∷◌, ◌++◌, append_assoc, append-nil}
-use mathlib.Core.Logic.{◌⊎◌, inl, inr, ⊎_elim}
 use mathlib.Core.Path.{◌≡◌, refl, ap, sym, ◌∙◌}
-use Prim.Native.Nat.{ℕ, zero, suc, ◌+◌, ◌*◌, ◌/◌, ◌%◌, ◌≤◌, ◌<◌}
+use Prim.Native.Nat.{ℕ, zero, suc, ◌/◌, ◌%◌, ◌≤◌}
 use native.Mathlib.Omega.{arith}
 use lib.Dec.{eqb, leb}
 use lib.ListN.{length, drop}
 use borrow.Author.Tests.{eqb-true, le-leb}
 use Rattle.nets.proofs.Strings.{and_left, and_right}
-use Rattle.text_decimal.specs.Spans.{all_of, starts_of, leading_of}
+use Rattle.text_decimal.specs.Spans.{all_of, starts_of}
 use Rattle.text_decimal.specs.Decimal.{is_digit, decimal, Parsed, parsed, nothing}
 use Rattle.text.specs.DecOctet.{is_dec_octet}
 use Rattle.text.specs.Ipv4.{dot, slash, address}

@@ -1,5 +1,5 @@
 -- The groups of an address, from its runs to its network: the paths of the code. Assumes nothing.
-use mathlib.Core.Bool.{Bool, true, false, not, cond, ◌&&◌}
+use mathlib.Core.Bool.{Bool, true, false, cond, ◌&&◌}
 use mathlib.Core.List.{List, [], ◌∷◌, ◌++◌}
 use mathlib.Core.Path.{◌≡◌, refl, ap, sym, ◌∙◌}
 use Prim.Native.Nat.{ℕ, zero, suc, ◌+◌, ◌-◌, ◌≤◌, ◌<◌}
@@ -12,12 +12,12 @@ use Rattle.nets.specs.declared.Net.{Net}
 use Rattle.nets.proofs.Strings.{and_right}
 use Rattle.text_decimal.specs.Places.{starts_byte}
 use Rattle.text_decimal.proofs.Places.{starts-within}
-use Rattle.text_ipv6_read.specs.Ipv6.{ipv6}
+use Rattle.std.specs.Prelude.{is_some, Some, None}
 use Rattle.text_hex.specs.Hex.{colon}
 use Rattle.text_ipv6_runs.specs.Runs.{Piece, group, quad, none, read_piece, goes_on, Ran, ran, run_on, run_from}
-use Rattle.text_ipv6_read.specs.Reader.{Outline, outline, starts_double, behind_run, whole_run, address_from, read_address, is_outline, laid}
-use Rattle.text_ipv6_runs.specs.Places.{run_words, groups_of, ran_as, Fits}
-use Rattle.text_ipv6_read.specs.Places.{outline_words, placed, outline_as, Sized}
+use Rattle.text_ipv6_read.specs.Reader.{outline, starts_double, behind_run, whole_run, read_address, is_outline, laid}
+use Rattle.text_ipv6_runs.specs.Places.{is_quad, groups_of, ran_as, Fits}
+use Rattle.text_ipv6_read.specs.Places.{outline_words, placed, gap_of, outline_as, Sized}
 use Rattle.text_ipv6_runs.specs.declared.runs.Run.{Run}
 use Rattle.text_ipv6_read.specs.declared.outlines.Outline as declared
 
@@ -76,12 +76,12 @@ counted : (r : Run) → Fits r → length (groups_of r) ≡ r.count
 counted r f = length-take-le r.count r.groups (omega (arith, f.places, f.within))
 
 pub outline-whole : (s : List ℕ) (r : Run) → Fits r → (whole_run (ran_as s r) ≡ read_address s)
-    → let o = outline_words r.groups r.count false r.count r.at in Sized o × (outline_as s o ≡ read_address s)
+    → let o = outline_words r.groups r.count None r.at in Sized o × (outline_as s o ≡ read_address s)
 outline-whole s r f e = (record { places = f.places; within = f.within; gap = omega arith }, rw (counted r f) at e)
 
-pub outline-behind : (s : List ℕ) (r t : Run) → Fits r → Fits t → r.quad ≡ false → ran_as s r ≡ run_from 8 [] s → starts_double (drop r.at s) ≡ true
+pub outline-behind : (s : List ℕ) (r t : Run) → Fits r → Fits t → is_quad r.stand ≡ false → ran_as s r ≡ run_from 8 [] s → starts_double (drop r.at s) ≡ true
     → ran_as s t ≡ run_from (8 - r.count) (groups_of r) (drop (r.at + 2) s)
-    → let o = outline_words t.groups t.count true r.count t.at in Sized o × (outline_as s o ≡ read_address s)
+    → let o = outline_words t.groups t.count (Some r.count) t.at in Sized o × (outline_as s o ≡ read_address s)
 outline-behind s r t f g q e d h =
     let l = run_from-longer (8 - r.count) (groups_of r) (drop (r.at + 2) s) in
     let k : r.count ≤ t.count = omega (arith, counted r f, counted t g, ap (λ x. length x.groups) h) in
@@ -92,7 +92,7 @@ outline-behind s r t f g q e d h =
     )
 
 -- Whether it is whole, by the count.
-pub is_outline-placed : (s : List ℕ) (o : declared.Outline) → Sized o → cond o.short (leb o.count 7) (eqb o.count 8) ≡ is_outline (outline_as s o)
+pub is_outline-placed : (s : List ℕ) (o : declared.Outline) → Sized o → cond (is_some o.gap) (leb o.count 7) (eqb o.count 8) ≡ is_outline (outline_as s o)
 unfolding is_outline
 is_outline-placed s o z = rw (length-take-le o.count o.groups (omega (arith, z.places, z.within)))
 
@@ -128,18 +128,18 @@ module _ (o : declared.Outline) (i : ℕ) (z : Sized o) (h : i < 8) where
   count-is : length (placed o) ≡ o.count
   count-is = length-take-le o.count o.groups (omega (arith, z.places, z.within))
 
-  pub group-front : i < o.gap → get_or o.groups i 0 ≡ get_or (laid (placed o) o.gap) i 0
+  pub group-front : i < (gap_of o) → get_or o.groups i 0 ≡ get_or (laid (placed o) (gap_of o)) i 0
   group-front k =
-      sym (laid-front (placed o) o.gap i (omega (arith, count-is, z.gap)) (omega (arith, count-is, z.within)) k ∙ get_or-take o.count o.groups i 0 (omega (arith, z.gap)))
+      sym (laid-front (placed o) (gap_of o) i (omega (arith, count-is, z.gap)) (omega (arith, count-is, z.within)) k ∙ get_or-take o.count o.groups i 0 (omega (arith, z.gap)))
 
-  pub group-zero : o.gap ≤ i → i < o.gap + (8 - o.count) → 0 ≡ get_or (laid (placed o) o.gap) i 0
+  pub group-zero : (gap_of o) ≤ i → i < (gap_of o) + (8 - o.count) → 0 ≡ get_or (laid (placed o) (gap_of o)) i 0
   group-zero k m =
-      sym (laid-zero (placed o) o.gap i (omega (arith, count-is, z.gap)) (omega (arith, count-is, z.within)) k (rw count-is m))
+      sym (laid-zero (placed o) (gap_of o) i (omega (arith, count-is, z.gap)) (omega (arith, count-is, z.within)) k (rw count-is m))
 
-  pub group-behind : o.gap + (8 - o.count) ≤ i → get_or o.groups (i - (8 - o.count)) 0 ≡ get_or (laid (placed o) o.gap) i 0
+  pub group-behind : (gap_of o) + (8 - o.count) ≤ i → get_or o.groups (i - (8 - o.count)) 0 ≡ get_or (laid (placed o) (gap_of o)) i 0
   group-behind k =
       sym (
-      laid-behind (placed o) o.gap i (omega (arith, count-is, z.gap)) (omega (arith, count-is, z.within)) (rw count-is k)
+      laid-behind (placed o) (gap_of o) i (omega (arith, count-is, z.gap)) (omega (arith, count-is, z.within)) (rw count-is k)
       ∙ rw count-is (get_or-take o.count o.groups (i - (8 - o.count)) 0 (omega (arith, z.within)))
       )
 

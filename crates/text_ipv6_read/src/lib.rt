@@ -3,18 +3,15 @@ ghost use Rattle.std.specs.Prelude.{◌≡◌};
 ghost use Rattle.nets.specs.Networks.{entered_as};
 ghost use Rattle.text_ipv6_read.specs.Reader.{entered_line6};
 
-use nets::{Entered, Taken};
+use nets::{Net, Refusal};
 
 pub mod ipv6;
 mod outlines;
 
 // The network of a line, taken in.
-pub fn read_line(line: &[u8]) -> Entered
+pub fn read_line(line: &[u8]) -> Result<(Net, bool), Refusal>
     ensures { entered_as result ≡ entered_line6 line.now }
 {
-    let t = ipv6::read(line);
-    match t {
-        Taken::Network(n) => n.to_network(),
-        Taken::Refused(no) => Entered::Refused(no),
-    }
+    let n = ipv6::read(line)?;
+    n.to_network()
 }

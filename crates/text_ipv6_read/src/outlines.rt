@@ -1,8 +1,8 @@
 // The groups of an address up to a double colon and behind it, and the network that they make.
-ghost use Rattle.std.specs.Prelude.{true, false, cond, ◌≡◌, ◌<◌, eqb, leb, drop, get_or};
+ghost use Rattle.std.specs.Prelude.{cond, ◌≡◌, ◌<◌, eqb, leb, drop, get_or, is_some, Some, None};
 ghost use Rattle.text_ipv6_read.specs.Ipv6.{ipv6};
 ghost use Rattle.text_ipv6_read.specs.Reader.{starts_double, read_address, laid};
-ghost use Rattle.text_ipv6_read.specs.Places.{outline_words, placed, Sized, outline_as};
+ghost use Rattle.text_ipv6_read.specs.Places.{outline_words, placed, gap_of, Sized, outline_as};
 
 use addresses::groups_to_network;
 use nets::Net;
@@ -10,13 +10,12 @@ use text_decimal::cursor::byte_at;
 use text_ipv6_runs::runs;
 use text_ipv6_runs::runs::Run;
 
-// The groups and how many; whether a double colon stands among them, and behind how many; and the place behind the address.
+// The groups and how many; behind how many of them a double colon stands, if one does; and the place behind the address.
 #[derive(Clone, Copy)]
 pub struct Outline {
     pub groups: [u16; 8],
     pub count: usize,
-    pub short: bool,
-    pub gap: usize,
+    pub gap: Option<usize>,
     pub at: usize,
 }
 
@@ -29,28 +28,26 @@ fn double_at(s: &[u8], at: usize) -> bool
 
 // A run that is the whole address.
 fn whole(r: Run) -> Outline
-    ensures { result ≡ outline_words r.groups r.count false r.count r.at }
+    ensures { result ≡ outline_words r.groups r.count None r.at }
 {
     let groups = r.groups;
     Outline {
         groups,
         count: r.count,
-        short: false,
-        gap: r.count,
+        gap: None,
         at: r.at,
     }
 }
 
 // A run behind the double colon that follows so many groups.
 fn behind(gap: usize, r: Run) -> Outline
-    ensures { result ≡ outline_words r.groups r.count true gap r.at }
+    ensures { result ≡ outline_words r.groups r.count (Some gap) r.at }
 {
     let groups = r.groups;
     Outline {
         groups,
         count: r.count,
-        short: true,
-        gap,
+        gap: Some(gap),
         at: r.at,
     }
 }
@@ -60,7 +57,7 @@ pub fn read(s: &[u8]) -> Outline
     ensures { Sized result × (outline_as s.now result ≡ read_address s.now) }
 {
     let front = runs::read(s, [0; 8], 0, 0);
-    if front.quad {
+    if front.stand.is_quad() {
         return whole(front);
     }
     let at = front.at;
@@ -74,25 +71,26 @@ pub fn read(s: &[u8]) -> Outline
 
 // Whether the groups make an address: eight of them, or at most seven around a double colon.
 pub fn is_whole(o: Outline) -> bool
-    ensures { result ≡ cond o.short (leb o.count 7) (eqb o.count 8) }
+    ensures { result ≡ cond (is_some o.gap) (leb o.count 7) (eqb o.count 8) }
 {
-    if o.short {
-        return o.count <= 7;
+    match o.gap {
+        Some(_) => o.count <= 7,
+        None => o.count == 8,
     }
-    o.count == 8
 }
 
 // Group i of the address.
 fn group_at(o: Outline, i: usize) -> u16
     requires { Sized o × (i < 8) }
-    ensures { result ≡ get_or (laid (placed o) o.gap) i 0 }
+    ensures { result ≡ get_or (laid (placed o) (gap_of o)) i 0 }
 {
     let groups = o.groups;
-    if i < o.gap {
+    let gap = o.gap.unwrap_or(o.count);
+    if i < gap {
         return groups[i];
     }
     let zeros = 8 - o.count;
-    if i < o.gap + zeros {
+    if i < gap + zeros {
         return 0;
     }
     groups[i - zeros]
@@ -101,18 +99,19 @@ fn group_at(o: Outline, i: usize) -> u16
 // The network of the address and a length.
 pub fn network(o: Outline, len: u8) -> Net
     requires { Sized o }
-    ensures { result ≡ ipv6 (laid (placed o) o.gap) len }
+    ensures { result ≡ ipv6 (laid (placed o) (gap_of o)) len }
 {
-    let mut n = groups_to_network([
-        group_at(o, 0),
-        group_at(o, 1),
-        group_at(o, 2),
-        group_at(o, 3),
-        group_at(o, 4),
-        group_at(o, 5),
-        group_at(o, 6),
-        group_at(o, 7),
-    ]);
-    n.len = len;
-    n
+    Net {
+        len,
+        ..groups_to_network([
+            group_at(o, 0),
+            group_at(o, 1),
+            group_at(o, 2),
+            group_at(o, 3),
+            group_at(o, 4),
+            group_at(o, 5),
+            group_at(o, 6),
+            group_at(o, 7),
+        ])
+    }
 }

@@ -1,9 +1,8 @@
 -- The paths through the functions that read a piece: what each finds, by what the function that it calls has found. Assumes nothing.
-use mathlib.Core.Bool.{Bool, true, false, cond, ◌&&◌}
-use mathlib.Core.List.{List, [], ◌∷◌}
-use mathlib.Core.Path.{◌≡◌, refl, sym, ◌∙◌}
-use Prim.Native.Nat.{ℕ, suc, ◌+◌, ◌-◌, ◌*◌, ◌≤◌, ◌<◌}
-use native.Mathlib.Numerals.{add-one}
+use mathlib.Core.Bool.{true, false, cond}
+use mathlib.Core.List.{List}
+use mathlib.Core.Path.{◌≡◌, refl, ap, sym, ◌∙◌}
+use Prim.Native.Nat.{ℕ, ◌+◌, ◌-◌, ◌*◌, ◌≤◌, ◌<◌}
 use native.Mathlib.Omega.{arith}
 use lib.Dec.{leb}
 use lib.ListN.{length, drop}
@@ -15,7 +14,10 @@ use Rattle.text.specs.Ipv4.{dot, read_next}
 use Rattle.text_decimal.specs.Places.{starts_byte}
 use Rattle.text_decimal.proofs.Places.{starts-within}
 use Rattle.text_hex.specs.Hex.{is_hex_digit, colon}
-use Rattle.text_ipv6_runs.specs.Runs.{read_group, read_dotted, Piece, group, quad, none, piece_of, read_piece, goes_on}
+use Rattle.std.specs.Prelude.{Option}
+use Rattle.text_ipv6_runs.specs.Places.{piece_as}
+use Rattle.text_ipv6_runs.specs.declared.pieces.Found.{Found}
+use Rattle.text_ipv6_runs.specs.Runs.{read_group, read_dotted, Piece, group, quad, none, read_piece, goes_on}
 
 -- Four numbers: the first three, each ended by a dot, then the last.
 abbrev pub three : List ℕ → Parsed
@@ -41,7 +43,10 @@ room-two k p h = rw (le-leb 2 (8 - k) (omega arith))
 pub room-none : (k : ℕ) (p : Parsed) → 6 < k → nothing ≡ cond (leb 2 (8 - k)) p nothing
 room-none k p h = rw (lt-leb 2 (8 - k) (omega arith))
 
--- A piece, by what was read.
+-- A piece, by the answer, and by what was read.
+pub found : (s : List ℕ) {r y : Option Found} {x : Piece} → r ≡ y → piece_as s r ≡ x → piece_as s y ≡ x
+found s e h = sym (ap (piece_as s) e) ∙ h
+
 module _ (k : ℕ) (s : List ℕ) where
   pub read_piece-quad : (v : ℕ) (t : List ℕ) → parsed v t ≡ cond (leb 2 k) (read_dotted s) nothing → quad v t ≡ read_piece k s
   unfolding read_piece

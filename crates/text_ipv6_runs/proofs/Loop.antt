@@ -1,7 +1,7 @@
 -- The loop that reads a group: what is still to be read, behind the digits that were, completes the group. Assumes nothing.
-use mathlib.Core.Bool.{Bool, true, false, cond, ◌&&◌}
-use mathlib.Core.List.{List, [], ◌∷◌}
-use mathlib.Core.Path.{◌≡◌, refl, sym, ◌∙◌}
+use mathlib.Core.Bool.{true, false, cond, ◌&&◌}
+use mathlib.Core.List.{List, ◌∷◌}
+use mathlib.Core.Path.{◌≡◌, sym, ◌∙◌}
 use Prim.Native.Nat.{ℕ, suc, ◌+◌, ◌-◌, ◌*◌, ◌^◌, ◌≤◌, ◌<◌}
 use native.Mathlib.Nat.{zero-add, pow-suc, pow-le-pow_right}
 use native.Mathlib.Numerals.{add-one}
@@ -14,7 +14,7 @@ use Rattle.text_decimal.specs.Spans.{starts_of, leading_of, behind_of}
 use Rattle.text_decimal.specs.Decimal.{Parsed, parsed, nothing}
 use Rattle.text_decimal.proofs.Spans.{all-leading, leading-none, behind-none}
 use Rattle.text_decimal.proofs.Places.{starts_of-at}
-use Rattle.text_hex.specs.Hex.{is_hex_digit, hex_value, all_hex_digits, hex_number_from}
+use Rattle.text_hex.specs.Hex.{is_hex_digit, hex_value, hex_number_from}
 use Rattle.text_hex.proofs.Digits.{hex_value-most}
 use Rattle.text_ipv6_runs.specs.Runs.{is_group}
 use Rattle.text_ipv6_runs.specs.Runs.{read_group}

@@ -1,39 +1,57 @@
 // Groups that colons join, as far as they go.
-ghost use Rattle.std.specs.Prelude.{true, false, ◌≡◌, ◌+◌, ◌-◌, ◌/◌, ◌%◌, ◌≤◌, ◌<◌, length, take, drop, set};
+ghost use Rattle.std.specs.Prelude.{true, ◌≡◌, ◌+◌, ◌-◌, ◌/◌, ◌%◌, ◌≤◌, ◌<◌, length, take, drop, set};
 ghost use Rattle.text_ipv6_runs.specs.Runs.{run_from};
-ghost use Rattle.text_ipv6_runs.specs.Places.{run_words, Fits, ran_as, Stepped};
+ghost use Rattle.text_ipv6_runs.specs.Places.{run_words, is_open, is_quad, Fits, ran_as, Stepped};
+ghost use Rattle.text_ipv6_runs.specs.declared.runs.Stand.TheVariants.{Ended, Quad};
 
 use crate::pieces;
 use crate::pieces::Found;
 
-// The groups so far and how many, whether a quad ended them, whether a piece may follow, and where.
+// How a run stands: a piece may follow, none does, or a quad ended it.
+#[derive(Clone, Copy, Debug, PartialEq, Eq)]
+pub enum Stand {
+    Open,
+    Ended,
+    Quad,
+}
+
+impl Stand {
+    fn is_open(self) -> bool
+        ensures { result ≡ is_open self }
+    {
+        matches!(self, Stand::Open)
+    }
+
+    pub fn is_quad(self) -> bool
+        ensures { result ≡ is_quad self }
+    {
+        matches!(self, Stand::Quad)
+    }
+}
+
+// The groups so far and how many, how the run stands, and the place behind it.
 #[derive(Clone, Copy)]
 pub struct Run {
     pub groups: [u16; 8],
     pub count: usize,
-    pub quad: bool,
-    pub more: bool,
+    pub stand: Stand,
     pub at: usize,
 }
 
 // No piece follows.
 fn stopped(r: Run) -> Run
-    ensures { result ≡ run_words r.groups r.count false false r.at }
+    ensures { result ≡ run_words r.groups r.count Ended r.at }
 {
-    let groups = r.groups;
     Run {
-        groups,
-        count: r.count,
-        quad: false,
-        more: false,
-        at: r.at,
+        stand: Stand::Ended,
+        ..r
     }
 }
 
 // One group more, and the place behind it.
-fn grown(r: Run, x: u16, at: usize, more: bool) -> Run
+fn grown(r: Run, x: u16, at: usize, stand: Stand) -> Run
     requires { r.count < 8 }
-    ensures { result ≡ run_words (set r.groups r.count x) (r.count + 1) false more at }
+    ensures { result ≡ run_words (set r.groups r.count x) (r.count + 1) stand at }
 {
     let mut groups = r.groups;
     let count = r.count;
@@ -41,8 +59,7 @@ fn grown(r: Run, x: u16, at: usize, more: bool) -> Run
     Run {
         groups,
         count: count + 1,
-        quad: false,
-        more,
+        stand,
         at,
     }
 }
@@ -50,7 +67,7 @@ fn grown(r: Run, x: u16, at: usize, more: bool) -> Run
 // The two groups of a quad, and the place behind it: the last piece.
 fn ended(r: Run, v: u32, at: usize) -> Run
     requires { r.count < 7 }
-    ensures { result ≡ run_words (set (set r.groups r.count (v / 65536)) (r.count + 1) (v % 65536)) (r.count + 2) true false at }
+    ensures { result ≡ run_words (set (set r.groups r.count (v / 65536)) (r.count + 1) (v % 65536)) (r.count + 2) Quad at }
 {
     let mut groups = r.groups;
     let count = r.count;
@@ -59,15 +76,14 @@ fn ended(r: Run, v: u32, at: usize) -> Run
     Run {
         groups,
         count: count + 2,
-        quad: true,
-        more: false,
+        stand: Stand::Quad,
         at,
     }
 }
 
 // One piece more, if one stands there.
 fn step(s: &[u8], r: Run) -> Run
-    requires { Fits r × (r.more ≡ true) }
+    requires { Fits r × (is_open r.stand ≡ true) }
     ensures { Stepped s.now r result }
 {
     let count = r.count;
@@ -75,15 +91,16 @@ fn step(s: &[u8], r: Run) -> Run
     if 8 <= count {
         return stopped(r);
     }
-    let p = pieces::piece(s, at, count);
+    let Some(p) = pieces::piece(s, at, count) else {
+        return stopped(r);
+    };
     match p {
-        Found::Nothing => stopped(r),
         Found::Quad(v, behind) => ended(r, v, behind),
         Found::Group(x, behind) => {
             if pieces::goes_on(s, behind) {
-                return grown(r, x, behind + 1, true);
+                return grown(r, x, behind + 1, Stand::Open);
             }
-            grown(r, x, behind, false)
+            grown(r, x, behind, Stand::Ended)
         }
     }
 }
@@ -96,11 +113,10 @@ pub fn read(s: &[u8], groups: [u16; 8], count: usize, at: usize) -> Run
     let mut r = Run {
         groups,
         count,
-        quad: false,
-        more: true,
+        stand: Stand::Open,
         at,
     };
-    while r.more {
+    while r.stand.is_open() {
         r = step(s, r);
     }
     r

@@ -16,10 +16,8 @@ pub fn length(g: [u16; 8], from: usize, to: usize) -> usize
         return 0;
     }
     let mut n = group::length(g[from]);
-    let mut i = from + 1;
-    while i < to {
+    for i in from + 1..to {
         n += 1 + group::length(g[i]);
-        i += 1;
     }
     n
 }
@@ -33,11 +31,9 @@ pub fn put(out: &mut [u8], at: usize, g: [u16; 8], from: usize, to: usize) -> us
         return at;
     }
     let mut next = group::put(out, at, g[from]);
-    let mut i = from + 1;
-    while i < to {
+    for i in from + 1..to {
         out[next] = b':';
         next = group::put(out, next + 1, g[i]);
-        i += 1;
     }
     next
 }

@@ -38,11 +38,9 @@ fn chosen(k: usize, n: usize, behind: Run) -> Run
 pub fn longest(g: [u16; 8]) -> Run
     ensures { run_of result ≡ longest g }
 {
-    let mut k: usize = 8;
-    let mut here: usize = 0;
+    let mut here = 0;
     let mut best = Run { at: 8, count: 0 };
-    while 0 < k {
-        k -= 1;
+    for k in (0..8).rev() {
         here = counted(g[k], here);
         best = chosen(k, here, best);
     }

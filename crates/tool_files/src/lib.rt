@@ -13,5 +13,5 @@ pub use crate::opening::{Opened, PATH, is_dash, open_source};
 pub use crate::reading::read_full;
 pub use crate::room::{BYTES, NODES, ROWS, WORDS};
 pub use crate::saying::{say, say_failed, say_refused, say_refused_line};
-pub use crate::source::{Source, argument, has_one, has_two, read_source};
+pub use crate::source::{argument, has_one, has_two, read_source};
 pub use crate::writing::write_file;

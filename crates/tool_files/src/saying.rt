@@ -1,4 +1,5 @@
 // Messages on standard error, a line each. The status of a program tells nothing: one that says nothing has done its work, and one that says a line has not.
+use nets::Refusal;
 use std::io;
 
 // Writes to standard error. Where that fails there is nothing left to say it to.
@@ -6,44 +7,24 @@ pub fn say(rt: &HostRuntime, text: &[u8]) {
     let _ = rt.stderr().write_all(text);
 }
 
-// The name of a refusal's number.
-fn name(no: u8) -> &'static str {
-    match no {
-        1 => "BadSetup",
-        2 => "Damaged",
-        3 => "NoSet",
-        4 => "BadText",
-        5 => "BadFile",
-        6 => "WrongFamily",
-        7 => "BadNetwork",
-        8 => "Occupied",
-        9 => "OverLimit",
-        10 => "NoRoom",
-        11 => "ShortBuffer",
-        12 => "BadRange",
-        13 => "BadShare",
-        _ => "NotPublic",
-    }
-}
-
-// The end of a line about a refusal: its name, its number, and where the table stands.
+// The end of a line about a refusal: its name, its number, and where the table stands. A number that no refusal has goes by the name of the last.
 fn refusal(rt: &HostRuntime, no: u8) {
-    let name = name(no);
+    let name = Refusal::try_from(no).unwrap_or(Refusal::NotPublic);
     let _ = eprintln!(rt; "{name} ({no} in docs/REFUSALS.md)");
 }
 
-// The program's call is refused.
-pub fn say_refused(rt: &HostRuntime, program: &[u8], no: u8) {
+// The program's call is refused, with a refusal or its number.
+pub fn say_refused<N: Into<u8>>(rt: &HostRuntime, program: &[u8], no: N) {
     say(rt, program);
     say(rt, b": ");
-    refusal(rt, no);
+    refusal(rt, no.into());
 }
 
-// A line of the program's input is refused.
-pub fn say_refused_line(rt: &HostRuntime, program: &[u8], number: u64, no: u8) {
+// A line of the program's input is refused, with a refusal or its number.
+pub fn say_refused_line<N: Into<u8>>(rt: &HostRuntime, program: &[u8], number: u64, no: N) {
     say(rt, program);
     let _ = eprint!(rt; ": line {number} refused: ");
-    refusal(rt, no);
+    refusal(rt, no.into());
 }
 
 // The text of an error. The library writes that of the system's with its number behind it, which is left out here.

@@ -1,7 +1,7 @@
 // A file that is read whole.
 ghost use Rattle.std.specs.Counts.{IsPrefixLen};
 ghost use Rattle.std.specs.Io.{ReadsAtMost};
-ghost use Rattle.std.specs.Prelude.{◌≤◌};
+ghost use Rattle.std.specs.Prelude.{IfSome, ◌≤◌};
 
 use crate::opening::{ENAMETOOLONG, Opened, PATH, open_source};
 use crate::reading::read_full;
@@ -9,18 +9,6 @@ use crate::saying::{say_failed, say_long};
 use std::env::{Env, FillError};
 use std::io;
 use std::io::Read;
-
-// How many bytes the file has; or it is not read, and standard error has said why.
-#[derive(Clone, Copy)]
-pub struct Source {
-    pub whole: bool,
-    pub bytes: usize,
-}
-
-const NOTHING: Source = Source {
-    whole: false,
-    bytes: 0,
-};
 
 // The system's number for an argument that is missing.
 const EINVAL: i32 = 22;
@@ -61,7 +49,7 @@ fn past(file: &mut Opened) -> io::Result<usize> {
     file.read(&mut one)
 }
 
-// The file of so many bytes, if none comes behind them, where there is room for no more than `most`.
+// The bytes of the file, if none comes behind them, where there is room for no more than `most`. None where that was said.
 fn ended(
     rt: &HostRuntime,
     program: &[u8],
@@ -69,21 +57,18 @@ fn ended(
     path: &[u8],
     n: usize,
     most: usize,
-) -> Source
-    ensures { result.bytes ≤ n }
+) -> Option<usize>
+    ensures { IfSome result (λ bytes. bytes ≤ n) }
 {
     match past(file) {
-        Ok(0) => Source {
-            whole: true,
-            bytes: n,
-        },
+        Ok(0) => Some(n),
         Ok(_) => {
             say_long(rt, program, most);
-            NOTHING
+            None
         }
         Err(e) => {
             say_failed(rt, program, path, &e);
-            NOTHING
+            None
         }
     }
 }
@@ -95,41 +80,42 @@ fn read(
     file: &mut Opened,
     path: &[u8],
     bytes: &mut [u8],
-) -> Source
-    ensures { IsPrefixLen result.bytes bytes.new }
+) -> Option<usize>
+    ensures { IfSome result (λ n. IsPrefixLen n bytes.new) }
 {
     match read_full(file, bytes) {
         Ok(n) => ended(rt, program, file, path, n, bytes.len()),
         Err(e) => {
             say_failed(rt, program, path, &e);
-            NOTHING
+            None
         }
     }
 }
 
-// Reads the file that the argument at a place names, into bytes that are lent. It may have no more than these.
+// Reads the file that the argument at a place names, into bytes that are lent. It may have no more than these. How many bytes it has, or None where it is not
+// read, and standard error has said why.
 pub fn read_source(
     rt: &HostRuntime,
     program: &[u8],
     place: usize,
     what: &[u8],
     bytes: &mut [u8],
-) -> Source
-    ensures { IsPrefixLen result.bytes bytes.new }
+) -> Option<usize>
+    ensures { IfSome result (λ n. IsPrefixLen n bytes.new) }
 {
     let mut path = [0u8; PATH];
     let n = match argument(rt, place, &mut path) {
         Ok(n) => n,
         Err(e) => {
             say_failed(rt, program, what, &e);
-            return NOTHING;
+            return None;
         }
     };
     match open_source(rt, &path[..n]) {
         Ok(mut file) => read(rt, program, &mut file, &path[..n], bytes),
         Err(e) => {
             say_failed(rt, program, &path[..n], &e);
-            NOTHING
+            None
         }
     }
 }

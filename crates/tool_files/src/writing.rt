@@ -8,23 +8,13 @@ use std::fs::{File, OpenOptions};
 use std::io::{ErrorKind, Seek, SeekFrom, Write};
 use std::{fs, io, process, str};
 
-fn least(a: usize, b: usize) -> usize
-    ensures { (result ≤ a) × (result ≤ b) }
-{
-    if a < b { a } else { b }
-}
-
 // Puts the text into the name from a place on, as far as there is room, and answers the place behind it.
 fn append(name: &mut [u8], at: usize, text: &[u8]) -> usize
     requires { at ≤ length name.old }
     ensures { IsPrefixLen result name.new }
 {
-    let n = least(text.len(), name.len() - at);
-    let mut i = 0;
-    while i < n {
-        name[at + i] = text[i];
-        i += 1;
-    }
+    let n = text.len().min(name.len() - at);
+    name[at..at + n].copy_from_slice(&text[..n]);
     at + n
 }
 

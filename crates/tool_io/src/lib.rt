@@ -3,4 +3,4 @@
 
 mod reading;
 
-pub use crate::reading::{Input, Lines, read_lines};
+pub use crate::reading::{Lines, LinesError, read_lines};

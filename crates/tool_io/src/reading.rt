@@ -1,5 +1,6 @@
 // Reading lines from an open file.
 use lines::Reader;
+use nets::Refusal;
 use std::io;
 use std::io::Read;
 use text_either::first::family;
@@ -11,80 +12,63 @@ const HEAD: usize = 50;
 // The bytes of a piece of the input.
 const PIECE: usize = 65536;
 
-// What became of the input: each line's network is added, and so many lines were trimmed, a set bit past the length being cut; or the number of the first refused
-// line, from 1 on, and its refusal; or it cannot be read, and why.
+// Why the lines did not all come in: the first that is refused, by its number from 1 on, or that the input cannot be read.
 #[derive(Clone, Copy)]
-pub enum Input {
-    Added(u64),
-    Refused(u64, u8),
+pub enum LinesError {
+    Refused(u64, Refusal),
     Unreadable(io::Error),
 }
 
-// The family of the first line, and what became of the input.
+impl From<io::Error> for LinesError {
+    fn from(error: io::Error) -> LinesError {
+        LinesError::Unreadable(error)
+    }
+}
+
+// The family of the first line; and each line's network is added, of which so many lines were trimmed, a set bit past the length being cut.
 #[derive(Clone, Copy)]
 pub struct Lines {
     pub family: u8,
-    pub input: Input,
+    pub trimmed: u64,
 }
 
-// Where the reading is after one more piece of the input: got is how many bytes came, 0 at its end.
-#[derive(Clone, Copy)]
-struct Turn {
-    reader: Reader,
-    got: usize,
-}
-
-// Reads one piece. It is a large one, since each is begun with a check of the pool.
-fn read_some<R: Read>(from: &mut R, pool: &mut [u32], r: Reader) -> io::Result<Turn> {
+// Reads to the end of the input or to the first refused line, in large pieces, since each is begun with a check of the pool. A proved loop has to end, and
+// nothing says that the input does: the loop has as many turns as no run uses up.
+fn read_all<R: Read>(from: &mut R, pool: &mut [u32], start: Reader) -> io::Result<Reader> {
     let mut buf = [0u8; PIECE];
-    let got = from.read(&mut buf)?;
-    let reader = lines::feed(pool, r, &buf[..got]);
-    Ok(Turn { reader, got })
-}
-
-// Reads to the end of the input or to the first refused line. A proved loop has to end, and nothing says that the input does: the loop counts its turns down,
-// from a number that no run uses up.
-fn read_all<R: Read>(from: &mut R, pool: &mut [u32], start: Reader) -> io::Result<Turn> {
-    let mut turn = read_some(from, pool, start)?;
-    let mut turns = u64::MAX;
-    while turns > 0 && turn.got > 0 && turn.reader.no == 0 {
-        let r = turn.reader;
-        turn = read_some(from, pool, r)?;
-        turns -= 1;
-    }
-    Ok(turn)
-}
-
-// What the end of the input makes of it.
-fn end_lines(pool: &mut [u32], last: Reader) -> Input {
-    let r = lines::finish(pool, last);
-    if r.no != 0 {
-        return Input::Refused(r.number, r.no);
-    }
-    Input::Added(r.trimmed)
-}
-
-// Adds the networks of the lines to set 0, up to the first that is refused; those of the head first.
-fn add_lines<R: Read>(from: &mut R, pool: &mut [u32], head: &[u8]) -> Input {
-    let start = lines::feed(pool, lines::start(), head);
-    match read_all(from, pool, start) {
-        Ok(turn) => end_lines(pool, turn.reader),
-        Err(e) => Input::Unreadable(e),
-    }
-}
-
-// Lays out a pool of one set, whose share and limit are all its nodes, for the family of the first line, and adds the networks of the lines to it.
-pub fn read_lines<R: Read>(from: &mut R, pool: &mut [u32], nodes: u32) -> Lines {
-    let mut head = [0u8; HEAD];
-    let n = match read_full(from, &mut head) {
-        Ok(n) => n,
-        Err(e) => {
-            let input = Input::Unreadable(e);
-            return Lines { family: 0, input };
+    let mut reader = start;
+    for _ in 0..u64::MAX {
+        let got = from.read(&mut buf)?;
+        reader = lines::feed(pool, reader, &buf[..got]);
+        if got == 0 || reader.no != 0 {
+            break;
         }
-    };
+    }
+    Ok(reader)
+}
+
+// What the end of the input makes of it: how many lines were trimmed.
+fn end_lines(pool: &mut [u32], last: Reader) -> Result<u64, LinesError> {
+    let r = lines::finish(pool, last);
+    match Refusal::try_from(r.no) {
+        Ok(refusal) => Err(LinesError::Refused(r.number, refusal)),
+        Err(_) => Ok(r.trimmed),
+    }
+}
+
+// Lays out a pool of one set, whose share and limit are all its nodes, for the family of the first line, and adds the networks of the lines to set 0, up to the
+// first that is refused.
+pub fn read_lines<R: Read>(
+    from: &mut R,
+    pool: &mut [u32],
+    nodes: u32,
+) -> Result<Lines, LinesError> {
+    let mut head = [0u8; HEAD];
+    let n = read_full(from, &mut head)?;
     let family = family(&head[..n]);
-    pool::layout(pool, family, 0, 1, nodes, &[nodes], &[nodes], 0);
-    let input = add_lines(from, pool, &head[..n]);
-    Lines { family, input }
+    let _ = pool::layout(pool, family, 0, 1, nodes, &[nodes], &[nodes], 0);
+    let begun = lines::feed(pool, lines::start(), &head[..n]);
+    let last = read_all(from, pool, begun)?;
+    let trimmed = end_lines(pool, last)?;
+    Ok(Lines { family, trimmed })
 }

@@ -2,10 +2,8 @@
 ghost use Rattle.std.specs.Prelude.{◌*◌, ◌≤◌, length};
 
 use nets::Net;
-use pool_state::Answer;
 use std::io;
 use std::io::ErrorKind;
-use text::Written;
 
 // What cannot come of a set's own networks.
 fn no_network() -> io::Error {
@@ -15,7 +13,7 @@ fn no_network() -> io::Error {
 // One network, by way of a lent line.
 fn network(out: &impl Print, net: Net, line: &mut [u8]) -> io::Result<()> {
     let written = text_either::write_line(net, line);
-    let Written::Bytes(k, _) = written else {
+    let Ok((k, _)) = written else {
         return Err(no_network());
     };
     let n = k as usize;
@@ -39,8 +37,8 @@ fn row(out: &impl Print, family: u8, hi: u64, lo: u64, len: u64) -> io::Result<(
 fn networks(out: &impl Print, family: u8, rows: &[u64], count: usize) -> io::Result<()>
     requires { 3 * count ≤ length rows.now }
 {
-    for i in 0..count {
-        row(out, family, rows[3 * i], rows[3 * i + 1], rows[3 * i + 2])?;
+    for net in rows[..3 * count].chunks_exact(3) {
+        row(out, family, net[0], net[1], net[2])?;
     }
     Ok(())
 }
@@ -54,7 +52,7 @@ pub fn print_set(
     rows: &mut [u64],
 ) -> io::Result<()> {
     let listed = listing::list(pool, set, rows);
-    let Answer::Granted(n) = listed else {
+    let Ok(n) = listed else {
         return Err(no_network());
     };
     networks(out, family, rows, n as usize)

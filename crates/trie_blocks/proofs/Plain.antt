@@ -3,7 +3,6 @@ use mathlib.Core.Bool.{Bool, true, false, cond, true≢false}
 use mathlib.Core.List.{List, ◌++◌}
 use mathlib.Core.Path.{◌≡◌, refl, sym, ◌∙◌}
 use Prim.Native.Nat.{ℕ, suc, ◌+◌, ◌-◌, ◌≤◌, ◌<◌}
-use native.Mathlib.Decide.{dec_lt}
 use native.Mathlib.Omega.{arith}
 use lib.ListN.{get_or, get_or-append}
 use lib.Seq.{get_or-append-add}
@@ -80,14 +79,3 @@ apart-kept {w} {v} {b} {m} {e} g k h = record { no = λ j le lt fit a c. h.no j 
     same j p q =
         let o : m + (j - m) ≡ j = omega arith in
         rw o at (word_in g (j - m) (omega (arith, g.end)) ∙ sym (word_in k (j - m) (omega (arith, g.end))))
-
--- a node more, and all of them
-pub apart_more : {w : List ℕ} {b k e n : ℕ} → Apart w b k e n → (word_at w b n ≡ 5 → word_at w b (n + 2) ≡ 0 → ⊥) → Apart w b k e (n + 1)
-apart_more {w} {b} {k} {e} {n} h f = record { no = λ j le lt fit a c. go j le lt fit a c (dec_lt j n) }
-  where
-    go : (j : ℕ) → k ≤ j → j < n + 1 → j + 2 < e → word_at w b j ≡ 5 → word_at w b (j + 2) ≡ 0 → Dec (j < n) → ⊥
-    go j le lt fit a c (yes x) = h.no j le x fit a c
-    go j le lt fit a c (no x) = let q : j ≡ n = omega arith in f (rw q at a) (rw q at c)
-
-pub apart-end : {w : List ℕ} {b k e n : ℕ} → Apart w b k e n → e ≤ n + 2 → Apart w b k e e
-apart-end h q = record { no = λ j le lt fit. h.no j le (omega arith) fit }

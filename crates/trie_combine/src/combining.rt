@@ -8,7 +8,7 @@ ghost use Rattle.trie_spans.specs.Extents.{Extents, Writes};
 
 use nodes::steps;
 use trie_emit::combining;
-use trie_emit::combining::{ALL, MIXED, most};
+use trie_emit::combining::{ALL, MIXED};
 use trie_emit::emitting::Emitted;
 use trie_spans::answering::{above, answer_of, nodes_of, over_halves};
 use trie_spans::extents::{end_from, kind};
@@ -50,20 +50,14 @@ fn flat(
 pub fn are_mixed(x: usize, y: usize) -> bool
     ensures { (result ≡ true → (x ≡ 1) × (y ≡ 1)) × (result ≡ false → x ≡ 1 → y ≡ 1 → ⊥) }
 {
-    if x != MIXED {
-        return false;
-    }
-    y == MIXED
+    x == MIXED && y == MIXED
 }
 
 // Whether two nodes of the words p and q have each one child, on the same side: it follows its node.
 pub fn is_only(p: usize, q: usize) -> bool
     ensures { result ≡ true → (p ≤ 2) × (p ≡ q) }
 {
-    if 2 < p {
-        return false;
-    }
-    p == q
+    p <= 2 && p == q
 }
 
 // Writes what the operation makes of the tries from node a up to node ea and from node c up to node ec, from node o on.
@@ -114,7 +108,7 @@ pub fn emit(
     ensures { (g : ℕ) (t u : Trie) → Inputs w.old b a c o g fuel t u → Gap w.old b o g (op_on op fuel t u)
         → Emits w.old w.new b o result (op_on op fuel t u) }
 {
-    if ALL <= most(a, c) {
+    if ALL <= a.max(c) {
         return combining::emit(w, b, op, a, c, o, fuel);
     }
     let ea = end_from(w, b, a);

@@ -10,7 +10,7 @@ use crate::combining::{are_mixed, is_only};
 use nodes::steps;
 use trie_blocks::joining::{join_from, next_join};
 use trie_emit::combining;
-use trie_emit::combining::{ALL, MIXED, most};
+use trie_emit::combining::{ALL, MIXED};
 use trie_spans::answering::{above_nodes, over_nodes};
 use trie_spans::extents::{end_from, kind};
 
@@ -115,7 +115,7 @@ pub fn op_size(w: &[u32], b: usize, op: usize, a: usize, c: usize, fuel: usize) 
     requires { (t : Trie) × (u : Trie) × Inputs w.now b a c 0 0 fuel t u }
     ensures { (t u : Trie) → Inputs w.now b a c 0 0 fuel t u → result ≡ size (op_on op fuel t u) }
 {
-    if ALL <= most(a, c) {
+    if ALL <= a.max(c) {
         return combining::op_size(w, b, op, a, c, fuel);
     }
     let ea = end_from(w, b, a);

@@ -71,6 +71,12 @@ end_is x t i e = rw e (end-answer i t)
 pub full_size : (x : Emitted) (t : Trie) (i : ℕ) → x ≡ answer i t → x ≡ Full → 1 ≤ size t
 full_size x t i e h = rw (← e, h) at (rest-answer i t)
 
+-- no answer but a leaf's leaves a word to write
+pub rest-none : (x : Emitted) → (x ≡ Full → ⊥) → rest_of x ≡ []
+rest-none Empty f = refl
+rest-none Full f = absurd (f refl)
+rest-none (Node e) f = refl
+
 pub settled : {w v z : List ℕ} {b o : ℕ} {x : Emitted} {t : Trie} → Emits w v b o x t → z ≡ put v (place b o) (rest_of x) → z ≡ put w (place b o) (enc t)
 settled {w} {v} {z} {b} {o} {x} {t} h e = e ∙ rw (h.wrote, h.answers) (rest_put o t w (place b o))
 

@@ -149,6 +149,10 @@ pub record Split (w : List ℕ) (b op a c o g fuel : ℕ) (t u : Trie) (al cl ar
   pub left : Means w b o g al (half false t) × Means w b o g cl (half false u)
   pub right : Means w b o g ar (half true t) × Means w b o g cr (half true u)
 
+pub split : {w : List ℕ} {b a c o g fuel : ℕ} {t u : Trie} {al cl ar cr : ℕ} → Inputs w b a c o g fuel t u → (op v : ℕ) → v ≡ rank (verdict (op_of op) (kind_of t) (kind_of u)) → (v ≡ 0 → ⊥) → (v ≡ 2 → ⊥)
+    → Means w b o g al (half false t) × Means w b o g cl (half false u) → Means w b o g ar (half true t) × Means w b o g cr (half true u) → Split w b op a c o g fuel t u al cl ar cr
+split s op v told f n l r = record { src = s; mixes = op-mixed s op v told f n; left = l; right = r }
+
 module _ {w : List ℕ} {b op a c o g fuel : ℕ} {t u : Trie} {al cl ar cr : ℕ} (d : Split w b op a c o g fuel t u al cl ar cr) where
   deeper : 1 ≤ fuel - 1
   deeper = let turn = d.src.turn in verdict-levels (op_of op) (fuel - 1) t u d.mixes (omega (arith, d.src.deep-t)) (omega (arith, d.src.deep-u))

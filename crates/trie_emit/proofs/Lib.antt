@@ -2,3 +2,4 @@
 pub mod Answers
 pub mod Sources
 pub mod Combine
+pub mod Search

@@ -1,6 +1,6 @@
 // A set operation on two tries in the words, written where there is room for it apart from both. The operations are 0 union, 1 what is common, 2 difference and 3 difference
 // with full halves left apart. A trie is given by a number: 0 nothing, ALL everything, else the node where it stands.
-ghost use Rattle.std.specs.Prelude.{◌≡◌, ℕ, ◌+◌, ◌-◌, ◌≤◌, ◌<◌, ◌%◌, ◌/◌, max, min};
+ghost use Rattle.std.specs.Prelude.{◌≡◌, ℕ, ◌+◌, ◌-◌, ◌≤◌, ◌<◌, ◌%◌, ◌/◌};
 ghost use Rattle.nets.specs.Tries.{Trie, size, side};
 ghost use Rattle.nets.specs.TrieOps.{Kind, kind_of, verdict, half};
 ghost use Rattle.trie_emit.specs.Answers.{answer, Emits};
@@ -36,30 +36,18 @@ fn kind(w: &[u32], b: usize, i: usize) -> usize
     MIXED
 }
 
-pub fn most(x: usize, y: usize) -> usize
-    ensures { result ≡ max x y }
-{
-    if x < y { y } else { x }
-}
-
-fn least(x: usize, y: usize) -> usize
-    ensures { result ≡ min x y }
-{
-    if x < y { x } else { y }
-}
-
 // What the operation makes of two kinds, where that settles it, else MIXED: or, and, and not, of three truth values.
 pub fn settled(op: usize, x: usize, y: usize) -> usize
     requires { y ≤ 2 }
     ensures { (k l : Kind) → x ≡ rank k → y ≡ rank l → result ≡ rank (verdict (op_of op) k l) }
 {
     if op == 0 {
-        return most(x, y);
+        return x.max(y);
     }
     if op == 1 {
-        return least(x, y);
+        return x.min(y);
     }
-    least(x, FULL - y)
+    x.min(FULL - y)
 }
 
 // The same of what two numbers mean.

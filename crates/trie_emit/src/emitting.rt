@@ -6,8 +6,8 @@ ghost use Rattle.trie_emit.specs.Answers.{answer, Emits, end_of, rest_of, is_ful
 
 use nodes::writing;
 
-// What was written of a trie: nothing, as it is empty; nothing, as it is a single leaf; or its nodes, up to an end.
-#[derive(Clone, Copy)]
+// What was written of a trie: nothing, as it is empty; nothing, as it is a single leaf; or its nodes, up to an end (in the second form, that many nodes).
+#[derive(Clone, Copy, Debug, PartialEq, Eq)]
 pub enum Emitted {
     Empty,
     Full,
@@ -31,34 +31,22 @@ pub fn settle(w: &mut [u32], b: usize, i: usize, x: Emitted)
     requires { (1 ≤ i) × (x ≡ Emitted.Full → place b i < length w.old) }
     ensures { w.new ≡ put w.old (place b i) (rest_of x) }
 {
-    match x {
-        Emitted::Empty => {}
-        Emitted::Full => writing::store(w, b, i, 0),
-        Emitted::Node(_) => {}
+    if let Emitted::Full = x {
+        writing::store(w, b, i, 0);
     }
 }
 
 fn is_full(x: Emitted) -> bool
     ensures { result ≡ is_full x }
 {
-    match x {
-        Emitted::Empty => false,
-        Emitted::Full => true,
-        Emitted::Node(_) => false,
-    }
+    matches!(x, Emitted::Full)
 }
 
 // Two full halves that are to be joined.
-fn joins(joined: bool, l: Emitted, r: Emitted) -> bool
+pub fn joins(joined: bool, l: Emitted, r: Emitted) -> bool
     ensures { result ≡ (joined && (is_full l && is_full r)) }
 {
-    if !joined {
-        return false;
-    }
-    if !is_full(l) {
-        return false;
-    }
-    is_full(r)
+    joined && is_full(l) && is_full(r)
 }
 
 // The answer of node o by the answers of its children.

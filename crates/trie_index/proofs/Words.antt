@@ -50,6 +50,9 @@ pub record Turn (w : List ℕ) (b n root : ℕ) (words : List ℕ) (k : ℕ) : T
   pub low : k < 256
   pub filled : Filled w b n root words (2 * k)
 
+pub turn-at : {w : List ℕ} {b n root : ℕ} {words : List ℕ} {k : ℕ} → 1 ≤ k → k < 256 → Filled w b n root words (2 * k) → Turn w b n root words k
+turn-at one low filled = record { one = one; low = low; filled = filled }
+
 module _ {w : List ℕ} {b n root : ℕ} {words : List ℕ} {k s : ℕ} (h : Turn w b n root words k) (s-is : s ≡ get_or words k 0) where
   here : Word w b n root k s
   here = rw s-is (h.filled.at k h.one (omega arith))

@@ -68,13 +68,11 @@ fn top_words(w: &[u32], b: usize, n: u32, root: u32) -> [u32; KEYS]
 {
     let mut words = [0u32; KEYS];
     words[1] = begin(root);
-    let mut k: usize = 1;
-    while k < INDEX {
+    for k in 1..INDEX {
         let s = words[k];
         let x = under(w, b, n, root, s);
         words[2 * k] = onward(s, x, turn(false, x));
         words[2 * k + 1] = onward(s, x, turn(true, x));
-        k += 1;
     }
     words
 }
@@ -86,12 +84,10 @@ pub fn is_index(w: &[u32], b: usize, n: u32, root: u32, p: usize) -> bool
     ensures { (t : Trie) → Rooted w.now b n root t → result ≡ is_at w.now p (index_t t) }
 {
     let words = top_words(w, b, n, root);
-    let mut v: usize = 0;
-    while v < INDEX {
+    for v in 0..INDEX {
         if w[p + v] != words[INDEX + v] {
             return false;
         }
-        v += 1;
     }
     true
 }
@@ -103,9 +99,7 @@ pub fn write_index(w: &mut [u32], b: usize, n: u32, root: u32, p: usize)
     ensures { (t : Trie) → Rooted w.old b n root t → w.new ≡ put w.old p (index_t t) }
 {
     let words = top_words(w, b, n, root);
-    let mut v: usize = 0;
-    while v < INDEX {
+    for v in 0..INDEX {
         w[p + v] = words[INDEX + v];
-        v += 1;
     }
 }

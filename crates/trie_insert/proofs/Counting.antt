@@ -6,6 +6,9 @@ use Prim.Native.Nat.{ℕ, ◌+◌, ◌-◌, ◌≤◌}
 use native.Mathlib.Omega.{arith}
 use lib.ListN.{length}
 use Rattle.nets.specs.Bits.{Bits}
+use Rattle.nets.specs.Networks.{bits_left}
+use Rattle.nets.specs.declared.PrefixBits.{PrefixBits}
+use Rattle.nets.proofs.Handing.{Hands}
 use Rattle.nets.specs.Tries.{side, insert_t}
 use Rattle.nodes.specs.Segments.{Views}
 use Rattle.nodes.specs.declared.steps.View.TheVariants.{Nothing, Leaf, Inner}
@@ -47,6 +50,11 @@ part-side {k = k} {z = z} {m = m} {p = p} d h v =
       within = omega (arith, h.within);
       counts = λ x y q f. h.counts (z - k - (side d m z - side d (k + 1) m) + x) y (omega (arith, h.within)) (counts-side v d p x _ (omega arith) f);
     }
+
+-- and of the way down to it, where q is what is handed out behind the bit d
+pub part-next : {w : List ℕ} {b i e k z m : ℕ} {s : Bits} {p q : PrefixBits} (d : Bool) → Hands p d q → (p.len ≤ 128) × Part w b i e s k z (bits_left p) → Views w b k z (Inner m)
+    → (q.len ≤ 128) × Part w b i e s (side d (k + 1) m) (side d m z) (bits_left q)
+part-next d h l v = (omega (arith, h.len, l.0), part-side d (rw h.bits at l.1) v)
 
 -- where the way ends
 module _ {w : List ℕ} {b i e k z : ℕ} {s p : Bits} (h : Part w b i e s k z p) where

@@ -5,10 +5,11 @@ use mathlib.Core.Bool.{Bool, true, false, cond}
 use mathlib.Core.List.{List, [], ◌∷◌}
 use Prim.Native.Nat.{ℕ, suc, ◌+◌, ◌-◌, ◌≤◌, ◌<◌}
 use native.Mathlib.Omega.{arith}
+use Rattle.std.specs.Prelude.{Option, Some}
 use lib.ListN.{length, take, drop}
 use Rattle.nets.specs.Bits.{Bits}
 use Rattle.nets.specs.Tries.{Trie, none, node, leaf, size, bare, side, fork, insert_t}
-use Rattle.nets.specs.Networks.{bits_left}
+use Rattle.nets.specs.Networks.{bits_left, next_as, next_of}
 use Rattle.nets.specs.declared.PrefixBits.{PrefixBits}
 use Rattle.nodes.specs.Words.{put, place, enc, chain}
 use Rattle.nodes.specs.Links.{linked}
@@ -20,7 +21,11 @@ use Rattle.nodes.proofs.Chains.{size-chain}
 use Rattle.nodes.proofs.Segments.{none_is, leaf-words, segment-rest, spliced-same}
 use Rattle.nodes.proofs.Views.{view-none, view-leaf, view-inner, inward, beside, behind, branch-fit, branch-size, branch-child, branch-spliced}
 use Rattle.trie_insert.specs.Insert.{Insertable, Inserted}
-use Rattle.nets.proofs.Handing.{length-bits_left}
+use Rattle.nets.proofs.Handing.{length-bits_left, Hands, hands, hands-bit}
+
+-- The bit that the path hands out, told by a test of it.
+pub handed : {s q : PrefixBits} {d x : Bool} {r : Option (Bool × PrefixBits)} → s.len ≤ 128 → next_as r ≡ next_of s → r ≡ Some (d, q) → d ≡ x → Hands s x q
+handed h n e b = hands-bit b (hands _ _ _ _ h n e)
 
 -- Sizes.
 pub size-insert : (p : Bits) (t : Trie) → size (insert_t p t) ≤ size t + length p + 1

@@ -1,10 +1,12 @@
 // Putting a path into a trie that stands in the used words.
+#![tactic(auto)]
+
 ghost use Rattle.std.specs.Prelude.{◌≡◌, [], ◌+◌, ◌≤◌, ◌<◌, length};
 ghost use Rattle.nets.specs.Networks.{bits_left};
 ghost use Rattle.nodes.specs.Words.{put, place, enc, chain};
 ghost use Rattle.trie_insert.specs.Insert.{Held, Insertable, InsertSize, Inserted};
 
-use nets::{NextBit, PrefixBits};
+use nets::PrefixBits;
 use nodes::steps::View;
 use nodes::{steps, writing};
 
@@ -17,34 +19,27 @@ pub fn insert_size(w: &[u32], b: usize, i: usize, e: usize, s: PrefixBits) -> us
     let mut from = i;
     let mut to = e;
     let mut p = s;
-    loop {
-        let next = p.next();
-        match next {
-            NextBit::End => {
-                return n - (to - from) + 1;
-            }
-            NextBit::Bit(bit, rest) => {
-                let v = steps::look(w, b, from, to);
-                match v {
-                    View::Nothing => return n + (p.len as usize + 1),
-                    View::Leaf => return n,
-                    View::Inner(m) => {
-                        p = rest;
-                        if bit {
-                            // A way out here makes it a branch on the bit, so that a step to the first child waits for no word.
-                            if m == to {
-                                return n + (rest.len as usize + 1);
-                            }
-                            from = m;
-                        } else {
-                            from += 1;
-                            to = m;
-                        }
+    while let Some((bit, rest)) = p.next() {
+        let v = steps::look(w, b, from, to);
+        match v {
+            View::Nothing => return n + (p.len as usize + 1),
+            View::Leaf => return n,
+            View::Inner(m) => {
+                p = rest;
+                if bit {
+                    // A way out here makes it a branch on the bit, so that a step to the first child waits for no word.
+                    if m == to {
+                        return n + (rest.len as usize + 1);
                     }
+                    from = m;
+                } else {
+                    from += 1;
+                    to = m;
                 }
             }
         }
     }
+    n - (to - from) + 1
 }
 
 // Writes the path s as a chain of nodes, from node i on.
@@ -54,20 +49,12 @@ fn chain(w: &mut [u32], b: usize, i: usize, s: PrefixBits)
 {
     let mut k = i;
     let mut p = s;
-    loop {
-        let next = p.next();
-        match next {
-            NextBit::End => {
-                writing::store(w, b, k, 0);
-                return;
-            }
-            NextBit::Bit(bit, rest) => {
-                writing::store(w, b, k, 1 + bit as usize);
-                k += 1;
-                p = rest;
-            }
-        }
+    while let Some((bit, rest)) = p.next() {
+        writing::store(w, b, k, 1 + bit as usize);
+        k += 1;
+        p = rest;
     }
+    writing::store(w, b, k, 0);
 }
 
 // Puts the chain of the path s where no trie stands.
@@ -99,8 +86,8 @@ pub fn insert(w: &mut [u32], b: usize, i: usize, e: usize, u: usize, s: PrefixBi
 {
     let next = s.next();
     match next {
-        NextBit::End => leaf(w, b, i, e, u),
-        NextBit::Bit(bit, behind) => {
+        None => leaf(w, b, i, e, u),
+        Some((bit, behind)) => {
             // Field by field: what a whole copy takes along between the fields is waited for at each step.
             let rest = PrefixBits {
                 hi: behind.hi,

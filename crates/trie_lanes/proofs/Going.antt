@@ -10,7 +10,6 @@ use borrow.Author.Tests.{eq-eqb, ne_eqb}
 use Rattle.nets.specs.Bits.{Bits}
 use Rattle.nets.specs.Networks.{bits_left, bits_words, next_as, next_of}
 use Rattle.nets.specs.declared.PrefixBits.{PrefixBits}
-use Rattle.nets.specs.declared.NextBit.TheVariants.{Bit}
 use Rattle.nets.proofs.Handing.{len-next, bits-next}
 use Rattle.nodes.specs.Words.{word_at}
 use Rattle.nodes.specs.Parse.{Room}
@@ -19,6 +18,7 @@ use Rattle.trie_lookup.specs.declared.Shown.TheVariants.{Member, Nothing}
 use Rattle.trie_lookup.proofs.Turns.{are_nodes-in, walk-shows}
 use Rattle.trie_lanes.specs.Lanes.{comes, On, Goes}
 use Rattle.trie_lanes.specs.declared.Lane.{Lane}
+use Rattle.std.specs.Prelude.{Some}
 
 module _ (w : List ℕ) (b n : ℕ) where
   pub goes-stay : (l : Lane) → On b n l → Goes w b n l l
@@ -55,7 +55,7 @@ unfolding next_of
 low-next x zero = refl
 low-next x (suc k) = rw (eqb-suc-zero k) (omega arith)
 
-pub comes-next : (l : Lane) (bit : Bool) (later : PrefixBits) → l.left ≤ 64 → next_of (bits_words l.word 0 l.left) ≡ next_as (Bit bit later)
+pub comes-next : (l : Lane) (bit : Bool) (later : PrefixBits) → l.left ≤ 64 → next_of (bits_words l.word 0 l.left) ≡ next_as (Some (bit, later))
     → comes l ≡ bit ∷ bits_left (bits_words later.hi 0 later.len)
 unfolding comes
 comes-next l bit later h e =
@@ -67,7 +67,7 @@ pub record Steps (w : List ℕ) (b n : ℕ) (l : Lane) (x c : ℕ) (bit : Bool) 
   pub on : On b n l
   pub is : x ≡ get_or w l.p 0
   pub before : l.p + x / 2 < b + (n - 1)
-  pub next : next_of (bits_words l.word 0 l.left) ≡ next_as (Bit bit later)
+  pub next : next_of (bits_words l.word 0 l.left) ≡ next_as (Some (bit, later))
   pub by : c ≡ toward bit x
   pub some : c ≡ 0 → ⊥
 

@@ -5,7 +5,7 @@ ghost use Rattle.nets.specs.Networks.{bits_words};
 ghost use Rattle.nodes.specs.Parse.{Room};
 ghost use Rattle.trie_lanes.specs.Lanes.{On, Goes, lane_at, keep_at, Wide, AllOn, AllGo, Moved, Live};
 
-use nets::{NextBit, PrefixBits};
+use nets::PrefixBits;
 use trie_index::turn;
 
 // The most walks side by side.
@@ -70,8 +70,8 @@ fn step(w: &[u32], b: usize, n: u32, l: Lane) -> Lane
     let x = w[p];
     let next = of_word(l.word, l.left).next();
     match next {
-        NextBit::End => l,
-        NextBit::Bit(bit, later) => {
+        None => l,
+        Some((bit, later)) => {
             let c = turn(bit, x);
             if c == 0 {
                 return l;
@@ -120,7 +120,8 @@ fn ahead(j: usize, on: bool) -> usize
     if on { j + 1 } else { j }
 }
 
-// One round over the k walks that go on, of e; it says how many still do.
+// One round over the k walks that go on, of e; it says how many still do. The last of them comes to the place of one that stays, so k falls where j stays: no
+// range counts them.
 fn round(
     w: &[u32],
     b: usize,
@@ -157,12 +158,10 @@ pub fn descend(
     ensures { AllGo w.now b n e lanes.old lanes.new }
 {
     let mut k = e;
-    let mut t: usize = 0;
-    while t < ROUNDS {
+    for _ in 0..ROUNDS {
         k = round(w, b, n, lanes, e, live, k);
         if k == 0 {
             return;
         }
-        t += 1;
     }
 }

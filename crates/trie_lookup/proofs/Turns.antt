@@ -12,7 +12,6 @@ use Rattle.nets.specs.Bits.{Bits}
 use Rattle.nets.specs.Tries.{side}
 use Rattle.nets.specs.Networks.{bits_left, next_as, next_of, handed}
 use Rattle.nets.specs.declared.PrefixBits.{PrefixBits}
-use Rattle.nets.specs.declared.NextBit.TheVariants.{Bit, End}
 use Rattle.nets.specs.declared.Refusal.TheVariants.{Damaged}
 use Rattle.nets.proofs.Handing.{len-next}
 use Rattle.nets.proofs.Numbers.{bits_left-next}
@@ -21,6 +20,7 @@ use Rattle.nodes.specs.Parse.{Room}
 use Rattle.trie_lookup.specs.Walks.{child_at, are_nodes, toward, shows, walk, walk_from}
 use Rattle.trie_lookup.specs.declared.Shown.{Shown}
 use Rattle.trie_lookup.specs.declared.Shown.TheVariants.{Member, Nothing, Refused}
+use Rattle.std.specs.Prelude.{Some, None}
 
 -- The start.
 module _ (w : List ℕ) (b n : ℕ) (q : Bits) (r : ℕ) where
@@ -90,7 +90,7 @@ pub record Inner (w : List ℕ) (b n : ℕ) (s : Shown) (i d : ℕ) (left : Pref
 
 pub record Turned (w : List ℕ) (b n : ℕ) (s : Shown) (i d : ℕ) (left : PrefixBits) (x c : ℕ) (bit : Bool) (later : PrefixBits) : Type 0 where
   pub inner : Inner w b n s i d left x
-  pub next : next_of left ≡ next_as (Bit bit later)
+  pub next : next_of left ≡ next_as (Some (bit, later))
   pub by : c ≡ toward bit x
 
 module _ {w : List ℕ} {b n : ℕ} {s : Shown} {i d : ℕ} {left : PrefixBits} {x : ℕ} (g : Inner w b n s i d left x) where
@@ -100,7 +100,7 @@ module _ {w : List ℕ} {b n : ℕ} {s : Shown} {i d : ℕ} {left : PrefixBits} 
   handed-next : bits_left left ≡ handed (next_of left)
   handed-next = bits_left-next left (omega (arith, g.down.few))
 
-  pub inner-end : next_of left ≡ next_as End → Nothing (d + 1) ≡ s
+  pub inner-end : next_of left ≡ next_as None → Nothing (d + 1) ≡ s
   inner-end e =
       let h : bits_left left ≡ [] = handed-next ∙ ap handed e in
       rw h at on
@@ -146,7 +146,7 @@ pub record Seen (w : List ℕ) (b n : ℕ) (s : Shown) (all p : ℕ) (left : Pre
   pub placed : Placed w b n s all p left
   pub is : x ≡ get_or w p 0
   pub before : p + x / 2 < b + (n - 1)
-  pub next : next_of left ≡ next_as (Bit bit later)
+  pub next : next_of left ≡ next_as (Some (bit, later))
 
 -- the root's place
 pub placed-start : {w : List ℕ} {b n root len : ℕ} {bits : PrefixBits} → 1 ≤ root → root ≤ n → bits.len ≤ len → len ≤ 128

@@ -5,13 +5,14 @@ ghost use Rattle.nets.specs.Tries.{side};
 ghost use Rattle.nodes.specs.Parse.{Room};
 ghost use Rattle.trie_lookup.specs.Walks.{walk, walk_from};
 
-use nets::{NextBit, PrefixBits, Refusal};
+use nets::{PrefixBits, Refusal};
 use nodes::reading::word_at;
 use trie_index::turn;
 
 pub mod standing;
 
-// What a path shows: a member of that length, or nothing, each with how many nodes were read; or why there is no answer.
+// What a path shows: a member of that length, or nothing, each with how many nodes were read; or why there is no answer. Three outcomes, two of them with that
+// number: a Result of an Option would hold it in two places.
 #[derive(Clone, Copy)]
 pub enum Shown {
     Member(u8, u8),
@@ -40,8 +41,8 @@ pub fn walk_tested(w: &[u32], b: usize, n: u32, p: usize, above: u8, bits: Prefi
         }
         let next = left.next();
         match next {
-            NextBit::End => return Shown::Nothing(d + 1),
-            NextBit::Bit(bit, later) => {
+            None => return Shown::Nothing(d + 1),
+            Some((bit, later)) => {
                 let c = turn(bit, x);
                 if c == 0 {
                     return Shown::Nothing(d + 1);
@@ -89,8 +90,8 @@ pub fn walk_down(w: &[u32], b: usize, n: u32, root: u32, len: u8, bits: PrefixBi
         let d = len - left.len;
         let next = left.next();
         match next {
-            NextBit::End => return walk_tested(w, b, n, p, d, left),
-            NextBit::Bit(bit, later) => {
+            None => return walk_tested(w, b, n, p, d, left),
+            Some((bit, later)) => {
                 let x = w[p] as usize;
                 let q = p + x / 2;
                 if last <= q {

@@ -6,7 +6,7 @@ ghost use Rattle.nodes.specs.Parse.{Room};
 ghost use Rattle.trie_lookup.specs.Walks.{node_shows, stands_on};
 
 use crate::{Shown, walk_down};
-use nets::{NextBit, PrefixBits, Refusal};
+use nets::{PrefixBits, Refusal};
 use nodes::reading::word_at;
 
 // The first eight bits of a query as a number, and the bits behind them.
@@ -33,15 +33,13 @@ pub fn head(bits: PrefixBits) -> Opening
 {
     let mut byte: usize = 0;
     let mut left = bits;
-    let mut k: u32 = 0;
-    while k < 8 {
+    for _k in 0u32..8 {
         let next = left.next();
         match next {
-            NextBit::End => return Opening { byte, rest: left },
-            NextBit::Bit(bit, later) => {
+            None => return Opening { byte, rest: left },
+            Some((bit, later)) => {
                 byte = push(byte, bit);
                 left = later;
-                k += 1;
             }
         }
     }

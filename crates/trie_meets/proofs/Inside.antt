@@ -1,6 +1,6 @@
 -- The part of what a number means inside a network: down, bit by bit; and that the number of the part tells whether the network is overlapped. Assumes
 -- nothing.
-use mathlib.Core.Bool.{Bool, true, false}
+use mathlib.Core.Bool.{Bool, true, false, not}
 use mathlib.Core.List.{List, [], ◌∷◌}
 use mathlib.Core.Path.{◌≡◌, refl, ap, sym, ◌∙◌}
 use Prim.Native.Nat.{ℕ, ◌≤◌}
@@ -54,11 +54,14 @@ module _ {w : List ℕ} {b i at : ℕ} {q p : Bits} (v : Way w b i q at p) where
 
 -- The part is nothing exactly where the network is not overlapped.
 module _ {w : List ℕ} {b o g r : ℕ} (q : Bits) (t : Trie) (m : Means w b o g r (down q t)) where
+  pub part-told : not (eqb r 0) ≡ overlaps_one (list_of t) q
+  part-told = ap not (means-zero r (down q t) m) ∙ sym (overlaps_one-list_of t q)
+
   pub part_none : r ≡ 0 → overlaps_one (list_of t) q ≡ false
-  part_none z = overlaps_one-list_of t q ∙ rw (← means-zero r (down q t) m, z)
+  part_none z = sym part-told ∙ ap not (eq-eqb r 0 z)
 
   pub part-some : (r ≡ 0 → ⊥) → overlaps_one (list_of t) q ≡ true
-  part-some z = overlaps_one-list_of t q ∙ rw (← means-zero r (down q t) m, ne_eqb r 0 z)
+  part-some z = sym part-told ∙ ap not (ne_eqb r 0 z)
 
 -- A trie that stands among the nodes of a pool.
 pub stands-means : {w : List ℕ} {b n f i : ℕ} (t : Trie) → Room w b n → 1 ≤ i → Stands w b n f i t → (t ≡ none → ⊥) → Means w b 0 0 i t

@@ -5,27 +5,18 @@ use mathlib.Core.List.{List, [], ◌∷◌}
 use mathlib.Core.Path.{◌≡◌, refl, ap, sym, ◌∙◌}
 use Prim.Native.Nat.{ℕ, zero, suc, ◌-◌, ◌≤◌, ◌<◌}
 use native.Mathlib.Omega.{arith}
-use borrow.Author.Tests.{leb-true}
-use lib.Dec.{leb}
-use lib.ListN.{length, get_or}
+use lib.ListN.{length}
 use Rattle.nets.specs.Bits.{Bits}
-use Rattle.nets.specs.Lists.{within}
-use Rattle.nets.specs.Networks.{width, bits_left}
 use Rattle.nets.specs.Tries.{Trie, none, node, is_none, levels, list_of}
 use Rattle.nets.specs.TrieOps.{mixed, kind_of, verdict, half}
-use Rattle.nets.specs.declared.PrefixBits.{PrefixBits}
-use Rattle.nets.proofs.Strings.{and_left, and_right}
 use Rattle.nets.proofs.Glue.{levels-half}
-use Rattle.nets.proofs.TrieOf.{is_list-within}
-use Rattle.nets.proofs.Handing.{length-bits_left}
 use Rattle.nets.proofs.Operate.{verdict-levels, op_half, op_t-mixed}
 use Rattle.trie_emit.specs.Answers.{answer}
 use Rattle.trie_emit.specs.Combine.{op_of, joined, op_on, rank, Means, Inputs}
 use Rattle.trie_emit.specs.declared.emitting.Emitted.TheVariants.{Empty, Full}
 use Rattle.trie_emit.proofs.Combine.{op-none, op-full, op-mixed}
-use Rattle.inner_nets.specs.Inner.{overlaps_one, inner}
+use Rattle.inner_nets.specs.Inner.{overlaps_one}
 use Rattle.inner_nets.specs.Parts.{down}
-use Rattle.inner_nets.proofs.InnerLists.{is_list-inner}
 use Rattle.inner_nets.proofs.Parts.{is_none-glue, down-op, overlaps_one-list_of}
 
 -- What an answer says of a trie.
@@ -119,14 +110,3 @@ module _ {w : List ℕ} {b a c fuel : ℕ} {t u : Trie} (s : Inputs w b a c 0 0 
     turn = omega arith;
     few = omega (arith, s.few);
   }
-
--- The inner networks are no longer than the width.
-within-at : (w : ℕ) (l : List Bits) (i : ℕ) → within w l ≡ true → length (get_or l i []) ≤ w
-within-at w [] i h = omega arith
-within-at w (p ∷ l) zero h = leb-true (length p) w (and_left (leb (length p) w) (within w l) h)
-within-at w (p ∷ l) (suc i) h = within-at w l i (and_right (leb (length p) w) (within w l) h)
-
-pub short : (f i fuel : ℕ) (s : PrefixBits) → s.len ≤ 128 → bits_left s ≡ get_or (inner f) i [] → width f < fuel → s.len < fuel
-short f i fuel s h e k =
-    let w : length (get_or (inner f) i []) ≤ width f = within-at (width f) (inner f) i (is_list-within (width f) (inner f) (is_list-inner f)) in
-    omega (arith, length-bits_left s h, ap length e, w)

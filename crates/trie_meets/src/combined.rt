@@ -7,8 +7,7 @@ ghost use Rattle.trie_emit.specs.Combine.{op_on, Inputs};
 ghost use Rattle.inner_nets.specs.Inner.{overlaps_one, is_public};
 
 use crate::standing::inside;
-use inner_nets::inner_count;
-use inner_nets::walks::inner_bits;
+use inner_nets::walks::none_meets;
 use nets::PrefixBits;
 use trie_emit::combining;
 
@@ -57,14 +56,5 @@ pub fn op_is_clear(
     requires inputs { (t : Trie) × (u : Trie) × Inputs w.now b first second 0 0 fuel t u }
     ensures { (t u : Trie) → Inputs w.now b first second 0 0 fuel t u → result ≡ is_public family (list_of (op_on op fuel t u)) }
 {
-    let n = inner_count(family);
-    let mut k = 0;
-    while k < n {
-        let s = inner_bits(family, k);
-        if meets(w, b, op, first, second, fuel, s) {
-            return false;
-        }
-        k += 1;
-    }
-    true
+    none_meets(family, |s| meets(w, b, op, first, second, fuel, s))
 }

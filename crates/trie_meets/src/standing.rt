@@ -4,12 +4,11 @@ ghost use Rattle.nets.specs.Networks.{bits_left};
 ghost use Rattle.nets.specs.Tries.{Trie, none, list_of};
 ghost use Rattle.nodes.specs.Parse.{Room, Stands};
 ghost use Rattle.trie_emit.specs.Combine.{Means};
-ghost use Rattle.inner_nets.specs.Inner.{is_public};
+ghost use Rattle.inner_nets.specs.Inner.{overlaps_one, is_public};
 ghost use Rattle.inner_nets.specs.Parts.{down};
 
-use inner_nets::inner_count;
-use inner_nets::walks::inner_bits;
-use nets::{NextBit, PrefixBits};
+use inner_nets::walks::none_meets;
+use nets::PrefixBits;
 use trie_emit::combining::piece;
 
 // The number of the part of what the number i means that lies inside the network of these bits, one word a level. Where nothing is left the way ends.
@@ -25,8 +24,8 @@ pub fn inside(w: &[u32], b: usize, i: usize, s: PrefixBits) -> usize
         }
         let next = left.next();
         match next {
-            NextBit::End => return at,
-            NextBit::Bit(bit, later) => {
+            None => return at,
+            Some((bit, later)) => {
                 at = piece(w, b, at, bit);
                 left = later;
             }
@@ -34,21 +33,20 @@ pub fn inside(w: &[u32], b: usize, i: usize, s: PrefixBits) -> usize
     }
 }
 
+// What the number i means overlaps the network of these bits.
+fn overlaps(w: &[u32], b: usize, i: usize, s: PrefixBits) -> bool
+    requires { (s.len ≤ 128) × ((o : ℕ) × (g : ℕ) × (t : Trie) × Means w.now b o g i t) }
+    ensures { (o g : ℕ) (t : Trie) → Means w.now b o g i t → result ≡ overlaps_one (list_of t) (bits_left s) }
+{
+    inside(w, b, i, s) != 0
+}
+
 // What the number i means overlaps no inner network of the family.
 pub fn is_public(w: &[u32], b: usize, i: usize, family: u32) -> bool
     requires { (o : ℕ) × (g : ℕ) × (t : Trie) × Means w.now b o g i t }
     ensures { (o g : ℕ) (t : Trie) → Means w.now b o g i t → result ≡ is_public family (list_of t) }
 {
-    let n = inner_count(family);
-    let mut k = 0;
-    while k < n {
-        let s = inner_bits(family, k);
-        if inside(w, b, i, s) != 0 {
-            return false;
-        }
-        k += 1;
-    }
-    true
+    none_meets(family, |s| overlaps(w, b, i, s))
 }
 
 // The trie that stands at node i, of the nodes 1..=n that stand from b on, overlaps no inner network of the family.

@@ -21,20 +21,19 @@ use Rattle.nets.proofs.Numbers.{width-le}
 use Rattle.trie_paths.specs.Spans.{snoc, Holds}
 use Rattle.trie_paths.specs.Laying.{Skips}
 use Rattle.trie_next.specs.Following.{next_as, first_of, later_in, above}
-use Rattle.trie_next.specs.declared.following.Next.{Next}
-use Rattle.trie_next.specs.declared.following.Next.TheVariants.{Network, End}
 use Rattle.trie_paths.proofs.Reading.{Forked}
 use Rattle.trie_paths.proofs.Levels.{level-none, map_snoc, map-node, below-list_of}
+use Rattle.std.specs.Prelude.{Option, Some, None}
 
 -- The first of two lists.
-never : {z : Net} → Network z ≡ End → ⊥
+never : {z : Net} → Some z ≡ None → ⊥
 never e = let q : ◌≡◌ {A = ℕ} 0 1 = cc in omega arith
 
-first_found : (f : ℕ) (l m : List Bits) (z : Net) → Network z ≡ next_as f (first_of l) → Network z ≡ next_as f (first_of (l ++ m))
+first_found : (f : ℕ) (l m : List Bits) (z : Net) → Some z ≡ next_as f (first_of l) → Some z ≡ next_as f (first_of (l ++ m))
 first_found f [] m z e = absurd (never e)
 first_found f (p ∷ l) m z e = e
 
-first-none : (f : ℕ) (l m : List Bits) → End ≡ next_as f (first_of l) → first_of (l ++ m) ≡ first_of m
+first-none : (f : ℕ) (l m : List Bits) → None ≡ next_as f (first_of l) → first_of (l ++ m) ≡ first_of m
 first-none f [] m e = refl
 first-none f (p ∷ l) m e = absurd (never (sym e))
 
@@ -147,55 +146,55 @@ module _ (q : Bits) (l r : Trie) where
       )
 
 -- The answers on the way down: of the leaves k levels below the root of t, whose path is p, the first; and of those later than q.
-abbrev pub FirstAt : ℕ → Bits → Trie → ℕ → Next → Type 0
+abbrev pub FirstAt : ℕ → Bits → Trie → ℕ → Option Net → Type 0
 FirstAt f p t k n = n ≡ next_as f (first_of (map (λ q. p ++ q) (level bare k t)))
 
-abbrev pub FirstLater : ℕ → Bits → Trie → Bits → Next → Type 0
+abbrev pub FirstLater : ℕ → Bits → Trie → Bits → Option Net → Type 0
 FirstLater f p t q n = n ≡ next_as f (first_of (map (λ r. p ++ r) (later_in q t)))
 
-pub first-empty : (f : ℕ) (p : Bits) (t : Trie) (k : ℕ) → t ≡ none → FirstAt f p t k End
+pub first-empty : (f : ℕ) (p : Bits) (t : Trie) (k : ℕ) → t ≡ none → FirstAt f p t k None
 first-empty f p t k e = rw (e, level-none k)
 
-pub first-here : (f : ℕ) (p : Bits) (t : Trie) (k : ℕ) (x : Net) → t ≡ leaf → k ≡ 0 → x ≡ net_from f p → FirstAt f p t k (Network x)
+pub first-here : (f : ℕ) (p : Bits) (t : Trie) (k : ℕ) (x : Net) → t ≡ leaf → k ≡ 0 → x ≡ net_from f p → FirstAt f p t k (Some x)
 first-here f p t k x e z h = rw (e, z, h, append-nil p)
 
-pub first_above : (f : ℕ) (p : Bits) (t : Trie) (k : ℕ) → t ≡ leaf → (k ≡ 0 → ⊥) → FirstAt f p t k End
+pub first_above : (f : ℕ) (p : Bits) (t : Trie) (k : ℕ) → t ≡ leaf → (k ≡ 0 → ⊥) → FirstAt f p t k None
 first_above f p t zero e h = absurd (h refl)
 first_above f p t (suc k) e h = rw (e, level-none k)
 
-pub later-empty : (f : ℕ) (p : Bits) (t : Trie) (q : Bits) → t ≡ none → FirstLater f p t q End
+pub later-empty : (f : ℕ) (p : Bits) (t : Trie) (q : Bits) → t ≡ none → FirstLater f p t q None
 later-empty f p t q e = rw (e, level-none (length q))
 
-pub later-here : (f : ℕ) (p : Bits) (t : Trie) (q : Bits) → t ≡ leaf → FirstLater f p t q End
+pub later-here : (f : ℕ) (p : Bits) (t : Trie) (q : Bits) → t ≡ leaf → FirstLater f p t q None
 later-here f p t q e = rw (e, later-leaf q)
 
 module _ (f : ℕ) (p : Bits) {w : List ℕ} {b i e m : ℕ} {t : Trie} (k : Forked w b i e m t) where
-  pub first_inner : (d : ℕ) → d ≡ 0 → FirstAt f p t d End
+  pub first_inner : (d : ℕ) → d ≡ 0 → FirstAt f p t d None
   first_inner d z = rw (k.is, z, k.inner)
 
   level-is : (d : ℕ) → (d ≡ 0 → ⊥) → map (λ q. p ++ q) (level bare d t) ≡ map (λ q. snoc p false ++ q) (level bare (d - 1) k.l) ++ map (λ q. snoc p true ++ q) (level bare (d - 1) k.r)
   level-is zero h = absurd (h refl)
   level-is (suc d) h = rw (k.is, sub-one (suc d)) (map-node p (level bare d k.l) (level bare d k.r))
 
-  pub first-left : (d : ℕ) {n : Next} {z : Net} → (d ≡ 0 → ⊥) → FirstAt f (snoc p false) k.l (d - 1) n → n ≡ Network z → FirstAt f p t d (Network z)
+  pub first-left : (d : ℕ) {n : (Option Net)} {z : Net} → (d ≡ 0 → ⊥) → FirstAt f (snoc p false) k.l (d - 1) n → n ≡ Some z → FirstAt f p t d (Some z)
   first-left d {n} {z} h a e = rw (level-is d h) (first_found f (map (λ q. snoc p false ++ q) (level bare (d - 1) k.l)) (map (λ q. snoc p true ++ q) (level bare (d - 1) k.r)) z (sym e ∙ a))
 
-  pub first-right : (d : ℕ) {n m : Next} → (d ≡ 0 → ⊥) → FirstAt f (snoc p false) k.l (d - 1) n → n ≡ End → FirstAt f (snoc p true) k.r (d - 1) m → FirstAt f p t d m
+  pub first-right : (d : ℕ) {n m : (Option Net)} → (d ≡ 0 → ⊥) → FirstAt f (snoc p false) k.l (d - 1) n → n ≡ None → FirstAt f (snoc p true) k.r (d - 1) m → FirstAt f p t d m
   first-right d h a e c = rw (level-is d h, first-none f (map (λ q. snoc p false ++ q) (level bare (d - 1) k.l)) (map (λ q. snoc p true ++ q) (level bare (d - 1) k.r)) (sym e ∙ a)) c
 
-  pub later-inner : (q : Bits) → q ≡ [] → FirstLater f p t q End
+  pub later-inner : (q : Bits) → q ≡ [] → FirstLater f p t q None
   later-inner q e = rw (e, k.is, later-end k.l k.r k.inner)
 
-  pub later_second : (q s : Bits) {n : Next} → q ≡ true ∷ s → FirstLater f (snoc p true) k.r s n → FirstLater f p t q n
+  pub later_second : (q s : Bits) {n : (Option Net)} → q ≡ true ∷ s → FirstLater f (snoc p true) k.r s n → FirstLater f p t q n
   later_second q s e a = rw (e, k.is, later-down s k.l k.r, map_snoc p true (later_in s k.r)) a
 
   later-is : (q s : Bits) → q ≡ false ∷ s → map (λ r. p ++ r) (later_in q t) ≡ map (λ r. snoc p false ++ r) (later_in s k.l) ++ map (λ r. snoc p true ++ r) (level bare (length s) k.r)
   later-is q s e = rw (e, k.is, later-up s k.l k.r) (map-node p (later_in s k.l) (level bare (length s) k.r))
 
-  pub later-left : (q s : Bits) {n : Next} {z : Net} → q ≡ false ∷ s → FirstLater f (snoc p false) k.l s n → n ≡ Network z → FirstLater f p t q (Network z)
+  pub later-left : (q s : Bits) {n : (Option Net)} {z : Net} → q ≡ false ∷ s → FirstLater f (snoc p false) k.l s n → n ≡ Some z → FirstLater f p t q (Some z)
   later-left q s {n} {z} h a e = rw (later-is q s h) (first_found f (map (λ r. snoc p false ++ r) (later_in s k.l)) (map (λ r. snoc p true ++ r) (level bare (length s) k.r)) z (sym e ∙ a))
 
-  pub later-right : (q s : Bits) {n m : Next} → q ≡ false ∷ s → FirstLater f (snoc p false) k.l s n → n ≡ End → FirstAt f (snoc p true) k.r (length s) m → FirstLater f p t q m
+  pub later-right : (q s : Bits) {n m : (Option Net)} → q ≡ false ∷ s → FirstLater f (snoc p false) k.l s n → n ≡ None → FirstAt f (snoc p true) k.r (length s) m → FirstLater f p t q m
   later-right q s h a e c = rw (later-is q s h, first-none f (map (λ r. snoc p false ++ r) (later_in s k.l)) (map (λ r. snoc p true ++ r) (level bare (length s) k.r)) (sym e ∙ a)) c
 
 -- The lengths from k on.
@@ -226,11 +225,11 @@ module _ {c : List ℕ} {k r : ℕ} {t : Trie} (s : Skips c k r) (counts : (j : 
       let e : k + (r - k) ≡ r = omega (arith, s.from) in
       rw (a, e) at (above-skip (r - k) k (129 - r) t (λ j l g. length_none (level bare j t) (sym (counts j (omega (arith, s.to, s.from))) ∙ s.none_before j l (omega (arith, s.from)))))
 
-  pub skips-none : (f : ℕ) → r ≡ 129 → End ≡ next_as f (first_of (above (129 - k) k t))
+  pub skips-none : (f : ℕ) → r ≡ 129 → None ≡ next_as f (first_of (above (129 - k) k t))
   unfolding above
   skips-none f e = rw (above-is, e)
 
-  pub skips-some : (f : ℕ) {n : Next} → (r ≡ 129 → ⊥) → FirstAt f [] t r n → n ≡ next_as f (first_of (above (129 - k) k t))
+  pub skips-some : (f : ℕ) {n : (Option Net)} → (r ≡ 129 → ⊥) → FirstAt f [] t r n → n ≡ next_as f (first_of (above (129 - k) k t))
   unfolding above
   skips-some f h a =
       let l : r < 129 = omega (arith, s.to) in
@@ -264,7 +263,7 @@ module _ {w : List ℕ} {b i e f : ℕ} {t : Trie} (o : Holds w b i e f t) where
   listed : (n k : ℕ) → k + n ≡ 129 → list_of t ≡ below bare k t ++ above n k t
   listed n k h = sym (below-list_of t (k + n) (omega (arith, o.deep, width-le f))) ∙ below-above n k t
 
-  pub next_start : {n : Next} → n ≡ next_as f (first_of (above 129 0 t)) → n ≡ next_as f (next_l (list_of t) start)
+  pub next_start : {n : (Option Net)} → n ≡ next_as f (first_of (above 129 0 t)) → n ≡ next_as f (next_l (list_of t) start)
   next_start a = a ∙ rw (next_l-first (list_of t) start, keep-start (list_of t), listed 129 0 refl)
 
   module _ (q : Bits) (k : ℕ) (is : length q ≡ k) (h : k ≤ 128) where
@@ -285,8 +284,8 @@ module _ {w : List ℕ} {b i e f : ℕ} {t : Trie} (o : Holds w b i e f t) where
           is,
         )
 
-    pub next-later : {n : Next} {z : Net} → FirstLater f [] t q n → n ≡ Network z → Network z ≡ next_as f (next_l (list_of t) (past q))
+    pub next-later : {n : (Option Net)} {z : Net} → FirstLater f [] t q n → n ≡ Some z → Some z ≡ next_as f (next_l (list_of t) (past q))
     next-later {n} {z} a c = rw next-is (first_found f (map (λ r. [] ++ r) (later_in q t)) (above (129 - (k + 1)) (k + 1) t) z (sym c ∙ a))
 
-    pub next-on : {n m : Next} → FirstLater f [] t q n → n ≡ End → m ≡ next_as f (first_of (above (129 - (k + 1)) (k + 1) t)) → m ≡ next_as f (next_l (list_of t) (past q))
+    pub next-on : {n m : (Option Net)} → FirstLater f [] t q n → n ≡ None → m ≡ next_as f (first_of (above (129 - (k + 1)) (k + 1) t)) → m ≡ next_as f (next_l (list_of t) (past q))
     next-on a c d = rw (next-is, first-none f (map (λ r. [] ++ r) (later_in q t)) (above (129 - (k + 1)) (k + 1) t) (sym c ∙ a)) d

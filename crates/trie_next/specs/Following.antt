@@ -5,28 +5,26 @@
 --   first_of l         the first of a list
 --   later_in q t       the members of t as long as q that come after q
 --   above n k t       the members of the lengths k to k + n - 1
-use Rattle.std.specs.Prelude.{List, [], ◌∷◌, ◌++◌, ℕ, zero, suc, length}
+use Rattle.std.specs.Prelude.{List, [], ◌∷◌, ◌++◌, ℕ, zero, suc, length, Option, Some, None}
 use Rattle.nets.specs.Bits.{Bits, before}
 use Rattle.nets.specs.Tries.{Trie, bare, level}
 use Rattle.nets.specs.Lists.{keep, Found, found, missing}
 use Rattle.nets.specs.Lists as lists
 use Rattle.nets.specs.Networks.{net_from, bits_left}
-use Rattle.trie_next.specs.declared.following.Place.{Place}
-use Rattle.trie_next.specs.declared.following.Place.TheVariants.{Start, Past}
-use Rattle.trie_next.specs.declared.following.Next.{Next}
-use Rattle.trie_next.specs.declared.following.Next.TheVariants.{Network, End}
+use Rattle.nets.specs.declared.Net.{Net}
+use Rattle.nets.specs.declared.PrefixBits.{PrefixBits}
 
-abbrev pub place_of : Place → lists.Place
-place_of Start = lists.start
-place_of (Past s) = lists.past (bits_left s)
+abbrev pub place_of : Option PrefixBits → lists.Place
+place_of None = lists.start
+place_of (Some s) = lists.past (bits_left s)
 
-abbrev pub len_of : Place → ℕ
-len_of Start = 0
-len_of (Past s) = s.len
+abbrev pub len_of : Option PrefixBits → ℕ
+len_of None = 0
+len_of (Some s) = s.len
 
-abbrev pub next_as : ℕ → Found → Next
-next_as f (found p) = Network (net_from f p)
-next_as f missing = End
+abbrev pub next_as : ℕ → Found → Option Net
+next_as f (found p) = Some (net_from f p)
+next_as f missing = None
 
 abbrev pub first_of : List Bits → Found
 first_of [] = missing

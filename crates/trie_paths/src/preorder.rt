@@ -18,14 +18,14 @@ pub const STACK: usize = 387;
 pub fn leaves(x: usize) -> usize
     ensures { result ≡ cond (eqb x 0) 1 0 }
 {
-    if x == 0 { 1 } else { 0 }
+    usize::from(x == 0)
 }
 
 // 1 for the word of a node with two children, else 0.
 pub fn forks(x: usize) -> usize
     ensures { result ≡ cond (ltb 2 x) 1 0 }
 {
-    if 2 < x { 1 } else { 0 }
+    usize::from(2 < x)
 }
 
 // Writes a network as entry n.

@@ -1,5 +1,6 @@
 -- What is found of a part, its halves, and what is written: a part at another place, and the node over two halves. Assumes nothing.
-use mathlib.Core.Bool.{Bool, true, false, cond, ◌||◌, false≢true}
+use mir.Val.{bool_byte}
+use mathlib.Core.Bool.{Bool, true, false, ◌||◌, false≢true}
 use mathlib.Core.List.{List, [], ◌∷◌, ◌++◌, append-nil}
 use mathlib.Core.Path.{◌≡◌, refl, sym, ◌∙◌}
 use Prim.Native.Nat.{ℕ, ◌+◌, ◌-◌, ◌≤◌, ◌<◌}
@@ -213,10 +214,10 @@ pub whole-nodes : {w : List ℕ} {b i e : ℕ} {t : Trie} → Part w b i e t →
 unfolding size
 whole-nodes {t = t} p n = rw (part-whole t p n).0
 
-pub flat-nodes : (x : Bool) → size (flat_t x) ≡ cond x 1 0
+pub flat-byte : (x : Bool) → bool_byte x ≡ size (flat_t x)
 unfolding size
-flat-nodes true = refl
-flat-nodes false = refl
+flat-byte true = refl
+flat-byte false = refl
 
 pub over_none : (n : ℕ) → n ≡ 0 → (l r : Trie) → n ≡ size l + size r → 0 ≡ size (glue false l r)
 unfolding size

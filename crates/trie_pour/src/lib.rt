@@ -1,5 +1,7 @@
 // Many networks into a trie in words or out of it, in one pass: what is done at a node. A trie is given by two numbers: the node where it stands
 // and its end, or 0 and 0 for a full one that stands nowhere. Each function asks in its contract what makes it safe.
+#![tactic(auto)]
+
 ghost use Rattle.std.specs.Prelude.{false, List, [], ◌≡◌, ℕ, ◌+◌, ◌<◌};
 ghost use Rattle.nets.specs.Tries.{Trie, size, glue};
 ghost use Rattle.nodes.specs.Segments.{Segment};
@@ -79,10 +81,7 @@ pub fn nodes_of(i: usize, e: usize) -> usize
 pub fn flat_size(full: bool) -> usize
     ensures { result ≡ size (flat_t full) }
 {
-    if full {
-        return 1;
-    }
-    0
+    usize::from(full)
 }
 
 // The nodes over n nodes of two halves: none where they are empty.

@@ -74,10 +74,8 @@ pub fn write_ranges(w: &[u32], b: usize, i: usize, e: usize, family: u8, rows: &
     let mut sp: usize = 1;
     let mut x = halves::whole(family);
     let mut at = Open { n: 0, hi: 0, lo: 0 };
-    let mut k = i;
-    while k < e {
+    for k in i..e {
         let y = steps::word(w, b, k);
-        k += 1;
         if y == 0 {
             at = take(at, x, rows);
             sp -= 1;

@@ -8,7 +8,6 @@ use Rattle.nets.specs.Tries.{Trie, none, leaf, size}
 use Rattle.nets.specs.TrieOps.{remove_t}
 use Rattle.nets.specs.Networks.{bits_left, next_as, next_of}
 use Rattle.nets.specs.declared.PrefixBits.{PrefixBits}
-use Rattle.nets.specs.declared.NextBit.TheVariants.{Bit, End}
 use Rattle.nets.proofs.Handing.{len-next, bits-end, bits-next, length-bits_left}
 use Rattle.nodes.specs.Segments.{view_of}
 use Rattle.nodes.specs.declared.steps.View.TheVariants.{Nothing, Leaf, Inner}
@@ -16,13 +15,14 @@ use Rattle.nodes.proofs.Views.{view-none, view-leaf, view-inner}
 use Rattle.trie_remove.specs.declared.Child.{Child}
 use Rattle.trie_remove.specs.Removal.{child_of, Inside}
 use Rattle.trie_remove.proofs.Remains.{remove_t-end, remove_t-none, size-remove_t-leaf}
+use Rattle.std.specs.Prelude.{Some, None}
 
 -- The path ends.
-pub nothing-more : (s : PrefixBits) (t : Trie) → s.len ≤ 128 → next_of s ≡ next_as End → remove_t (bits_left s) t ≡ none
+pub nothing-more : (s : PrefixBits) (t : Trie) → s.len ≤ 128 → next_of s ≡ next_as None → remove_t (bits_left s) t ≡ none
 nothing-more s t h e = rw (bits-end s h e) (remove_t-end t)
 
 -- It goes on with a bit, and what stands there is seen.
-module _ (i : ℕ) (t : Trie) (s later : PrefixBits) (bit : Bool) (k : next_of s ≡ next_as (Bit bit later)) where
+module _ (i : ℕ) (t : Trie) (s later : PrefixBits) (bit : Bool) (k : next_of s ≡ next_as (Some (bit, later))) where
   pub nothing-here : Nothing ≡ view_of i t → remove_t (bits_left s) t ≡ none
   nothing-here v = rw (view-none i t v) (remove_t-none (bits_left s))
 

@@ -10,7 +10,6 @@ use Rattle.nets.specs.Tries.{Trie, none, node, leaf, size, fork}
 use Rattle.nets.specs.TrieOps.{remove_t}
 use Rattle.nets.specs.Networks.{bits_left, next_as, next_of}
 use Rattle.nets.specs.declared.PrefixBits.{PrefixBits}
-use Rattle.nets.specs.declared.NextBit.TheVariants.{Bit, End}
 use Rattle.nodes.specs.Words.{put, place, word, enc}
 use Rattle.nodes.specs.Links.{linked}
 use Rattle.nodes.specs.Segments.{Segment, Spliced}
@@ -23,6 +22,7 @@ use Rattle.trie_remove.specs.Removal.{begin}
 use Rattle.trie_remove.proofs.Remains.{remove_t-end, remove_t-leaf, size-remove_t-leaf}
 use Rattle.nets.proofs.Handing.{len-next, bits-end, bits-next, length-bits_left}
 use Rattle.trie_remove.proofs.Descent.{size-full}
+use Rattle.std.specs.Prelude.{Some, None}
 
 -- The nodes from `from` up to the trie's end go.
 module _ {w : List ℕ} {b i e u : ℕ} {t : Trie} {rest : List ℕ} (g : Segment w b i e u t rest) (from : ℕ) where
@@ -61,7 +61,7 @@ pub record Chain (w₀ : List ℕ) (b i : ℕ) (s : PrefixBits) (w : List ℕ) (
   pub rest : put w (place b k) (enc (remove_t (bits_left left) leaf)) ≡ put w₀ (place b i) (enc (remove_t (bits_left s) leaf))
 
 module _ {w₀ : List ℕ} {b i : ℕ} {s : PrefixBits} {w : List ℕ} {k : ℕ} {left : PrefixBits} (c : Chain w₀ b i s w k left) where
-  pub chain-turn : (later : PrefixBits) (bit : Bool) (v : List ℕ) (j : ℕ) → next_of left ≡ next_as (Bit bit later) → length v ≡ length w → (k < j) × (j ≤ k + 2)
+  pub chain-turn : (later : PrefixBits) (bit : Bool) (v : List ℕ) (j : ℕ) → next_of left ≡ next_as (Some (bit, later)) → length v ≡ length w → (k < j) × (j ≤ k + 2)
       → ((x : Trie) → size x ≡ 2 * later.len → put v (place b j) (enc x) ≡ put w (place b k) (enc (fork bit x leaf))) → Chain w₀ b i s v j later
   chain-turn later bit v j e l h f =
       let q = len-next left later bit e in
@@ -75,15 +75,15 @@ module _ {w₀ : List ℕ} {b i : ℕ} {s : PrefixBits} {w : List ℕ} {k : ℕ}
             ∙ (rw (bits-next left later bit c.few e, remove_t-leaf bit (bits_left later)) at c.rest);
       }
 
-  pub chain-less : (later : PrefixBits) (bit : Bool) → next_of left ≡ next_as (Bit bit later) → (later.len < left.len) × (later.len < 128)
+  pub chain-less : (later : PrefixBits) (bit : Bool) → next_of left ≡ next_as (Some (bit, later)) → (later.len < left.len) × (later.len < 128)
   chain-less later bit e = omega (arith, len-next left later bit e, c.few)
 
-  pub chain-end : next_of left ≡ next_as End → w ≡ put w₀ (place b i) (enc (remove_t (bits_left s) leaf))
+  pub chain-end : next_of left ≡ next_as None → w ≡ put w₀ (place b i) (enc (remove_t (bits_left s) leaf))
   unfolding enc
   chain-end e = sym (put-nil w (place b k)) ∙ (rw (bits-end left c.few e, remove_t-end leaf) at c.rest)
 
   -- there is room for the next node and its leaf
-  pub chain-room : (later : PrefixBits) (bit : Bool) → next_of left ≡ next_as (Bit bit later) → 1 ≤ i → i < 1073741824 → s.len ≤ 128 → place b i + 2 * s.len ≤ length w₀
+  pub chain-room : (later : PrefixBits) (bit : Bool) → next_of left ≡ next_as (Some (bit, later)) → 1 ≤ i → i < 1073741824 → s.len ≤ 128 → place b i + 2 * s.len ≤ length w₀
       → ((1 ≤ k) × (k + 2 * later.len < 2147483646)) × (place b k + 2 * later.len + 1 < length w)
   chain-room later bit e o h n m = let q = len-next left later bit e in omega (arith, c.one, c.within, c.long)
 

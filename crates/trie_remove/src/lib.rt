@@ -1,4 +1,6 @@
 // Taking a path out of a trie in the used words, in place. Node numbers are usize; a subtree is a pair of numbers, its first node and its end.
+#![tactic(auto)]
+
 ghost use Rattle.std.specs.Prelude.{◌≡◌, List, [], ◌∷◌, ℕ, ◌+◌, ◌-◌, ◌*◌, ◌≤◌, ◌<◌, length};
 ghost use Rattle.nets.specs.Tries.{Trie, none, leaf, size, side, fork};
 ghost use Rattle.nets.specs.TrieOps.{remove_t};
@@ -8,7 +10,7 @@ ghost use Rattle.nodes.specs.Links.{linked};
 ghost use Rattle.nodes.specs.Segments.{Segment, Spliced};
 ghost use Rattle.trie_remove.specs.Removal.{Removable, begin, child_of, above_of, rooted, Says};
 
-use nets::{NextBit, PrefixBits};
+use nets::PrefixBits;
 use nodes::steps::View;
 use nodes::{steps, writing};
 
@@ -25,7 +27,11 @@ struct Child {
 enum Step {
     Nothing,
     Full,
-    Inner(bool, Child, PrefixBits),
+    Inner {
+        bit: bool,
+        child: Child,
+        later: PrefixBits,
+    },
 }
 
 // The child of node i on the side of the bit, where the first child ends at m and the node at e.
@@ -54,13 +60,17 @@ fn step_down(w: &[u32], b: usize, i: usize, e: usize, s: PrefixBits) -> Step
 {
     let n = s.next();
     match n {
-        NextBit::End => Step::Nothing,
-        NextBit::Bit(bit, later) => {
+        None => Step::Nothing,
+        Some((bit, later)) => {
             let v = steps::look(w, b, i, e);
             match v {
                 View::Nothing => Step::Nothing,
                 View::Leaf => Step::Full,
-                View::Inner(m) => Step::Inner(bit, child_of(bit, i, m, e), later),
+                View::Inner(m) => Step::Inner {
+                    bit,
+                    child: child_of(bit, i, m, e),
+                    later,
+                },
             }
         }
     }
@@ -83,7 +93,11 @@ pub fn remove_size(w: &[u32], b: usize, i: usize, e: usize, s: PrefixBits) -> us
     match n {
         Step::Nothing => 0,
         Step::Full => 2 * s.len as usize,
-        Step::Inner(_, c, later) => {
+        Step::Inner {
+            child: c,
+            later,
+            ..
+        } => {
             let k = remove_size(w, b, c.first, c.end, later);
             rooted(k + c.others)
         }
@@ -124,15 +138,9 @@ fn chain(w: &mut [u32], b: usize, i: usize, s: PrefixBits)
 {
     let mut k = i;
     let mut left = s;
-    loop {
-        let n = left.next();
-        match n {
-            NextBit::End => return,
-            NextBit::Bit(bit, later) => {
-                k = halve(w, b, bit, k, 2 * later.len as usize);
-                left = later;
-            }
-        }
+    while let Some((bit, later)) = left.next() {
+        k = halve(w, b, bit, k, 2 * later.len as usize);
+        left = later;
     }
 }
 
@@ -187,7 +195,11 @@ pub fn remove(
     match n {
         Step::Nothing => take_out(w, b, from, e, u),
         Step::Full => split(w, b, i, e, u, s),
-        Step::Inner(bit, c, later) => {
+        Step::Inner {
+            bit,
+            child: c,
+            later,
+        } => {
             let y = remove(w, b, above(from, c), c.first, c.end, u, later);
             if y == from {
                 return from;

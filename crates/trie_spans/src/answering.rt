@@ -52,16 +52,10 @@ pub fn over_nodes(joined: bool, l: usize, r: usize) -> usize
     if n == 0 {
         return 0;
     }
-    if !joined {
-        return n + 1;
+    if joined && l == 1 && r == 1 {
+        return 1;
     }
-    if l != 1 {
-        return n + 1;
-    }
-    if r != 1 {
-        return n + 1;
-    }
-    1
+    n + 1
 }
 
 // The nodes over one half alone, of n nodes.

@@ -32,7 +32,8 @@ fn last_ahead(x: usize) -> usize
     x / 2
 }
 
-// Where the trie ends that the number i means: behind its last leaf, to which the last children lead.
+// Where the trie ends that the number i means: behind its last leaf, to which the last children lead. A `loop`: it goes from node to node by
+// the distances in the words, over no range.
 pub fn end_from(w: &[u32], b: usize, i: usize) -> usize
     requires by_index { (o : ℕ) × (g : ℕ) × (t : Trie) × Means w.now b o g i t }
     requires i_bound { i < 4294967295 }

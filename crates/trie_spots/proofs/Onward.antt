@@ -13,8 +13,6 @@ use Rattle.nets.specs.Lists.{member, keep, past, is_past, Found, found, missing,
 use Rattle.nets.specs.Networks.{is_family, width, net_from, refusal_of, start_of, no_bits, prefix_as}
 use Rattle.nets.specs.Refusals.{answered}
 use Rattle.nets.specs.declared.Net.{Net}
-use Rattle.nets.specs.declared.Prefix.{Prefix}
-use Rattle.nets.specs.declared.Prefix.TheVariants as prefix
 use Rattle.nets.specs.declared.PrefixBits.{PrefixBits}
 use Rattle.nets.specs.declared.Refusal.{Refusal}
 use Rattle.nets.proofs.Order.{From}
@@ -23,27 +21,33 @@ use Rattle.nets.proofs.Lookups.{keep-start, next_l-step, next_l-end, next_l-foun
 use Rattle.nets.proofs.Numbers.{bits_left-start, start_of-few, net_bits-net_from, refusal_of-net_from}
 use Rattle.nets.proofs.Answers.{number-some, prefix-bits, prefix-refused}
 use Rattle.trie_next.specs.Following.{place_of, len_of, next_as}
-use Rattle.trie_next.specs.declared.following.Place.TheVariants.{Start, Past}
-use Rattle.trie_next.specs.declared.following.Next.{Next}
-use Rattle.trie_next.specs.declared.following.Next.TheVariants.{Network, End}
 use Rattle.nodes.specs.declared.seats.Seat.{Seat}
 use Rattle.trie_spots.specs.Spots.{nowhere, before_all, place_in, Right, landed, gone_on, StandsIn}
 use Rattle.trie_spots.specs.declared.spots.Spot.{Spot}
+use Rattle.std.specs.Prelude.{Result, Option, Ok, Err, Some, None}
+use Rattle.std.specs.Result.{result_ok}
 
 -- The returns of `place_in`.
-pub place-start : (s : Spot) → s.begun ≡ false → (place_of Start ≡ place_in s) × (len_of Start ≤ 128)
+pub place-start : (s : Spot) → s.begun ≡ false → (place_of None ≡ place_in s) × (len_of None ≤ 128)
 unfolding place_in
 place-start s e = (rw e, omega arith)
 
-module _ (s : Spot) (right : Right s) (b : s.begun ≡ true) (p : Prefix) (g : prefix_as p ≡ answered (refusal_of s.net) no_bits (start_of s.net)) where
-  pub place-past : (x : PrefixBits) → p ≡ prefix.Bits x → (place_of (Past x) ≡ place_in s) × (len_of (Past x) ≤ 128)
+module _ (s : Spot) (right : Right s) (b : s.begun ≡ true) (p : Result PrefixBits Refusal) (g : prefix_as p ≡ answered (refusal_of s.net) no_bits (start_of s.net)) where
+  pub place-past : (x : PrefixBits) → p ≡ Ok x → (place_of (Some x) ≡ place_in s) × (len_of (Some x) ≤ 128)
   unfolding place_in
   place-past x e =
       let y = prefix-bits s.net p x g e in
       (rw (b, y.1) (ap past (bits_left-start s.net y.0)), rw y.1 (start_of-few s.net y.0))
 
-  pub place-never : {X : Type 0} (r : Refusal) → p ≡ prefix.Refused r → X
+  pub place-never : {X : Type 0} (r : Refusal) → p ≡ Err r → X
   place-never r e = absurd (number-some r (sym (prefix-refused s.net p r g e) ∙ right b))
+
+  pub place-of : (place_of (result_ok p) ≡ place_in s) × (len_of (result_ok p) ≤ 128)
+  place-of = go p refl
+    where
+      go : (q : Result PrefixBits Refusal) → p ≡ q → (place_of (result_ok q) ≡ place_in s) × (len_of (result_ok q) ≤ 128)
+      go (Ok x) e = place-past x e
+      go (Err r) e = place-never r e
 
 -- The returns of `arrive`, and of `go_on`, in the same seat.
 pub seat-gone : (l : List Bits) (s : Spot) → (gone_on l s).seat ≡ s.seat
@@ -54,16 +58,16 @@ seat-gone l s = go (next_l l (place_in s))
     go (found p) = refl
     go missing = refl
 
-module _ (s : Spot) (x : Next) where
-  pub arrive-network : (n : Net) → x ≡ Network n → (y : Found) → x ≡ next_as s.seat.family y → record { seat = s.seat; begun = true; more = true; net = n } ≡ landed s y
+module _ (s : Spot) (x : Option Net) where
+  pub arrive-network : (n : Net) → x ≡ Some n → (y : Found) → x ≡ next_as s.seat.family y → record { seat = s.seat; begun = true; more = true; net = n } ≡ landed s y
   arrive-network n h (found z) e = let m : net_from s.seat.family z ≡ n = cc in rw m
   arrive-network n h missing e = let z : ◌≡◌ {A = ℕ} 0 1 = cc in absurd (omega arith)
 
-  pub arrive-end : x ≡ End → (y : Found) → x ≡ next_as s.seat.family y → record { seat = s.seat; begun = s.begun; more = false; net = s.net } ≡ landed s y
+  pub arrive-end : x ≡ None → (y : Found) → x ≡ next_as s.seat.family y → record { seat = s.seat; begun = s.begun; more = false; net = s.net } ≡ landed s y
   arrive-end h (found z) e = let z : ◌≡◌ {A = ℕ} 0 1 = cc in absurd (omega arith)
   arrive-end h missing e = refl
 
-pub gone-on : (l : List Bits) (s r : Spot) (x : Next) (p : lists.Place) → p ≡ place_in s → x ≡ next_as s.seat.family (next_l l p)
+pub gone-on : (l : List Bits) (s r : Spot) (x : Option Net) (p : lists.Place) → p ≡ place_in s → x ≡ next_as s.seat.family (next_l l p)
     → ((y : Found) → x ≡ next_as s.seat.family y → r ≡ landed s y) → r ≡ gone_on l s
 unfolding gone_on
 gone-on l s r x p q e h = rw (← q) (h (next_l l p) e)

@@ -5,9 +5,9 @@ ghost use Rattle.nets.specs.Tries.{Trie, list_of};
 ghost use Rattle.trie_next.specs.Following.{place_of, len_of, next_as};
 ghost use Rattle.trie_spots.specs.Spots.{nowhere, before_all, place_in, Right, StandsIn, landed, gone_on, Goes};
 
-use nets::{IPV4, Net, Prefix};
+use nets::{IPV4, Net, PrefixBits};
 use nodes::seats::Seat;
-use trie_next::following::{Next, Place, next_after};
+use trie_next::following::next_after;
 
 // Before the first network, at one, or behind the last: `more` says whether it is at a network, `begun` whether it has been at any, and `net` is the last one.
 #[derive(Clone, Copy)]
@@ -48,35 +48,30 @@ pub fn before_all(seat: Seat) -> Spot
 }
 
 // The place in the list behind which to look for the next network.
-fn place_in(s: Spot) -> Place
+fn place_in(s: Spot) -> Option<PrefixBits>
     requires { Right s }
     ensures { (place_of result ≡ place_in s) × (len_of result ≤ 128) }
 {
     if !s.begun {
-        return Place::Start;
+        return None;
     }
-    let n = s.net;
-    let prefix = n.prefix_bits();
-    match prefix {
-        Prefix::Bits(bits) => Place::Past(bits),
-        Prefix::Refused(_) => Place::Start,
-    }
+    s.net.prefix_bits().ok()
 }
 
 // At the network that was found behind the spot, or behind the last.
-pub fn arrive(s: Spot, x: Next) -> Spot
+pub fn arrive(s: Spot, x: Option<Net>) -> Spot
     ensures { (y : Found) → x ≡ next_as s.seat.family y → result ≡ landed s y }
 {
     let seat = s.seat;
     let last = s.net;
     match x {
-        Next::Network(net) => Spot {
+        Some(net) => Spot {
             seat,
             begun: true,
             more: true,
             net,
         },
-        Next::End => Spot {
+        None => Spot {
             seat,
             begun: s.begun,
             more: false,

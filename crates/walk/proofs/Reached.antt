@@ -1,37 +1,33 @@
--- Going to a place of the list: the turns of `reach`, and what the spots that it reaches say of the list. Nothing here is about memory. Assumes nothing.
+-- Going to a place of the list: the steps of `reach`, and what the spots that it reaches say of the list. Nothing here is about memory. Assumes nothing.
 use mathlib.Core.Path.{◌≡◌, refl, sym, ap, ◌∙◌}
 use mathlib.Core.Bool.{Bool, true, false, cond, true≢false}
 use mathlib.Core.List.{List, [], ◌∷◌}
 use mathlib.Core.Logic.{inl, inr}
-use Prim.Native.Nat.{ℕ, zero, suc, ◌-◌, ◌≤◌, ◌<◌}
+use Prim.Native.Nat.{ℕ, zero, suc, ◌≤◌}
 use native.Mathlib.Omega.{arith}
 use denote.Ref.{Bor}
-use lib.Dec.{eqb, leb}
+use lib.Dec.{leb}
 use lib.ListN.{length}
-use borrow.Author.Tests.{ne_eqb}
 use Rattle.nets.specs.Bits.{Bits}
 use Rattle.nets.specs.Lists.{Found, found, missing, next_l}
 use Rattle.nets.specs.Networks.{net_from}
 use Rattle.nets.specs.Refusals.{answered}
 use Rattle.nets.specs.declared.Net.{Net}
-use Rattle.nets.specs.declared.Refusal.TheVariants.{Damaged, NoSet}
 use Rattle.pool_state.specs.Decode.{Decoded, damaged, sound, decode}
 use Rattle.pool_state.specs.Rules.{answer_on}
 use Rattle.listing.specs.Calls.{nothing, found_as, follower_as}
-use Rattle.listing.specs.declared.Follower.{Follower}
-use Rattle.listing.specs.declared.Follower.TheVariants.{Network, End, Refused}
 use Rattle.nodes.specs.declared.seats.Seat.{Seat}
-use Rattle.trie_spots.specs.Spots.{before_all, place_in, landed, gone_on}
+use Rattle.trie_spots.specs.Spots.{place_in, landed, gone_on}
 use Rattle.trie_spots.specs.declared.spots.Spot.{Spot}
 use Rattle.trie_spots.proofs.Onward.{ahead, ahead-all}
 use Rattle.walk.specs.Walks.{walk_no, list_in, seat_in, walk_start, walk_on, Walking}
-use Rattle.walk_turns.specs.Turns.{first_turn, idle, turn_after, IsNo, told_of}
+use Rattle.walk_turns.specs.Turns.{IsNo, told_of}
 use Rattle.walk.specs.Places.{nth_l, last_l, place_rule, spot_after, stage_in}
 use Rattle.walk.specs.declared.beginning.Stage.{Stage}
-use Rattle.walk_turns.specs.declared.turns.Turn.{Turn}
 use Rattle.walk.specs.declared.walking.Walk.{Walk}
-use Rattle.walk_turns.proofs.Returns.{after-here, after_on, after-end}
 use Rattle.walk.proofs.Steps.{list_on, list-small, on-more, on-end, on-seat, walking-from, walking_on}
+use Rattle.std.specs.Prelude.{Result, Option}
+use Rattle.nets.specs.declared.Refusal.{Refusal}
 
 -- The number of a walk, and the rule by the list that it goes through.
 is-no : (d : Decoded) (k : ℕ) → IsNo (walk_no d k)
@@ -66,66 +62,27 @@ unfolding spot_after
 after-stays zero l s m = refl
 after-stays (suc n) l s m = ap (spot_after n l) (gone-stays l s m) ∙ after-stays n l s m
 
--- how many turns are left at most, as a turn says
-abbrev pub to_go : Turn → ℕ
-to_go t = cond t.more (suc t.left) 0
+-- The walk w on the way of `reach`, whose number stays x: n steps more come to the spot z.
+pub record Going (z : Spot) (x n : ℕ) (w : Walk) : Type 0 where
+  pub no : w.no ≡ x
+  pub walking : Walking w
+  pub comes : spot_after n (list_on w) w.spot ≡ z
 
-pub nearer : (s : Spot) (t : Turn) → t.more ≡ true → to_go (turn_after s t) < to_go t
-nearer s t m = rw m (go s.more t.left)
-  where
-    go : (b : Bool) (n : ℕ) → to_go (cond b (cond (eqb n 0) (idle t) (first_turn (n - 1))) (idle t)) < suc n
-    go false n = omega arith
-    go true zero = omega arith
-    go true (suc n) = rw (ne_eqb (suc n) 0 (λ e. omega arith)) (omega arith)
+pub starts : (p : Bor (List ℕ)) (k i n : ℕ) → n ≡ suc i → Going (stage_in (decode p.now) k i).spot (walk_no (decode p.now) k) n (walk_start p k)
+starts p k i n e = record { no = refl; walking = walking-from p k; comes = rw e }
 
--- The turns of `reach`, where the walk is w: j turns are left at most, and z is the spot that is reached.
-module _ (z : Spot) where
-  pub record Going (j : ℕ) (w : Walk) (t : Turn) : Type 0 where
-    pub walking : Walking w
-    pub more : t.more ≡ true → (j ≡ suc t.left) × (spot_after (suc t.left) (list_on w) w.spot ≡ z)
-    pub done : t.more ≡ false → w.spot ≡ z
-
-  stops : (w : Walk) (t r : Turn) → Walking w → r ≡ idle t → w.spot ≡ z → Going 0 w r
-  stops w t r h e f = record { walking = h; more = λ m. absurd (true≢false (sym m ∙ ap (λ (x : Turn). x.more) e)); done = λ _. f }
-
-  -- the turn behind one that goes on
-  pub turned : (j : ℕ) (w : Walk) (t r : Turn) → Going j w t → t.more ≡ true → r ≡ turn_after (walk_on w).spot t → (i : ℕ) × ((i < j) × Going i (walk_on w) r)
+module _ {z : Spot} {x n : ℕ} {w : Walk} (h : Going z x n w) where
+  pub done : n ≡ 0 → ◌≡◌ {A = Stage} record { spot = w.spot; no = w.no } record { spot = z; no = x }
   unfolding spot_after
-  turned j w t r h m e = go (walk_on w).spot.more refl
-    where
-      q : spot_after t.left (list_on w) (walk_on w).spot ≡ z
-      q = (h.more m).1
+  done e = let q : w.spot ≡ z = rw e at h.comes in λ i. record { spot = q i; no = h.no i }
 
-      on : Walking (walk_on w)
-      on = walking_on w h.walking
+  module _ (m : ℕ) (e : n ≡ suc m) where
+    pub steps : Going z x m (walk_on w)
+    unfolding spot_after
+    steps = record { no = h.no; walking = walking_on w h.walking; comes = rw e at h.comes }
 
-      by : (n : ℕ) → t.left ≡ n → (walk_on w).spot.more ≡ true → (i : ℕ) × ((i < j) × Going i (walk_on w) r)
-      by zero k b = (0, (omega (arith, (h.more m).0), stops (walk_on w) t r on (e ∙ sym (after-here (walk_on w).spot t b k)) (ap (λ i. spot_after i (list_on w) (walk_on w).spot) (sym k) ∙ q)))
-      by (suc n) k b =
-          let g : r ≡ first_turn (t.left - 1) = e ∙ sym (after_on (walk_on w).spot t b (λ x. omega arith)) in
-          let l : n ≡ r.left = (let d : n ≡ t.left - 1 = omega arith in d ∙ ap (λ (x : Turn). x.left) (sym g)) in (
-            suc n,
-            (
-              omega (arith, (h.more m).0),
-              record {
-                walking = on;
-                more = λ _. (ap suc l, ap (λ i. spot_after (suc i) (list_on w) (walk_on w).spot) (sym l) ∙ ap (λ i. spot_after i (list_on w) (walk_on w).spot) (sym k) ∙ q);
-                done = λ x. absurd (true≢false (ap (λ (y : Turn). y.more) (sym g) ∙ x));
-              },
-            ),
-          )
-
-      go : (b : Bool) → (walk_on w).spot.more ≡ b → (i : ℕ) × ((i < j) × Going i (walk_on w) r)
-      go true b = by t.left refl b
-      go false b = (0, (omega (arith, (h.more m).0), stops (walk_on w) t r on (e ∙ sym (after-end (walk_on w).spot t b)) (sym (after-stays t.left (list_on w) w.spot b) ∙ q)))
-
-pub starts : (p : Bor (List ℕ)) (k i : ℕ) (t : Turn) → t ≡ first_turn i → Going (stage_in (decode p.now) k i).spot (suc i) (walk_start p k) t
-starts p k i t e =
-    record {
-      walking = walking-from p k;
-      more = λ _. (ap suc (ap (λ (x : Turn). x.left) (sym e)), ap (λ (x : Turn). spot_after (suc x.left) (list_in (decode p.now) k) (before_all (seat_in (decode p.now) k))) e);
-      done = λ x. absurd (true≢false (ap (λ (y : Turn). y.more) (sym e) ∙ x));
-    }
+    pub stops : (walk_on w).spot.more ≡ false → ◌≡◌ {A = Stage} record { spot = (walk_on w).spot; no = w.no } record { spot = z; no = x }
+    stops b = let q : (walk_on w).spot ≡ z = sym (after-stays m (list_on w) w.spot b) ∙ steps.comes in λ i. record { spot = q i; no = h.no i }
 
 -- What is told of a spot: the network that it is at, and the last that it has been at.
 abbrev here : Spot → Bool × Net
@@ -209,7 +166,7 @@ kept-after (suc n) w h le = go (walk_on w).spot.more refl (kept-after n (walk_on
         ap kept (after-stays n (list_on w) w.spot b) ∙ g ∙ ap (last_from f (kept w.spot)) (sym (on-end w h b))
 
 -- The answers of `nth` and `last`: what is told at the spot that is reached is the rule's.
-module _ (p : Bor (List ℕ)) (k : ℕ) (g : Stage) (r : Follower) where
+module _ (p : Bor (List ℕ)) (k : ℕ) (g : Stage) (r : Result (Option Net) Refusal) where
   abbrev d : Decoded
   d = decode p.now
 

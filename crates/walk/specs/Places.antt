@@ -9,7 +9,6 @@
 use Rattle.std.specs.Prelude.{Bool, List, [], ◌∷◌, ℕ, zero, suc}
 use Rattle.nets.specs.Bits.{Bits}
 use Rattle.nets.specs.Lists.{Found, found, missing}
-use Rattle.nets.specs.Refusals.{answered}
 use Rattle.nets.specs.declared.Net.{Net}
 use Rattle.pool_state.specs.Decode.{Decoded}
 use Rattle.pool_state.specs.Rules.{answer_on, unknown}

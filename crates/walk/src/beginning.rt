@@ -4,7 +4,6 @@ ghost use Rattle.pool_state.specs.Decode.{decode};
 ghost use Rattle.walk.specs.Walks.{begin_in};
 
 use pool_check::seats::seat_of;
-use pool_state::Seated;
 use trie_spots::spots::{Spot, before_all, nowhere};
 
 // How far a walk has come, and its number of the table.
@@ -20,11 +19,11 @@ pub fn begin(pool: &[u32], set: u32) -> Stage
 {
     let seated = seat_of(pool, set);
     match seated {
-        Seated::Refused(no) => Stage {
+        Err(no) => Stage {
             spot: before_all(nowhere()),
             no: no.number(),
         },
-        Seated::At(_, seat) => Stage {
+        Ok((_, seat)) => Stage {
             spot: before_all(seat),
             no: 0,
         },

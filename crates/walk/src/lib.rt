@@ -1,5 +1,7 @@
 // A walk through a set, network after network, that holds on to the pool it reads. Making one checks the pool; while it lives the words stay as they are, so its steps do not
 // check them again, and each goes on behind the last network.
+#![tactic(auto)]
+
 ghost use Rattle.std.specs.Prelude.{◌≡◌};
 ghost use Rattle.pool_state.specs.Decode.{decode};
 ghost use Rattle.listing.specs.Calls.{follower_as};
@@ -7,7 +9,7 @@ ghost use Rattle.walk.specs.Walks.{walk_start};
 ghost use Rattle.walk.specs.Places.{nth_rule, last_rule};
 
 use beginning::begin;
-use listing::Follower;
+use nets::{Net, Refusal};
 use reaching::reach;
 use walk_turns::turns::told;
 use walking::Walk;
@@ -33,7 +35,7 @@ pub fn start<'a>(pool: &'a [u32], set: u32) -> Walk<'a>
 }
 
 // The network at place i of a set's list, counted from 0, by a walk to it; whoever calls this needs no walk.
-pub fn nth(pool: &[u32], set: u32, i: u32) -> Follower
+pub fn nth(pool: &[u32], set: u32, i: u32) -> Result<Option<Net>, Refusal>
     ensures { follower_as result ≡ nth_rule (decode pool.now) set i }
 {
     let stage = reach(pool, set, i);
@@ -42,7 +44,7 @@ pub fn nth(pool: &[u32], set: u32, i: u32) -> Follower
 }
 
 // The last network of a set's list, by a walk through all of it, which keeps the last at its end.
-pub fn last(pool: &[u32], set: u32) -> Follower
+pub fn last(pool: &[u32], set: u32) -> Result<Option<Net>, Refusal>
     ensures { follower_as result ≡ last_rule (decode pool.now) set }
 {
     let stage = reach(pool, set, ALL);

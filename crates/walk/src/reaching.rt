@@ -5,17 +5,16 @@ ghost use Rattle.walk.specs.Places.{stage_in};
 
 use crate::beginning::Stage;
 use crate::start;
-use walk_turns::turns::{after, first};
 
 // Where a walk is that has passed so many networks of a set and has gone on to the one behind them, or to the end.
 pub fn reach(pool: &[u32], set: u32, left: u32) -> Stage
     ensures { result ≡ stage_in (decode pool.now) set left }
 {
     let mut w = start(pool, set);
-    let mut t = first(left);
-    while t.more {
-        w.next();
-        t = after(w.spot, t);
+    for _k in 0..=left {
+        if !w.next() {
+            break;
+        }
     }
     Stage {
         spot: w.spot,

@@ -1,13 +1,12 @@
 // Goes through whole sets, place by place, to the end, on a page and by ranges, against lists made by hand: the rows of its input, each against what it must answer.
 #![tactic(auto)]
 
-use listing::Follower;
 use netrows::{Page, page_of};
-use nets::Net;
+use nets::{Net, Refusal};
 use rangelist::ranges;
 use std::io;
 use test_counts::calls::{Got, taken};
-use test_counts::table::{Place, Word};
+use test_counts::table::Word;
 use test_counts::{Tally, calls, table};
 use tool_files::read_full;
 
@@ -30,38 +29,31 @@ fn end() -> Got {
     Got { first, second }
 }
 
-fn follower(f: Follower) -> Got {
+fn follower(f: Result<Option<Net>, Refusal>) -> Got {
     match f {
-        Follower::Network(n) => network(n),
-        Follower::End => end(),
-        Follower::Refused(no) => calls::refusal(no),
+        Ok(Some(n)) => network(n),
+        Ok(None) => end(),
+        Err(no) => calls::refusal(no),
     }
-}
-
-fn answer_of(p: Page) -> Got {
-    let a = p.answer;
-    calls::answer(a)
 }
 
 fn entry(p: Page, i: usize) -> Got {
-    if i < 16 {
-        let m = p.nets[i];
-        return network(m);
+    match p.nets.get(i) {
+        Some(m) => network(*m),
+        None => calls::numbers(0, 0),
     }
-    calls::numbers(0, 0)
 }
 
-fn is_zero(n: Net) -> bool {
-    n.family == 0 && n.hi == 0 && n.lo == 0 && n.len == 0
-}
+const ZEROS: Net = Net {
+    family: 0,
+    hi: 0,
+    lo: 0,
+    len: 0,
+};
 
 // Whether from this entry on a page holds zeros.
 fn zeros(p: Page, from: usize) -> Got {
-    let mut right = true;
-    for i in from..16 {
-        let m = p.nets[i];
-        right = right && is_zero(m);
-    }
+    let right = p.nets.iter().skip(from).all(|m| *m == ZEROS);
     calls::numbers(right as u64, 0)
 }
 
@@ -77,7 +69,7 @@ fn cover(pool: &[u32], set: u32, lent: usize) -> Got {
 // The numbers that the call leaves in 32 that were 7.
 fn left(pool: &[u32], set: u32) -> [u64; 32] {
     let mut rows = [7u64; 32];
-    ranges(pool, set, &mut rows);
+    let _ = ranges(pool, set, &mut rows);
     rows
 }
 
@@ -103,11 +95,8 @@ fn bounds(pool: &[u32], set: u32, i: usize, family: u8) -> Got {
 
 // The number at a place of the rows afterwards.
 fn kept(pool: &[u32], set: u32, i: usize) -> Got {
-    if 31 < i {
-        return calls::numbers(0, 0);
-    }
     let rows = left(pool, set);
-    calls::numbers(rows[i], 0)
+    calls::numbers(rows.get(i).copied().unwrap_or(0), 0)
 }
 
 // The family of a pool, as its second word has it.
@@ -125,7 +114,7 @@ fn call(pool: &mut [u32], row: &[u8]) -> Got {
     match calls::letter(row) {
         b'n' => follower(walk::nth(pool, set, i)),
         b'f' => follower(walk::last(pool, set)),
-        b'p' => answer_of(page_of(pool, set)),
+        b'p' => calls::answer(page_of(pool, set).answer),
         b'e' => entry(page_of(pool, set), i as usize),
         b'z' => zeros(page_of(pool, set), i as usize),
         b'c' => cover(pool, set, i as usize),
@@ -140,27 +129,9 @@ fn case(rt: &impl Print, t: Tally, pool: &mut [u32; WORDS], row: &[u8], must: &[
     calls::score(rt, t, row, must, got)
 }
 
-// The row, where it is whole.
-fn at_end(rt: &impl Print, t: Tally, pool: &mut [u32; WORDS], text: &[u8], p: Place) -> Tally {
-    let r = table::row_in(p, text.len());
-    let start = r.start;
-    let sign = r.sign;
-    let end = r.end;
-    if !r.whole {
-        return t;
-    }
-    case(rt, t, pool, &text[start..sign], &text[sign..end])
-}
-
 fn run(rt: &impl Print, text: &[u8]) -> Tally {
     let mut pool = [0u32; WORDS];
-    let mut t = test_counts::none();
-    let mut p = table::begin();
-    for at in 0..text.len() {
-        p = table::next(p, text[at], at);
-        t = at_end(rt, t, &mut pool, text, p);
-    }
-    t
+    table::run(text, |t, row| case(rt, t, &mut pool, row.call, row.must))
 }
 
 // The most bytes of the input.

@@ -1,2 +1,2 @@
--- The turns of going to a place of a list.
+-- What is told of a place of a list.
 pub mod Turns

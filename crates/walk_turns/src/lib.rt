@@ -1,2 +1,4 @@
-// The turns of going to a place of a list, and what is told there: no walk, and no pool.
+// What is told of a place of a list: no walk, and no pool.
+#![tactic(auto)]
+
 pub mod turns;

@@ -3,36 +3,28 @@
 #![tactic(auto)]
 
 use lookup::Contained;
-use pool_state::Told;
+use nets::Refusal;
 use std::io;
 use test_counts::calls::{Got, taken};
-use test_counts::table::Place;
 use test_counts::{Tally, calls, table};
 use tool_files::read_full;
 
 // The words of the largest pools here: one set of 256 nodes, three of 250.
 const WORDS: usize = 2120;
 
-fn told(a: Told) -> Got {
-    match a {
-        Told::Is(b) => calls::numbers(b as u64, 0),
-        Told::Refused(no) => calls::refusal(no),
-    }
+fn told(a: Result<bool, Refusal>) -> Got {
+    a.map_or_else(calls::refusal, |b| calls::numbers(b as u64, 0))
 }
 
-fn looked(a: Contained) -> Got {
-    match a {
-        Contained::Is(b, steps, _) => calls::numbers(b as u64, steps as u64),
-        Contained::Refused(no) => calls::refusal(no),
-    }
+fn looked(a: Result<Contained, Refusal>) -> Got {
+    a.map_or_else(calls::refusal, |c| {
+        calls::numbers(c.is_member as u64, c.steps as u64)
+    })
 }
 
 // The word of the pool at a number.
 fn viewed(pool: &[u32], at: usize) -> u32 {
-    if at < pool.len() {
-        return pool[at];
-    }
-    0
+    pool.get(at).copied().unwrap_or(0)
 }
 
 // The call with three numbers that the row begins with; compare takes two.
@@ -69,27 +61,9 @@ fn case(rt: &impl Print, t: Tally, pool: &mut [u32; WORDS], row: &[u8], must: &[
     calls::keeps(rt, t, row, must, &was, pool)
 }
 
-// The row, where it is whole.
-fn at_end(rt: &impl Print, t: Tally, pool: &mut [u32; WORDS], text: &[u8], p: Place) -> Tally {
-    let r = table::row_in(p, text.len());
-    let start = r.start;
-    let sign = r.sign;
-    let end = r.end;
-    if !r.whole {
-        return t;
-    }
-    case(rt, t, pool, &text[start..sign], &text[sign..end])
-}
-
 fn run(rt: &impl Print, text: &[u8]) -> Tally {
     let mut pool = [0u32; WORDS];
-    let mut t = test_counts::none();
-    let mut p = table::begin();
-    for at in 0..text.len() {
-        p = table::next(p, text[at], at);
-        t = at_end(rt, t, &mut pool, text, p);
-    }
-    t
+    table::run(text, |t, row| case(rt, t, &mut pool, row.call, row.must))
 }
 
 // The most bytes of the input.

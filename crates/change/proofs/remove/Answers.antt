@@ -1,65 +1,37 @@
 -- `remove` meets its contract: each return by the law for it, with what the calls on the way to it have found. Assumes nothing.
-use mathlib.Core.Bool.{true, false}
 use borrow.Author.Rules.{rules}
-use Rattle.change_ask.specs.Steps.{Ready}
-use Rattle.change_edit.proofs.Weighed.{Weighed, clear-remove, weighed-refused, weighed-edits, weighed-settles, weighed-granted}
+use Rattle.change_ask.proofs.Asking.{asked}
+use Rattle.change_edit.proofs.Weighed.{weighed-remove, weighed-refused, weighed-edits, weighed-settles, weighed-granted}
 use Rattle.change.proofs.Reported.{reports-refused, reports-granted}
+use Rattle.nets.proofs.Propagated.{propagated}
 use Rattle.change.proofs.remove.Goals as goal
 
-ready : (c : goal.In-Go) → let a = c.args in Ready a.pool.now a.set a.net c.in-Go.found c.in-Go.s
-ready c = rw c.in-Go.is at c.ask-asked.ensures
-
-ready-size_with-n : (c : goal.After-size_with-n) → let a = c.args in Ready a.pool.now a.set a.net c.in-Go.found c.in-Go.s
-ready-size_with-n c = rw c.in-Go.is at c.ask-asked.ensures
-
-weighed : (c : goal.After-size_with-n) → let a = c.args in Weighed false a.pool.now a.set a.net c.in-Go.found c.in-Go.s true c.size_with-n.result
-weighed c = let h = ready-size_with-n c in record { ready = h; clear = clear-remove _ _ _; counts = c.size_with-n.ensures _ h }
-
-ready-edit-arg-1 : (c : goal.After-edit-arg-1) → let a = c.args in Ready a.pool.now a.set a.net c.in-Go.found c.in-Go.s
-ready-edit-arg-1 c = rw c.in-Go.is at c.ask-asked.ensures
-
-weighed-edit-arg-1 : (c : goal.After-edit-arg-1) → let a = c.args in Weighed false a.pool.now a.set a.net c.in-Go.found c.in-Go.s true c.size_with-n.result
-weighed-edit-arg-1 c = let h = ready-edit-arg-1 c in record { ready = h; clear = clear-remove _ _ _; counts = c.size_with-n.ensures _ h }
-
-ready-granted-arg-1 : (c : goal.After-granted-arg-1) → let a = c.args in Ready a.pool.now a.set a.net c.in-Go.found c.in-Go.s
-ready-granted-arg-1 c = rw c.in-Go.is at c.ask-asked.ensures
-
-weighed-granted-arg-1 : (c : goal.After-granted-arg-1) → let a = c.args in Weighed false a.pool.now a.set a.net c.in-Go.found c.in-Go.s true c.size_with-n.result
-weighed-granted-arg-1 c = let h = ready-granted-arg-1 c in record { ready = h; clear = clear-remove _ _ _; counts = c.size_with-n.ensures _ h }
-
-ready-in-no : (c : goal.In-No) → let a = c.args in Ready a.pool.now a.set a.net c.in-Go.found c.in-Go.s
-ready-in-no c = rw c.in-Go.is at c.ask-asked.ensures
-
-weighed-in-no : (c : goal.In-No) → let a = c.args in Weighed false a.pool.now a.set a.net c.in-Go.found c.in-Go.s true c.size_with-n.result
-weighed-in-no c = let h = ready-in-no c in record { ready = h; clear = clear-remove _ _ _; counts = c.size_with-n.ensures _ h }
-
-ready-has_bit_past : (c : goal.After-has_bit_past) → let a = c.args in Ready a.pool.now a.set a.net c.in-Go.found c.in-Go.s
-ready-has_bit_past c = rw c.in-Go.is at c.ask-asked.ensures
-
-weighed-has_bit_past : (c : goal.After-has_bit_past) → let a = c.args in Weighed false a.pool.now a.set a.net c.in-Go.found c.in-Go.s true c.size_with-n.result
-weighed-has_bit_past c = let h = ready-has_bit_past c in record { ready = h; clear = clear-remove _ _ _; counts = c.size_with-n.ensures _ h }
-
 pub size_with-n-requires : goal.size_with-n-requires
-size_with-n-requires c = (_, ready c)
+size_with-n-requires c = (_, asked c.ask.ensures c.in_ok-found.was)
 
-pub judge-verdict-requires : goal.judge-verdict-requires
-judge-verdict-requires c = (weighed c).ready.surveyed
+pub judge-requires : goal.judge-requires
+judge-requires c = (asked c.ask.ensures c.in_ok-found.was).surveyed
 
 pub edit-requires : goal.edit-requires
-edit-requires c = let h = weighed-edit-arg-1 c in (_, weighed-edits h c.judge-verdict.ensures c.in-Fits.is)
+edit-requires c = let h = asked c.ask.ensures c.in_ok-found.was in
+    (_, weighed-edits (weighed-remove h (c.size_with-n.ensures _ h)) c.judge.ensures c.in_ok-judge.was)
 
 pub granted-requires : goal.granted-requires
-granted-requires c = let h = weighed-granted-arg-1 c in
-    let z = c.in-Fits.is in
-    weighed-settles h c.judge-verdict.ensures z (c.edit.ensures _ (weighed-edits h c.judge-verdict.ensures z))
+granted-requires c = let h = asked c.ask.ensures c.in_ok-found.was in
+    let g = weighed-remove h (c.size_with-n.ensures _ h) in
+    let z = c.in_ok-judge.was in
+    weighed-settles g c.judge.ensures z (c.edit.ensures _ (weighed-edits g c.judge.ensures z))
 
-pub returns-in-Refused : goal.returns-in-Refused
-returns-in-Refused c = reports-refused c.in-Refused.no ((rw c.in-Refused.is at c.ask-asked.ensures) _)
+pub returns-in_err-found : goal.returns-in_err-found
+returns-in_err-found c = rw (propagated c.from_residual.ensures) (reports-refused c.in_err-found.field-0.0 ((rw c.in_err-found.was at c.ask.ensures) _))
 
-pub returns-in-No : goal.returns-in-No
-returns-in-No c = reports-refused c.in-No.no (weighed-refused (weighed-in-no c) c.judge-verdict.ensures _ c.in-No.is)
+pub returns-in_err-judge : goal.returns-in_err-judge
+returns-in_err-judge c = let h = asked c.ask.ensures c.in_ok-found.was in
+    let g = weighed-remove h (c.size_with-n.ensures _ h) in
+    rw (propagated c.from_residual-in_err-judge.ensures) (reports-refused c.in_err-judge.field-0.0 (weighed-refused g c.judge.ensures _ c.in_err-judge.was))
 
-pub returns-in-Fits : goal.returns-in-Fits
-returns-in-Fits c = let h = weighed-has_bit_past c in
-    let z = c.in-Fits.is in
-    reports-granted c.has_bit_past.ensures (weighed-granted h c.judge-verdict.ensures z (c.edit.ensures _ (weighed-edits h c.judge-verdict.ensures z)) c.granted.ensures.1)
+pub returns : goal.returns
+returns c = let h = asked c.ask.ensures c.in_ok-found.was in
+    let g = weighed-remove h (c.size_with-n.ensures _ h) in
+    let z = c.in_ok-judge.was in
+    reports-granted c.has_bit_past.ensures (weighed-granted g c.judge.ensures z (c.edit.ensures _ (weighed-edits g c.judge.ensures z)) c.granted.ensures.1)

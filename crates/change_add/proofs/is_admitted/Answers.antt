@@ -1,6 +1,5 @@
 -- `is_admitted` meets its contract: only of a public-only set something is asked. Assumes nothing.
 use native.Mathlib.Omega.{arith}
-use borrow.Author.Rules.{rules}
 use Rattle.pool_state.proofs.Decoded.{decode-header}
 use Rattle.pool_state.proofs.Seen.{figures}
 use Rattle.pool_state.proofs.Judged.{admits-any, admits-clear}

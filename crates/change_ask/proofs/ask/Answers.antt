@@ -2,10 +2,11 @@
 use borrow.Author.Rules.{rules}
 use Rattle.pool_state.proofs.Seats.{seated-refused, seated-at}
 use Rattle.change_ask.proofs.Asking.{ask-refused}
+use Rattle.nets.proofs.Propagated.{propagated}
 use Rattle.change_ask.proofs.ask.Goals as goal
 
 pub ask_found-requires : goal.ask_found-requires
-ask_found-requires c = (seated-at _ _ c.seat_of-seated.ensures _ _ c.in-At.is).surveyed
+ask_found-requires c = (seated-at _ _ c.seat_of.ensures _ _ c.in_ok-found.was).surveyed
 
-pub returns-in-Refused : goal.returns-in-Refused
-returns-in-Refused c = ask-refused _ c.in-Refused.no (seated-refused _ _ c.seat_of-seated.ensures _ c.in-Refused.is)
+pub returns-in_err-found : goal.returns-in_err-found
+returns-in_err-found c = rw (propagated c.from_residual.ensures) (ask-refused _ c.in_err-found.field-0.0 (seated-refused _ _ c.seat_of.ensures _ c.in_err-found.was))

@@ -3,8 +3,8 @@ use borrow.Author.Rules.{rules}
 use Rattle.change_edit.proofs.Edits.{entered-network, entered-refused}
 use Rattle.change_edit.proofs.cut.Goals as goal
 
-pub returns-in-Network : goal.returns-in-Network
-returns-in-Network c = entered-network _ _ c.to_network-entered.ensures _ _ c.in-Network.is
+pub returns-in-Ok : goal.returns-in-Ok
+returns-in-Ok c = entered-network _ _ c.to_network-entered.ensures _ _ c.in-Ok.is
 
-pub returns-in-Refused : goal.returns-in-Refused
-returns-in-Refused c = absurd (entered-refused _ c.requires _ c.to_network-entered.ensures _ c.in-Refused.is)
+pub returns-in-Err : goal.returns-in-Err
+returns-in-Err c = absurd (entered-refused _ c.requires _ c.to_network-entered.ensures _ c.in-Err.is)

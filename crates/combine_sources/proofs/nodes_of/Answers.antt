@@ -9,26 +9,8 @@ use Rattle.pool_state.proofs.Seen.{seen, Figures, figures}
 use Rattle.combine_sources.proofs.Extents.{Turn, nodes-none, turn-first, turn-next, turn-found, turn_end}
 use Rattle.combine_sources.proofs.nodes_of.Goals as goal
 
-sizes : (c : goal.After-shared_slice_known-1-unread) → Figures c.args.pool.now c.requires.0.0 c.args.v
-sizes c = figures c.requires.0.1
-
-sizes-shared_slice_known-2-1-unread : (c : goal.After-shared_slice_known-2-1-unread) → Figures c.args.pool.now c.requires.0.0 c.args.v
-sizes-shared_slice_known-2-1-unread c = figures c.requires.0.1
-
-sizes-in-loop-s : (c : goal.In-loop-s) → Figures c.args.pool.now c.requires.0.0 c.args.v
-sizes-in-loop-s c = figures c.requires.0.1
-
-sizes-shared_slice_known-in-loop-s-1-unread : (c : goal.After-shared_slice_known-in-loop-s-1-unread) → Figures c.args.pool.now c.requires.0.0 c.args.v
-sizes-shared_slice_known-in-loop-s-1-unread c = figures c.requires.0.1
-
-sizes-else-next-ne0 : (c : goal.Else-next-ne0) → Figures c.args.pool.now c.requires.0.0 c.args.v
-sizes-else-next-ne0 c = figures c.requires.0.1
-
-sizes-struct_known-1 : (c : goal.After-struct_known-1) → Figures c.args.pool.now c.requires.0.0 c.args.v
-sizes-struct_known-1 c = figures c.requires.0.1
-
 pub bounds-pool-set : goal.bounds-pool-set
-bounds-pool-set c = let f = sizes c in omega (arith, c.requires.1)
+bounds-pool-set c = let f = (figures c.requires.0.1) in omega (arith, c.requires.1)
 
 pub overflow_cast-root-2 : goal.overflow_cast-root-2
 overflow_cast-root-2 c = omega (arith, c.type_inv.pool (record_at c.args.set))
@@ -37,7 +19,7 @@ pub returns-then-root-eq0 : goal.returns-then-root-eq0
 returns-then-root-eq0 c = let h = c.requires in let (S, g) = seen h.0.1 in nodes-none h.0.1 S g.decoded _ h.1 c.if-root-eq0.true
 
 pub bounds-pool-2 : goal.bounds-pool-2
-bounds-pool-2 c = let f = sizes-shared_slice_known-2-1-unread c in omega arith
+bounds-pool-2 c = let f = (figures c.requires.0.1) in omega arith
 
 pub overflow_cast-sets : goal.overflow_cast-sets
 overflow_cast-sets c = omega (arith, c.type_inv.pool 2)
@@ -46,16 +28,16 @@ pub loop-s-init : goal.loop-s-init
 loop-s-init c S d = let h = c.requires in turn-first h.0.1 S d _ h.1
 
 pub overflow_mul-next : goal.overflow_mul-next
-overflow_mul-next c = let f = sizes-in-loop-s c in omega (arith, c.loop-s-test.true)
+overflow_mul-next c = let f = (figures c.requires.0.1) in omega (arith, c.loop-s-test.true)
 
 pub overflow_add-next : goal.overflow_add-next
-overflow_add-next c = let f = sizes-in-loop-s c in omega (arith, c.loop-s-test.true)
+overflow_add-next c = let f = (figures c.requires.0.1) in omega (arith, c.loop-s-test.true)
 
 pub offset_bounds-pool-s : goal.offset_bounds-pool-s
-offset_bounds-pool-s c = let f = sizes-in-loop-s c in omega (arith, c.loop-s-test.true)
+offset_bounds-pool-s c = let f = (figures c.requires.0.1) in omega (arith, c.loop-s-test.true)
 
 pub bounds-pool-s : goal.bounds-pool-s
-bounds-pool-s c = let f = sizes-shared_slice_known-in-loop-s-1-unread c in omega (arith, c.loop-s-test.true)
+bounds-pool-s c = let f = (figures c.requires.0.1) in omega (arith, c.loop-s-test.true)
 
 pub overflow_cast-next : goal.overflow_cast-next
 overflow_cast-next c = omega (arith, c.type_inv.pool (record_at c.loop-s.s))
@@ -70,21 +52,15 @@ returns-then-next-ne0 c = let h = c.requires in
     let (S, g) = seen h.0.1 in
     (turn-found h.0.1 S g.decoded _ h.1 c.if-root-eq0.false (c.loop-s.invariant S g.decoded) c.loop-s-test.true c.if-next-ne0.true).1
 
-pub overflow_add-s-in-loop-s : goal.overflow_add-s-in-loop-s
-overflow_add-s-in-loop-s c = let f = sizes-else-next-ne0 c in omega (arith, c.loop-s-test.true)
-
-pub loop-s-smaller : goal.loop-s-smaller
-loop-s-smaller c = omega (arith, c.loop-s-test.true)
-
 pub loop-s-preserved : goal.loop-s-preserved
 loop-s-preserved c S d = let h = c.requires in
     turn-next h.0.1 S d _ h.1 c.if-root-eq0.false (c.loop-s.invariant S d) c.loop-s-test.true c.if-next-ne0.false
 
 pub overflow_cast-result : goal.overflow_cast-result
-overflow_cast-result c = let f = sizes-struct_known-1 c in omega arith
+overflow_cast-result c = let f = (figures c.requires.0.1) in omega arith
 
 pub overflow_add-result : goal.overflow_add-result
-overflow_add-result c = let f = sizes-struct_known-1 c in omega arith
+overflow_add-result c = let f = (figures c.requires.0.1) in omega arith
 
 pub overflow_sub-result-2 : goal.overflow_sub-result-2
 overflow_sub-result-2 c = let h = c.requires in

@@ -11,6 +11,3 @@ use Rattle.combine_sources.proofs.nodes_of.Given as goal
 
 abbrev pub invariant-loop-s : goal.invariant-loop-s
 invariant-loop-s l = (S : State) → decode l.pool ≡ sound S → Turn S l.set l.s
-
-abbrev pub decreases-loop-s : goal.decreases-loop-s
-decreases-loop-s l = l.sets - l.s

@@ -1,12 +1,11 @@
 -- `is_past` meets its contract. Assumes nothing.
-use borrow.Author.Tests.{not-true, not-false}
 use Rattle.kept_next.proofs.is_past.Goals as goal
 
-pub returns-then-not-begun : goal.returns-then-not-begun
-returns-then-not-begun c = rw (not-true c.args.begun c.if-not-begun.true-raw)
+pub returns-in-None : goal.returns-in-None
+returns-in-None c = rw c.in-None.is
 
 pub is_before-requires : goal.is_before-requires
-is_before-requires c = c.requires (not-false c.args.begun c.if-not-begun.false-raw)
+is_before-requires c = c.requires _ c.in-Some.is
 
-pub returns : goal.returns
-returns c = rw (not-false c.args.begun c.if-not-begun.false-raw) c.is_before.ensures
+pub returns-in-Some : goal.returns-in-Some
+returns-in-Some c = rw c.in-Some.is c.is_before.ensures

@@ -1,40 +1,12 @@
 -- `nearest` meets its contract, by its tests. Assumes nothing.
 use borrow.Author.Tests.{not-true, not-false, eq-eqb, ne_eqb}
-use mathlib.Core.Path.{◌≡◌, ap, sym, ◌∙◌}
-use mathlib.Core.Bool.{not, ◌||◌}
-use Rattle.nets.specs.Bits.{before}
+use mathlib.Core.Path.{ap, sym, ◌∙◌}
 use Rattle.nets.specs.Lists.{is_past}
-use Rattle.nets.specs.Networks.{net_bits}
 use Rattle.setfile_entries.proofs.Ordered.{entry-pair}
-use Rattle.kept_nodes.specs.Parse.{dist_at, string_at}
-use Rattle.kept_next.specs.Nearest.{place_at}
+use Rattle.kept_nodes.specs.Parse.{dist_at}
+use Rattle.kept_next.specs.Nearest.{place_at, comes_first}
 use Rattle.kept_next.proofs.Nearer.{nearest-before, turn-far, turn_near, near-entry, read-net, read-bits, read-entry}
 use Rattle.kept_next.proofs.nearest.Goals as goal
-
-zero : (c : goal.Then-not-is_past) → let a = c.args in dist_at a.family a.w.now a.b a.k ≡ 0
-zero c = sym c.distance.ensures.0 ∙ c.if-distance-ne0.false
-
-tested : (c : goal.Then-not-is_past) → let a = c.args in c.is_past.result ≡ is_past (place_at a.begun a.last) (string_at a.family a.w.now a.b a.k)
-tested c = let a = c.args in c.is_past.ensures ∙ ap (is_past (place_at a.begun a.last)) (read-bits c.requires.0 c.net_at-x.ensures.is)
-
-zero-then-not-is_nearer : (c : goal.Then-not-is_nearer) → let a = c.args in dist_at a.family a.w.now a.b a.k ≡ 0
-zero-then-not-is_nearer c = sym c.distance.ensures.0 ∙ c.if-distance-ne0.false
-
-nearer : (c : goal.Then-not-is_nearer) → let a = c.args in
-    c.is_nearer.result ≡ (not a.best.some || before (string_at a.family a.w.now a.b a.k) (net_bits a.best.net))
-nearer c = let a = c.args in
-    c.is_nearer.ensures ∙ ap (λ y. not a.best.some || before y (net_bits a.best.net)) (read-bits c.requires.0 c.net_at-x.ensures.is)
-
-zero-else-not-is_nearer : (c : goal.Else-not-is_nearer) → let a = c.args in dist_at a.family a.w.now a.b a.k ≡ 0
-zero-else-not-is_nearer c = sym c.distance.ensures.0 ∙ c.if-distance-ne0.false
-
-nearer-else-not-is_nearer : (c : goal.Else-not-is_nearer) → let a = c.args in
-    c.is_nearer.result ≡ (not a.best.some || before (string_at a.family a.w.now a.b a.k) (net_bits a.best.net))
-nearer-else-not-is_nearer c = let a = c.args in
-    c.is_nearer.ensures ∙ ap (λ y. not a.best.some || before y (net_bits a.best.net)) (read-bits c.requires.0 c.net_at-x.ensures.is)
-
-tested-else-not-is_nearer : (c : goal.Else-not-is_nearer) → let a = c.args in c.is_past.result ≡ is_past (place_at a.begun a.last) (string_at a.family a.w.now a.b a.k)
-tested-else-not-is_nearer c = let a = c.args in c.is_past.ensures ∙ ap (is_past (place_at a.begun a.last)) (read-bits c.requires.0 c.net_at-x.ensures.is)
 
 pub distance-requires : goal.distance-requires
 distance-requires c = let h = c.requires.0.node in
@@ -48,24 +20,30 @@ net_at-x-requires c = let h = c.requires.0.node in
     record { kept_room = h.room; le_i = (h.one, h.within) }
 
 pub is_past-requires : goal.is_past-requires
-is_past-requires c b = let h = c.requires.0 in entry-pair (h.entry b) (read-entry h c.net_at-x.ensures.is)
+is_past-requires c y b = let h = c.requires.0 in entry-pair (h.entry y b) (read-entry h c.net_at-x.ensures.is)
 
 pub returns-then-not-is_past : goal.returns-then-not-is_past
 returns-then-not-is_past c ms g = let a = c.args in
-    rw (eq-eqb (dist_at a.family a.w.now a.b a.k) 0 (zero c)) (nearest-before g _ (sym (tested c) ∙ not-true _ c.if-not-is_past.true-raw))
+    let tested = c.is_past.ensures ∙ ap (is_past (place_at a.last)) (read-bits c.requires.0 c.net_at-x.ensures.is) in
+    rw (eq-eqb (dist_at a.family a.w.now a.b a.k) 0 (sym c.distance.ensures.0 ∙ c.if-distance-ne0.false))
+    (nearest-before g _ (sym tested ∙ not-true _ c.if-not-is_past.true-raw))
 
 pub is_nearer-requires : goal.is_nearer-requires
-is_nearer-requires c b = let h = c.requires.0 in
+is_nearer-requires c y b = let h = c.requires.0 in
     let (ms, g) = c.requires.1 in
-    entry-pair (read-entry h c.net_at-x.ensures.is) (near-entry g h.node.room.family b)
+    entry-pair (read-entry h c.net_at-x.ensures.is) (near-entry g h.node.room.family y b)
 
 pub returns-then-not-is_nearer : goal.returns-then-not-is_nearer
 returns-then-not-is_nearer c ms g = let a = c.args in
-    rw (eq-eqb (dist_at a.family a.w.now a.b a.k) 0 (zero-then-not-is_nearer c)) (turn-far g _ _ (nearer c) (not-true _ c.if-not-is_nearer.true-raw))
+    let nearer = c.is_nearer.ensures ∙ ap (λ y. comes_first y a.best) (read-bits c.requires.0 c.net_at-x.ensures.is) in
+    rw (eq-eqb (dist_at a.family a.w.now a.b a.k) 0 (sym c.distance.ensures.0 ∙ c.if-distance-ne0.false))
+    (turn-far g _ _ nearer (not-true _ c.if-not-is_nearer.true-raw))
 
 pub returns : goal.returns
 returns c ms g = let a = c.args in
     let h = c.requires.0 in
-    rw (eq-eqb (dist_at a.family a.w.now a.b a.k) 0 (zero-else-not-is_nearer c))
-    (turn_near g _ _ (nearer-else-not-is_nearer c) (not-false _ c.if-not-is_nearer.false-raw) _ (read-net h c.net_at-x.ensures.is) h.node.short
-    (sym (tested-else-not-is_nearer c) ∙ not-false _ c.if-not-is_past.false-raw))
+    let tested = c.is_past.ensures ∙ ap (is_past (place_at a.last)) (read-bits h c.net_at-x.ensures.is) in
+    let nearer = c.is_nearer.ensures ∙ ap (λ y. comes_first y a.best) (read-bits h c.net_at-x.ensures.is) in
+    rw (eq-eqb (dist_at a.family a.w.now a.b a.k) 0 (sym c.distance.ensures.0 ∙ c.if-distance-ne0.false))
+    (turn_near g _ _ nearer (not-false _ c.if-not-is_nearer.false-raw) _ (read-net h c.net_at-x.ensures.is) h.node.short
+    (sym tested ∙ not-false _ c.if-not-is_past.false-raw))

@@ -1,5 +1,4 @@
 -- `nearest_of_all` meets its contract. The loop's invariant: the nearest of the nodes that were read. Assumes nothing.
-use Prim.Native.Nat.{◌-◌}
 use Rattle.nets.specs.Tries.{Trie}
 use Rattle.kept_list.specs.Listed.{KeptHolds}
 use Rattle.kept_next.specs.Nearest.{place_at}
@@ -7,7 +6,4 @@ use Rattle.kept_next.proofs.Nearer.{Searches}
 use Rattle.kept_next.proofs.nearest_of_all.Given as goal
 
 abbrev pub invariant-loop-k : goal.invariant-loop-k
-invariant-loop-k l = (t : Trie) → KeptHolds l.family l.w l.b l.n l.i l.e t → Searches l.family l.w l.b l.i l.e (place_at l.begun l.last) l.best l.k
-
-abbrev pub decreases-loop-k : goal.decreases-loop-k
-decreases-loop-k l = l.e - l.k
+invariant-loop-k l = (t : Trie) → KeptHolds l.family l.w l.b l.n l.i l.e t → Searches l.family l.w l.b l.i l.e (place_at l.last) l.best l.k

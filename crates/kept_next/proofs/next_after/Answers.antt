@@ -1,29 +1,29 @@
 -- `next_after` meets its contract: the next of the same length where it was found, else the nearest of all. Assumes nothing.
--- the trie that the caller has shown, and the node that was found in it
+use mathlib.Core.Path.{sym, ◌∙◌}
 use native.Mathlib.Omega.{arith}
-use Rattle.kept_list.specs.Listed.{KeptHolds}
-use Rattle.kept_next.specs.Lanes.{Behind}
 use Rattle.kept_next.proofs.Behind.{behind-follows}
 use Rattle.kept_next.proofs.next_after.Goals as goal
+use Rattle.kept_next.proofs.next_after.Goals.{in-Some+in_default-behind, in_default}
 
-held : (c : goal.Then-k-ne0) → let a = c.args in
-    KeptHolds a.family a.w.now a.b a.n a.i a.e c.requires.1.0
-held c = c.requires.1.1
-
-followed : (c : goal.Then-k-ne0) → let a = c.args in
-    Behind a.family a.w.now a.b a.i a.e c.requires.1.0 a.last c.behind-k.result
-followed c = c.behind-k.ensures _ (held c) c.if-k-ne0.true
-
-pub behind-k-requires : goal.behind-k-requires
-behind-k-requires c = (c.requires.0 c.if-begun.true, c.requires.1)
+pub behind-requires : goal.behind-requires
+behind-requires c = (c.requires.0 _ c.in-Some.is, c.requires.1)
 
 pub overflow_cast-k : goal.overflow_cast-k
-overflow_cast-k c = let h = held c in let g = followed c in omega (arith, g.to, h.end, h.stands.within, h.room.few)
+overflow_cast-k c = let h = c.requires.1.1 in
+    let g = c.behind.ensures _ _ h c.in-Some-behind.is in
+    omega (arith, g.to, h.end, h.stands.within, h.room.few)
 
-pub net_at-x-requires : goal.net_at-x-requires
-net_at-x-requires c = let h = held c in
-    let g = followed c in
+pub net_at-requires : goal.net_at-requires
+net_at-requires c = let h = c.requires.1.1 in
+    let g = c.behind.ensures _ _ h c.in-Some-behind.is in
     record { kept_room = h.room; le_i = omega (arith, g.from, g.to, h.one, h.end, h.stands.within) }
 
-pub returns-then-k-ne0 : goal.returns-then-k-ne0
-returns-then-k-ne0 c t h = behind-follows (c.behind-k.ensures t h c.if-k-ne0.true) _ c.net_at-x.ensures.is _ c.if-begun.true
+pub returns-in-Some-behind : goal.returns-in-Some-behind
+returns-in-Some-behind c t h = behind-follows (c.behind.ensures t _ h c.in-Some-behind.is) _ c.net_at.ensures.is _ c.in-Some.is
+
+pub nearest_of_all-requires : goal.nearest_of_all-requires
+nearest_of_all-requires c = elim c.match-last.branch [ in-Some+in_default-behind w ↦ rw (w.last-is ∙ sym w.in-Some.is) c.requires | in_default w ↦ rw w.last-is c.requires ]
+
+pub returns : goal.returns
+returns c t h = let r = c.nearest_of_all.ensures t h in
+    elim c.match-last.branch [ in-Some+in_default-behind w ↦ rw (w.last-is ∙ sym w.in-Some.is) at r | in_default w ↦ rw w.last-is at r ]

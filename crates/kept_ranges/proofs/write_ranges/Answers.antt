@@ -14,9 +14,6 @@ overflow_cast-k c = let (t, h) = c.requires in
 pub take_node-at-requires : goal.take_node-at-requires
 take_node-at-requires c = let (t, h) = c.requires in turn-takable h (c.loop-k.invariant t h) c.loop-k-test.true
 
-pub loop-k-smaller : goal.loop-k-smaller
-loop-k-smaller c = omega (arith, c.loop-k-test.true)
-
 pub loop-k-preserved : goal.loop-k-preserved
 loop-k-preserved c t h = turn-takes h (c.loop-k.invariant t h) c.loop-k-test.true c.take_node-at.ensures
 

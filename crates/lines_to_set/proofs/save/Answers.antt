@@ -6,7 +6,7 @@ use Rattle.lines_to_set.proofs.Fits.{saved-fits}
 use Rattle.lines_to_set.proofs.save.Goals as goal
 
 pub slice_bounds-write-end : goal.slice_bounds-write-end
-slice_bounds-write-end c = let s = c.save-saved in omega (arith, saved-fits s.ensures c.in-Granted.is, s.auto.out)
+slice_bounds-write-end c = let s = c.save-saved in omega (arith, saved-fits s.ensures c.in-Ok.is, s.auto.out)
 
-pub slice_bounds-write-end-in-Granted : goal.slice_bounds-write-end-in-Granted
-slice_bounds-write-end-in-Granted c = sym (length-take-le c.in-Granted.k c.save-saved.new.out (slice_bounds-write-end c))
+pub slice_bounds-write-end-in-Ok : goal.slice_bounds-write-end-in-Ok
+slice_bounds-write-end-in-Ok c = sym (length-take-le c.in-Ok.k c.save-saved.new.out (slice_bounds-write-end c))

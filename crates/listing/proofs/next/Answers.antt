@@ -1,44 +1,34 @@
 -- `next` meets its contract, each return by the tests on the way to it. Assumes nothing.
 use borrow.Author.Rules.{rules}
-use Rattle.pool_state.specs.States.{State}
 use Rattle.pool_state.proofs.Seats.{seated-refused}
 use Rattle.listing.specs.Places.{Right}
-use Rattle.listing.proofs.Seats.{Sits, seated-sits}
+use Rattle.listing.proofs.Seats.{seated-sits}
 use Rattle.listing.proofs.Calls.{next-refused, next-misplaced, next-goes, next-network, next-end}
+use Rattle.nets.proofs.Propagated.{propagated}
 use Rattle.listing.proofs.next.Goals as goal
 
-sits : (c : goal.In-At-placed) → let a = c.args in (S : State) × Sits a.pool.now a.set S c.in-At.s
-sits c = seated-sits _ _ c.seat_of-seated.ensures _ _ c.in-At.is
-
-right : (c : goal.In-At-placed) → Right c.in-At.s c.args.from c.in-At-placed.place
-right c = rw c.in-At-placed.is at c.place_of-placed.ensures
-
-sits-net-1 : (c : goal.After-net-1) → let a = c.args in (S : State) × Sits a.pool.now a.set S c.in-At.s
-sits-net-1 c = seated-sits _ _ c.seat_of-seated.ensures _ _ c.in-At.is
-
-right-net-1 : (c : goal.After-net-1) → Right c.in-At.s c.args.from c.in-At-placed.place
-right-net-1 c = rw c.in-At-placed.is at c.place_of-placed.ensures
-
-sits-in-refused-placed : (c : goal.In-Refused-placed) → let a = c.args in (S : State) × Sits a.pool.now a.set S c.in-At.s
-sits-in-refused-placed c = seated-sits _ _ c.seat_of-seated.ensures _ _ c.in-At.is
-
-sits-else-x : (c : goal.Else-x) → let a = c.args in (S : State) × Sits a.pool.now a.set S c.in-At.s
-sits-else-x c = seated-sits _ _ c.seat_of-seated.ensures _ _ c.in-At.is
-
-right-else-x : (c : goal.Else-x) → Right c.in-At.s c.args.from c.in-At-placed.place
-right-else-x c = rw c.in-At-placed.is at c.place_of-placed.ensures
-
 pub go_on-x-requires : goal.go_on-x-requires
-go_on-x-requires c = next-goes (sits c).1 _ (right c)
+go_on-x-requires c =
+    let h = seated-sits c.args.pool.now c.args.set c.seat_of.ensures _ c.in_ok-s.s c.in_ok-s.was in
+    let r : Right c.in_ok-s.s c.args.from c.in_ok-place.place = rw c.in_ok-place.was at c.place_of.ensures in
+    next-goes h.1 _ r
 
 pub returns-then-x : goal.returns-then-x
-returns-then-x c = next-network (sits-net-1 c).1 _ (right-net-1 c) c.go_on-x.ensures c.if-x.true
+returns-then-x c =
+    let h = seated-sits c.args.pool.now c.args.set c.seat_of.ensures _ c.in_ok-s.s c.in_ok-s.was in
+    let r : Right c.in_ok-s.s c.args.from c.in_ok-place.place = rw c.in_ok-place.was at c.place_of.ensures in
+    next-network h.1 _ r c.go_on-x.ensures c.if-x.true
 
-pub returns-in-Refused : goal.returns-in-Refused
-returns-in-Refused c = next-refused _ _ _ _ (seated-refused _ _ c.seat_of-seated.ensures _ c.in-Refused.is)
+pub returns-in_err-s : goal.returns-in_err-s
+returns-in_err-s c = rw (propagated c.from_residual.ensures) (next-refused _ _ _ _ (seated-refused _ _ c.seat_of.ensures _ c.in_err-s.was))
 
-pub returns-in-Refused-placed : goal.returns-in-Refused-placed
-returns-in-Refused-placed c = next-misplaced (sits-in-refused-placed c).1 _ c.in-Refused-placed.no (rw c.in-Refused-placed.is at c.place_of-placed.ensures)
+pub returns-in_err-place : goal.returns-in_err-place
+returns-in_err-place c =
+    let h = seated-sits c.args.pool.now c.args.set c.seat_of.ensures _ c.in_ok-s.s c.in_ok-s.was in
+    rw (propagated c.from_residual-in_err-place.ensures) (next-misplaced h.1 _ c.in_err-place.field-0.0 (rw c.in_err-place.was at c.place_of.ensures))
 
-pub returns-else-x : goal.returns-else-x
-returns-else-x c = next-end (sits-else-x c).1 _ (right-else-x c) c.go_on-x.ensures c.if-x.false
+pub returns : goal.returns
+returns c =
+    let h = seated-sits c.args.pool.now c.args.set c.seat_of.ensures _ c.in_ok-s.s c.in_ok-s.was in
+    let r : Right c.in_ok-s.s c.args.from c.in_ok-place.place = rw c.in_ok-place.was at c.place_of.ensures in
+    next-end h.1 _ r c.go_on-x.ensures c.if-x.false

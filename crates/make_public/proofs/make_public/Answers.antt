@@ -6,22 +6,17 @@ use Rattle.pool_state.specs.Steps.{Surveyed}
 use Rattle.pool_state.proofs.Seats.{seated-refused, seated-at}
 use Rattle.pool_state.proofs.Seen.{seen, figures}
 use Rattle.make_public.proofs.Marks.{mark-seat, mark-occupied, mark-granted}
+use Rattle.nets.proofs.Propagated.{propagated}
 use Rattle.make_public.proofs.make_public.Goals as goal
 
-here : (c : goal.Then-found-ne0) → let a = c.args in Surveyed a.pool.now a.set c.in-At.found
-here c = (seated-at _ _ c.seat_of-seated.ensures _ _ c.in-At.is).surveyed
-
-here-else-found-ne0 : (c : goal.Else-found-ne0) → let a = c.args in Surveyed a.pool.now a.set c.in-At.found
-here-else-found-ne0 c = (seated-at _ _ c.seat_of-seated.ensures _ _ c.in-At.is).surveyed
-
 pub returns-then-found-ne0 : goal.returns-then-found-ne0
-returns-then-found-ne0 c = mark-occupied (seen (here c)).1 c.if-found-ne0.true
+returns-then-found-ne0 c = mark-occupied (seen ((seated-at _ _ c.seat_of.ensures _ _ c.in_ok-found.was).surveyed)).1 c.if-found-ne0.true
 
 pub bounds-pool-record : goal.bounds-pool-record
-bounds-pool-record c = omega (arith, figures (here-else-found-ne0 c))
+bounds-pool-record c = omega (arith, figures ((seated-at _ _ c.seat_of.ensures _ _ c.in_ok-found.was).surveyed))
 
-pub returns-in-Refused : goal.returns-in-Refused
-returns-in-Refused c = mark-seat c.in-Refused.no (seated-refused _ _ c.seat_of-seated.ensures _ c.in-Refused.is)
+pub returns-in_err-found : goal.returns-in_err-found
+returns-in_err-found c = rw (propagated c.from_residual.ensures) (mark-seat c.in_err-found.field-0.0 (seated-refused _ _ c.seat_of.ensures _ c.in_err-found.was))
 
-pub returns-else-found-ne0 : goal.returns-else-found-ne0
-returns-else-found-ne0 c = mark-granted (seen (here-else-found-ne0 c)).1 c.if-found-ne0.false refl
+pub returns : goal.returns
+returns c = mark-granted (seen ((seated-at _ _ c.seat_of.ensures _ _ c.in_ok-found.was).surveyed)).1 c.if-found-ne0.false refl

@@ -1,39 +1,43 @@
--- `list`: each turn stores one network, and `Stored.State` says what the row and the turn are.
-use Rattle.std.proofs.Common.{◌≡◌, ap, arith, ◌+◌, ◌<◌, length, slice_set}
-use lib.ListN.{length-set}
-use Rattle.netrows.specs.declared.turns.Turn.{Turn}
-use Rattle.netrows.proofs.Stored as stored
+-- `list` meets its contract: a refusal by its law, and each turn of the loop stores one network.
+use Rattle.std.proofs.Common.{arith}
+use Rattle.nets.proofs.Propagated.{propagated}
+use Rattle.pool_state.proofs.Seats.{seated-refused}
+use Rattle.listing.proofs.Seats.{seated-sits}
+use Rattle.listing.proofs.Calls.{list-few}
+use Rattle.netrows.proofs.Begun.{counted, lists-refused, lists-short, lists-granted}
+use Rattle.netrows.proofs.Stored.{starts, goes, holds, steps, ends}
 use Rattle.netrows.proofs.list.Goals as goal
 
-pub loop-t-init : goal.loop-t-init
-loop-t-init c = (c.begin-t.ensures, (_, stored.starts c.args.nets.now c.begin-t.ensures))
+pub returns-in_err-seat : goal.returns-in_err-seat
+returns-in_err-seat c = rw (propagated c.from_residual.ensures) (lists-refused _ (seated-refused _ _ c.seat_of.ensures _ c.in_err-seat.was))
 
-pub bounds-nets-t : goal.bounds-nets-t
-bounds-nets-t c =
-    let s = c.loop-t.invariant in
-    let l : c.loop-t.t.at < length c.args.nets.now = stored.within c.args.nets.now s.0 s.1.1 c.loop-t-test.true in
-    omega (arith, c.loop-t.auto.nets)
+pub count-n-requires : goal.count-n-requires
+count-n-requires c = let h = seated-sits c.args.pool.now c.args.set c.seat_of.ensures _ c.in_ok-seat.seat c.in_ok-seat.was in (_, h.1.holds)
 
-pub after-t-requires : goal.after-t-requires
-after-t-requires c =
-    let s = c.loop-t.invariant in
-    stored.stores c.args.nets.now s.0 s.1.1 c.loop-t-test.true (omega arith)
+pub returns-then-nets-n : goal.returns-then-nets-n
+returns-then-nets-n c =
+    let h = seated-sits c.args.pool.now c.args.set c.seat_of.ensures _ c.in_ok-seat.seat c.in_ok-seat.was in
+    lists-short h.1 (counted h.1 c.count-n.ensures) c.if-nets-n.true
 
-pub loop-t-smaller : goal.loop-t-smaller
-loop-t-smaller c =
-    let s = c.loop-t.invariant in
-    let l : c.loop-t.t.at < length c.args.nets.now = stored.within c.args.nets.now s.0 s.1.1 c.loop-t-test.true in
-    let e : c.after-t.result.at ≡ c.loop-t.t.at + 1 = ap (λ (t : Turn). t.at) (c.after-t.ensures _ (stored.holds c.args.nets.now s.0 s.1.1)) in
-    let m : length (slice_set c.loop-t.nets c.loop-t.t.at c.loop-t.t.spot.net) ≡ length c.loop-t.nets = length-set c.loop-t.nets c.loop-t.t.at c.loop-t.t.spot.net in
-    omega (arith, c.loop-t.auto.nets)
+pub loop-at-init : goal.loop-at-init
+loop-at-init c =
+    let h = seated-sits c.args.pool.now c.args.set c.seat_of.ensures _ c.in_ok-seat.seat c.in_ok-seat.was in
+    rw c.before_all-spot.ensures (starts c.args.nets.now h.1 (counted h.1 c.count-n.ensures) c.if-nets-n.false)
 
-pub loop-t-preserved : goal.loop-t-preserved
-loop-t-preserved c =
-    let s = c.loop-t.invariant in
-    let n = stored.steps c.args.nets.now s.0 s.1.1 c.loop-t-test.true c.after-t.result (c.after-t.ensures _ (stored.holds c.args.nets.now s.0 s.1.1)) in
-    (s.0, (n.0, n.1.1))
+pub go_on-spot-requires : goal.go_on-spot-requires
+go_on-spot-requires c = goes c.loop-at.invariant
+
+pub loop-at-preserved : goal.loop-at-preserved
+loop-at-preserved c =
+    let h = c.loop-at.invariant in
+    steps h (omega arith) c.go_on-spot.result (c.go_on-spot.ensures _ (holds h))
+
+pub overflow_cast-result : goal.overflow_cast-result
+overflow_cast-result c =
+    let h = seated-sits c.args.pool.now c.args.set c.seat_of.ensures _ c.in_ok-seat.seat c.in_ok-seat.was in
+    omega (arith, list-few h.1 (c.count-n.ensures _ h.1.holds))
 
 pub returns : goal.returns
 returns c =
-    let s = c.loop-t.invariant in
-    stored.ends c.args.nets.now s.0 s.1.1 c.loop-t-test.false
+    let h = c.loop-at.invariant in
+    rw (ends h (omega arith)) (lists-granted h.sits h.count c.if-nets-n.false)

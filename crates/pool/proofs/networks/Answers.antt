@@ -1,7 +1,6 @@
 -- `networks` meets its contract: the zeros among the words of a trie, or by its nodes in the second form. Assumes nothing.
 use mathlib.Core.Path.{◌∙◌}
 use native.Mathlib.Omega.{arith}
-use borrow.Author.Rules.{rules}
 use Rattle.pool_state.proofs.Seen.{seen, seen_as, figures}
 use Rattle.pool.proofs.Reports.{seat-base, seat-first, networks-first, networks-second}
 use Rattle.pool.proofs.networks.Goals as goal

@@ -1,7 +1,6 @@
 -- `words` meets its contract: the sum fits, since the counts are in their ranges. Assumes nothing.
-use mathlib.Core.Path.{◌≡◌, sym, ◌∙◌}
+use mathlib.Core.Path.{sym, ◌∙◌}
 use native.Mathlib.Omega.{arith}
-use borrow.Author.Rules.{rules}
 use borrow.Author.Tests.{not-true, not-false}
 use Rattle.pool_state.proofs.Claims.{is_size-is}
 use Rattle.pool.proofs.Needed.{words_size, words-many, words_are}

@@ -15,20 +15,14 @@ overflow_cast-sets c = omega (arith, read-header c.requires)
 pub loop-s-init : goal.loop-s-init
 loop-s-init c = left-start _
 
-pub index_after-k-requires : goal.index_after-k-requires
-index_after-k-requires c = record { s_bound = (c.loop-s-test.true, c.loop-s.invariant.few); w_value = c.requires }
+pub index_after-found-requires : goal.index_after-found-requires
+index_after-found-requires c = record { s_bound = (c.loop-s-test.true, c.loop-s.invariant.few); w_value = c.requires }
 
-pub returns-then-k-eq-WRONG : goal.returns-then-k-eq-WRONG
-returns-then-k-eq-WRONG c = left-wrong c.loop-s.invariant c.index_after-k.ensures c.if-k-eq-WRONG.true
-
-pub overflow_add-s : goal.overflow_add-s
-overflow_add-s c = omega (arith, c.loop-s-test.true, read-header c.requires)
-
-pub loop-s-smaller : goal.loop-s-smaller
-loop-s-smaller c = omega (arith, c.loop-s-test.true)
+pub returns-in_default : goal.returns-in_default
+returns-in_default c = left-wrong c.loop-s.invariant c.index_after-found.ensures c.in_default.is
 
 pub loop-s-preserved : goal.loop-s-preserved
-loop-s-preserved c = left-on c.loop-s.invariant c.index_after-k.ensures c.if-k-eq-WRONG.false c.loop-s-test.true
+loop-s-preserved c = left-on c.loop-s.invariant c.index_after-found.ensures _ c.in-Some.is c.loop-s-test.true
 
 pub bounds-w-4 : goal.bounds-w-4
 bounds-w-4 c = omega (arith, read-header c.requires)

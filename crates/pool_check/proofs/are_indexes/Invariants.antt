@@ -8,6 +8,3 @@ use Rattle.pool_check.proofs.are_indexes.Given as goal
 
 abbrev pub invariant-loop-s : goal.invariant-loop-s
 invariant-loop-s l = Left l.w l.s l.j
-
-abbrev pub decreases-loop-s : goal.decreases-loop-s
-decreases-loop-s l = get_or l.w 2 0 - l.s

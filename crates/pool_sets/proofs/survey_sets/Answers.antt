@@ -26,22 +26,20 @@ pub loop-s-init : goal.loop-s-init
 loop-s-init c = pass-start _ _ c.requires
 
 pub returns-then-end-eq0 : goal.returns-then-end-eq0
-returns-then-end-eq0 c = c.no_survey.ensures ∙ pass-bad c.loop-s.invariant c.loop-s-test.true c.set_end-end.ensures c.if-end-eq0.true
+returns-then-end-eq0 c = pass-bad c.loop-s.invariant c.loop-s-test.true c.set_end-end.ensures c.if-end-eq0.true
 
 pub is_right-requires : goal.is_right-requires
 is_right-requires c = let p = c.loop-s.invariant in
     pass-found p c.loop-s-test.true c.set_end-end.ensures c.if-end-eq0.false
 
 pub returns-then-not-is_right : goal.returns-then-not-is_right
-returns-then-not-is_right c = c.no_survey-then-not-is_right.ensures
-    ∙ pass-off c.loop-s.invariant c.loop-s-test.true c.set_end-end.ensures c.if-end-eq0.false c.is_right.ensures c.if-not-is_right.true-raw
+returns-then-not-is_right c = pass-off c.loop-s.invariant c.loop-s-test.true c.set_end-end.ensures c.if-end-eq0.false c.is_right.ensures c.if-not-is_right.true-raw
 
 pub overflow_sub-nodes : goal.overflow_sub-nodes
 overflow_sub-nodes c = pass_up c.loop-s.invariant c.loop-s-test.true c.set_end-end.ensures c.if-end-eq0.false
 
 pub returns-then-n-claimed : goal.returns-then-n-claimed
-returns-then-n-claimed c = c.no_survey-then-n-claimed.ensures
-    ∙ pass-over c.loop-s.invariant c.loop-s-test.true c.set_end-end.ensures c.if-end-eq0.false c.is_right.ensures c.if-not-is_right.false-raw c.claim_at-claim.ensures
+returns-then-n-claimed c = pass-over c.loop-s.invariant c.loop-s-test.true c.set_end-end.ensures c.if-end-eq0.false c.is_right.ensures c.if-not-is_right.false-raw c.claim_at-claim.ensures
     c.if-n-claimed.true
 
 pub loop-s-preserved : goal.loop-s-preserved

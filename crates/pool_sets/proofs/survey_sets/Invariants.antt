@@ -9,6 +9,3 @@ use Rattle.pool_sets.proofs.survey_sets.Given as goal
 
 abbrev pub invariant-loop-s : goal.invariant-loop-s
 invariant-loop-s l = Pass l.w l.set l.sets l.n l.b l.s l.i l.claimed l.at l.held
-
-abbrev pub decreases-loop-s : goal.decreases-loop-s
-decreases-loop-s l = l.sets - l.s

@@ -6,7 +6,7 @@ use Rattle.salvage_file.proofs.Fits.{saved-fits}
 use Rattle.salvage_file.proofs.save.Goals as goal
 
 pub slice_bounds-write-end : goal.slice_bounds-write-end
-slice_bounds-write-end c = let s = c.salvage-a in omega (arith, saved-fits s.ensures c.in-File.is, s.auto.out)
+slice_bounds-write-end c = let s = c.salvage-a in omega (arith, saved-fits s.ensures c.in-Ok.is, s.auto.out)
 
-pub slice_bounds-write-end-in-File : goal.slice_bounds-write-end-in-File
-slice_bounds-write-end-in-File c = sym (length-take-le c.in-File.c.bytes c.salvage-a.new.out (slice_bounds-write-end c))
+pub slice_bounds-write-end-in-Ok : goal.slice_bounds-write-end-in-Ok
+slice_bounds-write-end-in-Ok c = sym (length-take-le c.in-Ok.c.bytes c.salvage-a.new.out (slice_bounds-write-end c))

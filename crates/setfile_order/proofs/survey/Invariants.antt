@@ -1,10 +1,7 @@
 -- `survey` meets its contract. The loop's invariant: h is head number k, and the nodes of the heads so far are counted. Assumes nothing.
-use Prim.Native.Nat.{◌-◌, ◌≤◌}
+use Prim.Native.Nat.{◌≤◌}
 use Rattle.setfile_order.proofs.Counting.{Survey}
 use Rattle.setfile_order.proofs.survey.Given as goal
 
 abbrev pub invariant-loop-k : goal.invariant-loop-k
-invariant-loop-k l = Survey l.bytes l.family l.n l.cursors l.h l.k l.nodes × ((l.k ≤ l.n) × (l.n ≤ 4194304))
-
-abbrev pub decreases-loop-k : goal.decreases-loop-k
-decreases-loop-k l = l.n - l.k
+invariant-loop-k l = Survey l.bytes l.family l.n l.cursors l.h l.k l.nodes × (l.n ≤ 4194304)

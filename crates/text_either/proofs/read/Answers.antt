@@ -2,8 +2,8 @@
 use Rattle.text_either.proofs.Reading.{either-network, either-other}
 use Rattle.text_either.proofs.read.Goals as goal
 
-pub returns-in-Network : goal.returns-in-Network
-returns-in-Network c = either-network c.args.line.now c.in-Network.is c.read-t.ensures
+pub returns-in-Ok : goal.returns-in-Ok
+returns-in-Ok c = either-network c.args.line.now c.in-Ok.is c.read.ensures
 
-pub returns-in-Refused : goal.returns-in-Refused
-returns-in-Refused c = either-other c.args.line.now c.read.result c.in-Refused.is c.read-t.ensures c.read.ensures
+pub returns-in-Err : goal.returns-in-Err
+returns-in-Err c = either-other c.args.line.now c.read-in-Err.result c.in-Err.is c.read.ensures c.read-in-Err.ensures

@@ -1,18 +1,16 @@
 -- `write_index` meets its contract. The loop's invariant: what is left to write completes the index. Assumes nothing.
-use Prim.Native.Nat.{◌-◌}
-use native.Mathlib.Omega.{arith}
 use Rattle.trie_index.proofs.Words.{writing_start, writing-end, writing-on}
 use Rattle.trie_index.proofs.write_index.Goals as goal
 
 pub loop-v-init : goal.loop-v-init
-loop-v-init c = (omega arith, writing_start _ _ _ _ _)
+loop-v-init c = writing_start _ _ _ _ _
 
 pub loop-v-preserved : goal.loop-v-preserved
 loop-v-preserved c = let lt = c.loop-v-test.true in
-    (omega arith, writing-on c.loop-v.invariant.1 lt (λ t g. c.top_words-words.ensures t g _ lt))
+    writing-on c.loop-v.invariant lt (λ t g. c.top_words-words.ensures t g _ lt)
 
 pub shape_of-w : goal.shape_of-w
-shape_of-w c = c.loop-v.invariant.1.long
+shape_of-w c = c.loop-v.invariant.long
 
 pub returns : goal.returns
-returns c = writing-end c.loop-v.invariant.1 c.loop-v-test.false
+returns c = writing-end c.loop-v.invariant c.loop-v-test.false

@@ -1,10 +1,6 @@
 -- `write_index` meets its contract. The loop's invariant: what is left to write completes the index. Assumes nothing.
-use Prim.Native.Nat.{◌-◌, ◌≤◌}
 use Rattle.trie_index.proofs.Words.{Writing}
 use Rattle.trie_index.proofs.write_index.Given as goal
 
 abbrev pub invariant-loop-v : goal.invariant-loop-v
-invariant-loop-v l = (l.v ≤ 256) × Writing l.initial.w l.b l.n l.root l.p l.w l.v
-
-abbrev pub decreases-loop-v : goal.decreases-loop-v
-decreases-loop-v l = 256 - l.v
+invariant-loop-v l = Writing l.initial.w l.b l.n l.root l.p l.w l.v

@@ -8,12 +8,12 @@ use Rattle.trie_lanes.proofs.step.Goals as goal
 
 steps : (c : goal.Else-b-n) →
     let a = c.args in
-    Steps a.w.now a.b a.n a.l (get_or a.w.now a.l.p 0) c.turn-c.result c.in-Bit.bit c.in-Bit.later
+    Steps a.w.now a.b a.n a.l (get_or a.w.now a.l.p 0) c.turn-c.result c.in-Some.bit c.in-Some.later
 steps c = record {
   on = c.requires.1;
   is = refl;
   before = c.if-b-n.false;
-  next = sym (c.next-next.ensures ∙ ap next_of c.of_word.ensures) ∙ ap next_as c.in-Bit.is;
+  next = sym (c.next-next.ensures ∙ ap next_of c.of_word.ensures) ∙ ap next_as c.in-Some.is;
   by = c.turn-c.ensures;
   some = c.if-c-eq0.false;
 }
@@ -30,8 +30,8 @@ overflow_add-p c = omega (arith, c.requires.0.low, c.requires.0.few, c.requires.
 pub returns-then-b-n : goal.returns-then-b-n
 returns-then-b-n c = goes-stay _ _ _ _ c.requires.1
 
-pub returns-in-End : goal.returns-in-End
-returns-in-End c = goes-stay _ _ _ _ c.requires.1
+pub returns-in-None : goal.returns-in-None
+returns-in-None c = goes-stay _ _ _ _ c.requires.1
 
 pub returns-else-b-n : goal.returns-else-b-n
 returns-else-b-n c = goes_step (steps c)

@@ -11,26 +11,26 @@ use Rattle.trie_lookup.proofs.walk_down.Goals as goal
 seen : (c : goal.Then-x-eq0) →
     let a = c.args in
     Seen a.w.now a.b a.n (walk a.w.now a.b a.n (a.len - a.bits.len) a.root (bits_left a.bits)) a.len c.loop-bit.p c.loop-bit.left (get_or a.w.now c.loop-bit.p 0)
-    c.in-Bit.bit c.in-Bit.later
-seen c = record { placed = c.loop-bit.invariant; is = refl; before = c.if-last-q.false; next = sym c.next-next.ensures ∙ ap next_as c.in-Bit.is }
+    c.in-Some.bit c.in-Some.later
+seen c = record { placed = c.loop-bit.invariant; is = refl; before = c.if-last-q.false; next = sym c.next-next.ensures ∙ ap next_as c.in-Some.is }
 
 seen-then-x-lone : (c : goal.Then-x-lone) →
     let a = c.args in
     Seen a.w.now a.b a.n (walk a.w.now a.b a.n (a.len - a.bits.len) a.root (bits_left a.bits)) a.len c.loop-bit.p c.loop-bit.left (get_or a.w.now c.loop-bit.p 0)
-    c.in-Bit.bit c.in-Bit.later
-seen-then-x-lone c = record { placed = c.loop-bit.invariant; is = refl; before = c.if-last-q.false; next = sym c.next-next.ensures ∙ ap next_as c.in-Bit.is }
+    c.in-Some.bit c.in-Some.later
+seen-then-x-lone c = record { placed = c.loop-bit.invariant; is = refl; before = c.if-last-q.false; next = sym c.next-next.ensures ∙ ap next_as c.in-Some.is }
 
 seen-else-x-lone : (c : goal.Else-x-lone) →
     let a = c.args in
     Seen a.w.now a.b a.n (walk a.w.now a.b a.n (a.len - a.bits.len) a.root (bits_left a.bits)) a.len c.loop-bit.p c.loop-bit.left (get_or a.w.now c.loop-bit.p 0)
-    c.in-Bit.bit c.in-Bit.later
-seen-else-x-lone c = record { placed = c.loop-bit.invariant; is = refl; before = c.if-last-q.false; next = sym c.next-next.ensures ∙ ap next_as c.in-Bit.is }
+    c.in-Some.bit c.in-Some.later
+seen-else-x-lone c = record { placed = c.loop-bit.invariant; is = refl; before = c.if-last-q.false; next = sym c.next-next.ensures ∙ ap next_as c.in-Some.is }
 
 seen-child-p : (c : goal.After-child-p) →
     let a = c.args in
     Seen a.w.now a.b a.n (walk a.w.now a.b a.n (a.len - a.bits.len) a.root (bits_left a.bits)) a.len c.loop-bit.p c.loop-bit.left (get_or a.w.now c.loop-bit.p 0)
-    c.in-Bit.bit c.in-Bit.later
-seen-child-p c = record { placed = c.loop-bit.invariant; is = refl; before = c.if-last-q.false; next = sym c.next-next.ensures ∙ ap next_as c.in-Bit.is }
+    c.in-Some.bit c.in-Some.later
+seen-child-p c = record { placed = c.loop-bit.invariant; is = refl; before = c.if-last-q.false; next = sym c.next-next.ensures ∙ ap next_as c.in-Some.is }
 
 pub loop-bit-init : goal.loop-bit-init
 loop-bit-init c = let h = c.requires in placed-start h.1 h.2 h.3 h.4
@@ -38,8 +38,8 @@ loop-bit-init c = let h = c.requires in placed-start h.1 h.2 h.3 h.4
 pub walk_tested-requires : goal.walk_tested-requires
 walk_tested-requires c = placed-asks c.requires.0 c.loop-bit.invariant
 
-pub returns-in-End : goal.returns-in-End
-returns-in-End c = c.walk_tested.ensures ∙ c.loop-bit.invariant.down.rest
+pub returns-in-None : goal.returns-in-None
+returns-in-None c = c.walk_tested.ensures ∙ c.loop-bit.invariant.down.rest
 
 pub overflow_cast-x : goal.overflow_cast-x
 overflow_cast-x c = omega (arith, c.type_inv.w c.loop-bit.p)

@@ -8,10 +8,10 @@ use Rattle.trie_lookup.specs.declared.Shown.{Shown}
 use Rattle.trie_lookup.proofs.Turns.{down-leaf, down-first, down-second, Inner, inner-end, Turned, turned_none, turned-less, turned-within, turned_on}
 use Rattle.trie_lookup.proofs.walk_tested.Goals as goal
 
-abbrev target : (c : goal.In-End) → Shown
+abbrev target : (c : goal.In-None) → Shown
 target c = let a = c.args in walk a.w.now a.b a.n a.above (a.p + 1 - a.b) (bits_left a.bits)
 
-inner : (c : goal.In-End) →
+inner : (c : goal.In-None) →
     let a = c.args in
     Inner a.w.now a.b a.n (target c) c.loop-left.i c.loop-left.d c.loop-left.left c.word_at-x.result
 inner c = record {
@@ -39,8 +39,8 @@ inner-then-c-eq0 c = record {
 turned : (c : goal.Then-c-eq0) →
     let a = c.args in
     Turned a.w.now a.b a.n (target-then-c-eq0 c) c.loop-left.i c.loop-left.d c.loop-left.left c.word_at-x.result c.turn-c.result
-    c.in-Bit.bit c.in-Bit.later
-turned c = record { inner = inner-then-c-eq0 c; next = sym c.next-next.ensures ∙ ap next_as c.in-Bit.is; by = c.turn-c.ensures }
+    c.in-Some.bit c.in-Some.later
+turned c = record { inner = inner-then-c-eq0 c; next = sym c.next-next.ensures ∙ ap next_as c.in-Some.is; by = c.turn-c.ensures }
 
 abbrev target-else-c-eq0 : (c : goal.Else-c-eq0) → Shown
 target-else-c-eq0 c = let a = c.args in walk a.w.now a.b a.n a.above (a.p + 1 - a.b) (bits_left a.bits)
@@ -59,8 +59,8 @@ inner-else-c-eq0 c = record {
 turned-else-c-eq0 : (c : goal.Else-c-eq0) →
     let a = c.args in
     Turned a.w.now a.b a.n (target-else-c-eq0 c) c.loop-left.i c.loop-left.d c.loop-left.left c.word_at-x.result c.turn-c.result
-    c.in-Bit.bit c.in-Bit.later
-turned-else-c-eq0 c = record { inner = inner-else-c-eq0 c; next = sym c.next-next.ensures ∙ ap next_as c.in-Bit.is; by = c.turn-c.ensures }
+    c.in-Some.bit c.in-Some.later
+turned-else-c-eq0 c = record { inner = inner-else-c-eq0 c; next = sym c.next-next.ensures ∙ ap next_as c.in-Some.is; by = c.turn-c.ensures }
 
 pub loop-left-init : goal.loop-left-init
 loop-left-init c = record { one = omega arith; within = omega arith; few = omega arith; rest = refl }
@@ -77,11 +77,11 @@ returns-then-n-i c = down-first c.loop-left.invariant c.word_at-x.ensures c.if-x
 pub returns-then-n-i-2 : goal.returns-then-n-i-2
 returns-then-n-i-2 c = down-second c.loop-left.invariant c.word_at-x.ensures c.if-x-eq0.false c.if-n-i-2.true
 
-pub overflow_add-result-in-End : goal.overflow_add-result-in-End
-overflow_add-result-in-End c = omega (arith, (inner c).down.few)
+pub overflow_add-result-in-None : goal.overflow_add-result-in-None
+overflow_add-result-in-None c = omega (arith, (inner c).down.few)
 
-pub returns-in-End : goal.returns-in-End
-returns-in-End c = inner-end (inner c) (sym c.next-next.ensures ∙ ap next_as c.in-End.is)
+pub returns-in-None : goal.returns-in-None
+returns-in-None c = inner-end (inner c) (sym c.next-next.ensures ∙ ap next_as c.in-None.is)
 
 pub overflow_add-result-then-c-eq0 : goal.overflow_add-result-then-c-eq0
 overflow_add-result-then-c-eq0 c = omega (arith, turned-less (turned c), (inner-then-c-eq0 c).down.few)
@@ -89,8 +89,8 @@ overflow_add-result-then-c-eq0 c = omega (arith, turned-less (turned c), (inner-
 pub returns-then-c-eq0 : goal.returns-then-c-eq0
 returns-then-c-eq0 c = turned_none (turned c) c.if-c-eq0.true
 
-pub overflow_add-i-in-Bit : goal.overflow_add-i-in-Bit
-overflow_add-i-in-Bit c = omega (arith, turned-within (turned-else-c-eq0 c))
+pub overflow_add-i-in-Some : goal.overflow_add-i-in-Some
+overflow_add-i-in-Some c = omega (arith, turned-within (turned-else-c-eq0 c))
 
 pub overflow_add-d : goal.overflow_add-d
 overflow_add-d c = omega (arith, turned-less (turned-else-c-eq0 c))

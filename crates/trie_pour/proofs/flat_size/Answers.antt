@@ -1,11 +1,7 @@
 -- `flat_size` meets its contract. Assumes nothing.
-use mathlib.Core.Bool.{true, false}
-use mathlib.Core.Path.{sym}
-use Rattle.trie_pour.proofs.Parts.{flat-nodes}
+use mathlib.Core.Path.{◌∙◌}
+use Rattle.trie_pour.proofs.Parts.{flat-byte}
 use Rattle.trie_pour.proofs.flat_size.Goals as goal
 
-pub returns-then-full : goal.returns-then-full
-returns-then-full c = rw c.if-full.true (sym (flat-nodes true))
-
 pub returns : goal.returns
-returns c = rw c.if-full.false (sym (flat-nodes false))
+returns c = c.from.ensures ∙ flat-byte c.args.full

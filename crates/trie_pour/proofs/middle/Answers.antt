@@ -6,9 +6,6 @@ use Rattle.trie_pour.proofs.middle.Goals as goal
 pub returns-then-listed : goal.returns-then-listed
 returns-then-listed c t g = rw c.if-listed.true (into-whole _ t)
 
-pub look-v-requires : goal.look-v-requires
-look-v-requires c = let (t, g) = c.requires in (t, [], _, g)
-
 pub returns-in-Nothing : goal.returns-in-Nothing
 returns-in-Nothing c t g = rw c.if-listed.false (into-none _ t (rw c.in-Nothing.is at (c.look-v.ensures t [] _ g)))
 

@@ -4,9 +4,6 @@ use native.Mathlib.Omega.{arith}
 use Rattle.trie_pour.proofs.Parts.{part-stands, says-whole, says-split, says-leaf, says-leaf-split, says_none, says-none-split, says-inner, stands-low}
 use Rattle.trie_pour.proofs.step.Goals as goal
 
-pub returns-then-whole : goal.returns-then-whole
-returns-then-whole c t p = rw c.if-whole.true
-
 pub returns-then-into : goal.returns-then-into
 returns-then-into c t p = rw (c.if-whole.false, c.if-into.true) (says-whole t p c.if-i-eq0.true)
 

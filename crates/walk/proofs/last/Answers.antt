@@ -1,6 +1,5 @@
 -- `last` meets its contract: what is told at the spot that is reached. Assumes nothing.
 use native.Mathlib.Omega.{arith}
-use borrow.Author.Rules.{rules}
 use Rattle.walk.proofs.Reached.{tells-last}
 use Rattle.walk.proofs.last.Goals as goal
 

@@ -1,5 +1,4 @@
 -- `nth` meets its contract: what is told at the spot that is reached. Assumes nothing.
-use borrow.Author.Rules.{rules}
 use Rattle.walk.proofs.Reached.{tells-nth}
 use Rattle.walk.proofs.nth.Goals as goal
 

@@ -2,8 +2,7 @@
 use mathlib.Core.Path.{◌≡◌, refl, ap}
 use native.Mathlib.Omega.{arith}
 use Rattle.calls_replies.specs.Replies.{no_reply}
-use Rattle.calls_kinds.specs.Kinds.{asks_by, asks_of}
-use Rattle.calls_kinds.specs.declared.Asks.{Asks}
+use Rattle.calls_kinds.specs.Kinds.{Asked, asks_by, asks_of}
 use Rattle.calls_kinds.specs.declared.Kind.TheVariants as kind
 use Rattle.calls_changes.specs.Changes.{layout_of, write_of, change_of}
 use Rattle.calls_reports.specs.Reports.{report_of}
@@ -15,23 +14,23 @@ use Rattle.calls.proofs.answering.answer.Goals as goal
 
 pub list-requires : goal.list-requires
 list-requires c = let q = asks_of-kind c.args.c c.kind_of-kind.ensures c.in-List.is in
-    (omega (arith, c.requires.rows, ap (λ (x : Asks). x.rows) q), omega (arith, c.requires.room, ap (λ (x : Asks). x.bytes) q))
+    (omega (arith, c.requires.rows, ap (λ (x : Asked). x.rows) q), omega (arith, c.requires.room, ap (λ (x : Asked). x.bytes) q))
 
 pub line-requires : goal.line-requires
 line-requires c = let q = asks_of-kind c.args.c c.kind_of-kind.ensures c.in-WriteLine.is in
-    omega (arith, c.requires.room, ap (λ (x : Asks). x.bytes) q)
+    omega (arith, c.requires.room, ap (λ (x : Asked). x.bytes) q)
 
 pub save-requires : goal.save-requires
 save-requires c = let q = asks_of-kind c.args.c c.kind_of-kind.ensures c.in-Save.is in
-    omega (arith, c.requires.room, ap (λ (x : Asks). x.bytes) q)
+    omega (arith, c.requires.room, ap (λ (x : Asked). x.bytes) q)
 
 pub words-requires : goal.words-requires
 words-requires c = let q = asks_of-kind c.args.c c.kind_of-kind.ensures c.in-ReadWords.is in
-    omega (arith, c.requires.room, ap (λ (x : Asks). x.bytes) q)
+    omega (arith, c.requires.room, ap (λ (x : Asked). x.bytes) q)
 
 pub mend-requires : goal.mend-requires
 mend-requires c = let q = asks_of-kind c.args.c c.kind_of-kind.ensures c.in-Salvage.is in
-    (c.requires.call, omega (arith, c.requires.room, ap (λ (x : Asks). x.bytes) q))
+    (c.requires.call, omega (arith, c.requires.room, ap (λ (x : Asked). x.bytes) q))
 
 pub returns-in-Layout : goal.returns-in-Layout
 unfolding effect_by

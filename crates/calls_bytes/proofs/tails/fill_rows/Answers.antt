@@ -1,28 +1,11 @@
--- `tails::fill_rows` meets its contract. The loop's invariant: what is left to fill completes it. Assumes nothing.
-use mathlib.Core.List.{[], ◌∷◌}
-use mathlib.Core.Path.{refl}
-use Prim.Native.Nat.{◌+◌, ◌-◌}
-use native.Mathlib.Nat.{add-zero, sub-zero}
-use lib.ListN.{replicate}
-use Rattle.calls_bytes.proofs.Rows.{onward, ended, replicate-on, replicate-none}
+-- `tails::fill_rows` meets its contract: what is filled stands before the rest. Assumes nothing.
 use native.Mathlib.Omega.{arith}
+use lib.Seq.{length-take-le}
+use Rattle.calls_bytes.proofs.Rows.{filled}
 use Rattle.calls_bytes.proofs.tails.fill_rows.Goals as goal
-
-pub loop-i-init : goal.loop-i-init
-loop-i-init c = (omega arith, (refl, simp (add-zero, sub-zero)))
-
-pub loop-i-preserved : goal.loop-i-preserved
-loop-i-preserved c = let a = c.args in
-    let o = c.loop-i in (
-      omega arith,
-      (
-        omega arith,
-        onward o.rows o.i (o.i + 1) (a.x ∷ []) (replicate (a.count - (o.i + 1)) a.x) (replicate (a.count - o.i) a.x)
-            (replicate-on a.x (a.count - o.i) (a.count - (o.i + 1)) (omega arith)) o.invariant.1.1 c.put_row.ensures (omega arith),
-      ),
-    )
 
 pub returns : goal.returns
 returns c = let a = c.args in
-    let o = c.loop-i in
-    ended o.rows o.i (replicate (a.count - o.i) a.x) (replicate-none a.x (a.count - o.i) (omega arith)) o.invariant.1.1
+    let w = a.rows.now in
+    let e = c.fill.ensures.after (λ y h. h) in
+    rw (e, length-take-le a.count w c.requires) (filled w 0 a.count a.x (omega (arith, c.requires)))

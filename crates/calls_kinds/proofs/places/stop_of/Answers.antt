@@ -1,21 +1,16 @@
 -- `places::stop_of` meets its contract, test by test. Assumes nothing.
-use borrow.Author.Rules.{rules}
-use borrow.Author.Tests.{not-true, not-false}
+use mathlib.Core.Path.{refl}
 use Rattle.calls_kinds.proofs.Judged.{stop-unknown, stop-full, stop-rows, stop-none}
 use Rattle.calls_kinds.proofs.places.stop_of.Goals as goal
 
-pub returns-then-not-asks : goal.returns-then-not-asks
-returns-then-not-asks c = let a = c.args in
-    stop-unknown a.c a.rows a.room c.asks_of-asks.ensures.value (not-true c.asks_of-asks.result.known c.if-not-asks.true)
+pub returns-in_default : goal.returns-in_default
+returns-in_default c = let a = c.args in stop-unknown a.c a.rows a.room c.in_default.ensures.value refl
 
 pub returns-then-room-asks : goal.returns-then-room-asks
-returns-then-room-asks c = let a = c.args in
-    stop-full a.c a.rows a.room c.asks_of-asks.ensures.value (not-false c.asks_of-asks.result.known c.if-not-asks.false) c.if-room-asks.true
+returns-then-room-asks c = let a = c.args in stop-full a.c a.rows a.room c.in-Some.ensures.value refl c.if-room-asks.true
 
 pub returns-then-rows-asks : goal.returns-then-rows-asks
-returns-then-rows-asks c = let a = c.args in
-    stop-rows a.c a.rows a.room c.asks_of-asks.ensures.value (not-false c.asks_of-asks.result.known c.if-not-asks.false) c.if-room-asks.false c.if-rows-asks.true
+returns-then-rows-asks c = let a = c.args in stop-rows a.c a.rows a.room c.in-Some.ensures.value refl c.if-room-asks.false c.if-rows-asks.true
 
 pub returns : goal.returns
-returns c = let a = c.args in
-    stop-none a.c a.rows a.room c.asks_of-asks.ensures.value (not-false c.asks_of-asks.result.known c.if-not-asks.false) c.if-room-asks.false c.if-rows-asks.false
+returns c = let a = c.args in stop-none a.c a.rows a.room c.in-Some.ensures.value refl c.if-room-asks.false c.if-rows-asks.false

@@ -1,13 +1,17 @@
 -- `asking::in_width` meets its contract, by the words of each family. Assumes nothing.
+use mathlib.Core.Bool.{false}
+use mathlib.Core.Path.{◌≡◌}
 use native.Mathlib.Omega.{arith}
-use Rattle.change_many.proofs.Asked.{width-more, width-high, width_low}
+use lib.Dec.{ltb}
+use Rattle.std.proofs.lemmas.Grind.{common_steps}
+use Rattle.change_many.proofs.Asked.{width-more, width-words}
 use Rattle.change_many.proofs.asking.in_width.Goals as goal
 
 pub returns-then-family-ne-IPV4 : goal.returns-then-family-ne-IPV4
 returns-then-family-ne-IPV4 c = width-more _ _ c.if-family-ne-IPV4.true (omega arith) (omega arith)
 
-pub returns-then-a-ne0 : goal.returns-then-a-ne0
-returns-then-a-ne0 c = width-high _ _ c.if-family-ne-IPV4.false c.if-a-ne0.true
-
 pub returns : goal.returns
-returns c = width_low _ _ c.if-family-ne-IPV4.false c.if-a-ne0.false
+returns c = let a = c.args.a in
+    let low : a.hi ≡ 0 → c.lt.result ≡ ltb a.lo 0x100000000 = λ e. grind (arith, common_steps, e) in
+    let high : (a.hi ≡ 0 → ⊥) → c.lt.result ≡ false = λ n. grind (arith, common_steps, n) in
+    width-words _ _ c.if-family-ne-IPV4.false low high

@@ -1,10 +1,13 @@
 -- `asking::is_backward` meets its contract: by the high words, and where they are equal by the low ones. Assumes nothing.
+use mathlib.Core.Path.{◌≡◌}
 use native.Mathlib.Omega.{arith}
-use Rattle.change_many.proofs.Asked.{smaller-high, smaller-low}
+use lib.Dec.{ltb}
+use Rattle.std.proofs.lemmas.Grind.{common_steps}
+use Rattle.change_many.proofs.Asked.{smaller-words}
 use Rattle.change_many.proofs.asking.is_backward.Goals as goal
 
-pub returns-then-a-b : goal.returns-then-a-b
-returns-then-a-b c = smaller-high _ _ (omega arith) (omega arith) c.if-a-b.true
-
 pub returns : goal.returns
-returns c = smaller-low _ _ c.if-a-b.false
+returns c = let s = c.args.s in
+    let low : s.first.hi ≡ s.last.hi → c.lt.result ≡ ltb s.last.lo s.first.lo = λ e. grind (arith, common_steps, e) in
+    let high : (s.first.hi ≡ s.last.hi → ⊥) → c.lt.result ≡ ltb s.last.hi s.first.hi = λ n. grind (arith, common_steps, n) in
+    smaller-words _ _ (omega arith) (omega arith) low high

@@ -6,11 +6,7 @@ use lib.Dec.{eqb}
 use lib.ListN.{get_or}
 use borrow.Author.Rules.{rules}
 use Rattle.compare.specs.Rules.{Agree}
-use Rattle.compare.proofs.Blocks.{counted, few}
 use Rattle.compare.proofs.comparing.others.Given as goal
 
 abbrev pub invariant-loop-k : goal.invariant-loop-k
-invariant-loop-k l = (l.k ≤ l.n) × (l.count ≤ l.k) × Agree l.w l.p l.q l.k (eqb l.count 0)
-
-abbrev pub decreases-loop-k : goal.decreases-loop-k
-decreases-loop-k l = l.n - l.k
+invariant-loop-k l = (l.count ≤ l.k) × Agree l.w l.p l.q l.k (eqb l.count 0)

@@ -3,8 +3,8 @@ use borrow.Author.Rules.{rules}
 use Rattle.exports.proofs.Told.{counts-file, counts-refused}
 use Rattle.exports.proofs.files.put_counts.Goals as goal
 
-pub returns-in-File : goal.returns-in-File
-returns-in-File c = counts-file _ c.in-File.c c.in-File.is
+pub returns-in-Ok : goal.returns-in-Ok
+returns-in-Ok c = counts-file _ c.in-Ok.c c.in-Ok.is
 
-pub returns-in-Refused : goal.returns-in-Refused
-returns-in-Refused c = counts-refused _ _ c.in-Refused.is
+pub returns-in-Err : goal.returns-in-Err
+returns-in-Err c = counts-refused _ _ c.in-Err.is

@@ -1,9 +1,7 @@
 -- `branches::leading` meets its contract. Assumes nothing.
-use Rattle.kept_build.proofs.Leading.{begins-taken, begins-refused}
+use mathlib.Core.Path.{◌∙◌}
+use Rattle.kept_build.proofs.Leading.{begins-or}
 use Rattle.kept_build.proofs.branches.leading.Goals as goal
 
-pub returns-in-Network : goal.returns-in-Network
-returns-in-Network c f s g e = begins-taken g e c.with_new_prefix-t.ensures _ c.in-Network.is
-
-pub returns-in-Refused : goal.returns-in-Refused
-returns-in-Refused c f s g e = absurd (begins-refused g e c.with_new_prefix-t.ensures _ c.in-Refused.is)
+pub returns : goal.returns
+returns c f s g e = c.unwrap_or.ensures ∙ begins-or g e c.with_new_prefix.result c.with_new_prefix.ensures

@@ -16,9 +16,6 @@ emitted-slice_known-3-1 : (c : goal.After-slice_known-3-1) (t u : Trie) → let 
     → KeptGap a.n a.o a.e (op_on a.op a.fuel t u) → Emits a.family a.w.now c.emit-x.new.w a.b [] a.e c.emit-x.result (op_on a.op a.fuel t u)
 emitted-slice_known-3-1 c t u i g = c.emit-x.ensures _ [] t u c.whole-path.ensures i g
 
-pub emit-x-requires : goal.emit-x-requires
-emit-x-requires c = let (t, u, i, g, q) = c.requires in (_, [], t, u, c.whole-path.ensures, i, g)
-
 pub settle-requires : goal.settle-requires
 settle-requires c = let (t, u, i, g, q) = c.requires in
     (leaf-place (emitted c t u i g) _ q i.hold g.one g.room, (omega (arith, g.room, i.hold.few), omega (arith, i.hold.low)))

@@ -4,8 +4,5 @@ use mathlib.Core.Path.{refl, ◌∙◌}
 use Rattle.kept_emit.proofs.Answered.{size_is}
 use Rattle.kept_emit.proofs.combining.op_size.Goals as goal
 
-pub foresee-x-requires : goal.foresee-x-requires
-foresee-x-requires c = let (o, e, t, u, s) = c.requires in (o, e, [], t, u, refl, s)
-
 pub returns : goal.returns
 returns c o e t u s = c.size_of.ensures ∙ size_is _ _ (c.foresee-x.ensures o e [] t u refl s)

@@ -4,12 +4,6 @@ use Rattle.nets.specs.TrieOps.{kind_of}
 use Rattle.trie_emit.proofs.Sources.{rank-le}
 use Rattle.kept_emit.proofs.combining.outcome.Goals as goal
 
-pub kind-x-requires : goal.kind-x-requires
-kind-x-requires c = let (o, g, p, t, u, e, m, n) = c.requires.1 in (c.requires.0, (o, g, p, t, m, e))
-
-pub kind-y-requires : goal.kind-y-requires
-kind-y-requires c = let (o, g, p, t, u, e, m, n) = c.requires.1 in (c.requires.0, (o, g, p, u, n, e))
-
 pub settled-requires : goal.settled-requires
 settled-requires c = let (o, g, p, t, u, e, m, n) = c.requires.1 in omega (arith, c.kind-y.ensures o g p u n e, rank-le (kind_of u))
 

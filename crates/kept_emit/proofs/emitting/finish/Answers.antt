@@ -1,36 +1,23 @@
 -- `emitting::finish` meets its contract, by the arms of the answer of its node. Assumes nothing.
 use native.Mathlib.Omega.{arith}
 use mathlib.Core.Path.{sym, ◌∙◌}
-use lib.ListN.{length}
-use Rattle.kept_emit.proofs.Answered.{half-within, path-within, Numbers, numbers, finish-flat, finish-node, Node≢}
+use Rattle.kept_emit.proofs.Answered.{half-within, path-within, numbers, finish-flat, finish-node, Node≢}
 use mathlib.Core.Bool.{true, false}
 use Rattle.trie_paths.specs.Spans.{snoc}
 use Rattle.kept_emit.proofs.emitting.finish.Goals as goal
 
-facts : (c : goal.After-settle-arg-1) → let s = c.args in Numbers s.family (length s.w.now) s.b c.beginning_before-o.result c.beginning_before-m.result
-    s.e s.l s.r
-facts c = let p = c.requires.5 in numbers p _ (c.answer_over-x.ensures _ _ p.both) _ c.in-Node.is _ _
-    c.beginning_before-m.ensures c.beginning_before-o.ensures
-
-facts-settle-arg-in-node-1 : (c : goal.After-settle-arg-in-Node-1) → let s = c.args in Numbers s.family (length s.w.now) s.b c.beginning_before-o.result c.beginning_before-m.result
-    s.e s.l s.r
-facts-settle-arg-in-node-1 c = let p = c.requires.5 in numbers p _ (c.answer_over-x.ensures _ _ p.both) _ c.in-Node.is _ _
-    c.beginning_before-m.ensures c.beginning_before-o.ensures
-
-facts-top-arg-1 : (c : goal.After-top-arg-1) → let s = c.args in Numbers s.family (length s.w.now) s.b c.beginning_before-o.result c.beginning_before-m.result
-    s.e s.l s.r
-facts-top-arg-1 c = let p = c.requires.5 in numbers p _ (c.answer_over-x.ensures _ _ p.both) _ c.in-Node.is _ _
-    c.beginning_before-m.ensures c.beginning_before-o.ensures
-
 pub settle-requires : goal.settle-requires
-settle-requires c = let f = facts c in ((λ h. omega (arith, f.full-l h)), omega (arith, f.second, f.few, f.low))
+settle-requires c = let p = c.requires.5 in
+    let f = numbers p _ (c.answer_over-x.ensures _ _ p.both) _ c.in-Node.is _ _ (rw c.size_of.ensures at c.saturating_sub-m.ensures) (rw c.size_of-in-Node.ensures at c.saturating_sub-o.ensures) in ((λ h. omega (arith, f.full-l h)), omega (arith, f.second, f.few, f.low))
 
 pub settle-requires-in-Node : goal.settle-requires-in-Node
-settle-requires-in-Node c = let f = facts-settle-arg-in-node-1 c in
+settle-requires-in-Node c = let p = c.requires.5 in
+    let f = numbers p _ (c.answer_over-x.ensures _ _ p.both) _ c.in-Node.is _ _ (rw c.size_of.ensures at c.saturating_sub-m.ensures) (rw c.size_of-in-Node.ensures at c.saturating_sub-o.ensures) in
     ((λ h. omega (arith, f.full-r h)), omega (arith, f.first, f.second, f.few, f.low))
 
 pub top-requires : goal.top-requires
-top-requires c = let f = facts-top-arg-1 c in
+top-requires c = let p = c.requires.5 in
+    let f = numbers p _ (c.answer_over-x.ensures _ _ p.both) _ c.in-Node.is _ _ (rw c.size_of.ensures at c.saturating_sub-m.ensures) (rw c.size_of-in-Node.ensures at c.saturating_sub-o.ensures) in
     ((λ h g. omega (arith, f.top-room h g)), omega (arith, f.first, f.second, f.few, f.low))
 
 pub returns-in-Empty : goal.returns-in-Empty
@@ -40,8 +27,8 @@ pub returns-in-Full : goal.returns-in-Full
 returns-in-Full c v p t u is h = finish-flat h _ (c.answer_over-x.ensures t u h.both) (λ k q. (Node≢ k).1 (sym c.in-Full.is ∙ q))
 
 pub returns-in-Node : goal.returns-in-Node
-returns-in-Node c v p t u is h = finish-node h _ (c.answer_over-x.ensures t u h.both) _ c.in-Node.is _ _ c.beginning_before-m.ensures
-    c.beginning_before-o.ensures
+returns-in-Node c v p t u is h = finish-node h _ (c.answer_over-x.ensures t u h.both) _ c.in-Node.is _ _ (rw c.size_of.ensures at c.saturating_sub-m.ensures)
+    (rw c.size_of-in-Node.ensures at c.saturating_sub-o.ensures)
     _ _ _ (c.settle.ensures (snoc p false)
     (c.child-first.ensures _ p is) (half-within h false))
     (c.settle-in-Node.ensures (snoc p true)

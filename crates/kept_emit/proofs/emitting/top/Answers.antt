@@ -11,12 +11,6 @@ returns-then-m-o c p is le = rw (top-low _ p _ _ _ c.if-m-o.true) (sym (put-nil 
 pub returns-then-e-m : goal.returns-then-e-m
 returns-then-e-m c p is le = rw (top-high _ p _ _ _ c.if-m-o.false c.if-e-m.true) (sym (put-nil _ _))
 
-pub overflow_sub-o : goal.overflow_sub-o
-overflow_sub-o c = omega (arith, c.requires.0 c.if-m-o.false c.if-e-m.false)
-
-pub overflow_sub-o-2 : goal.overflow_sub-o-2
-overflow_sub-o-2 c = omega (arith, c.requires.0 c.if-m-o.false c.if-e-m.false)
-
 pub write_node-requires : goal.write_node-requires
 write_node-requires c = let h = c.requires.0 c.if-m-o.false c.if-e-m.false in
     record { one = omega arith; fits = h.1; low = omega arith; few = omega arith; near = omega arith }

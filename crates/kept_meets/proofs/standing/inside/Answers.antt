@@ -5,8 +5,8 @@ use Rattle.nets.proofs.Handing.{Hands, hands, hands_end}
 use Rattle.kept_meets.proofs.Inside.{way-start, way-some, way-nothing, way_end, way_on}
 use Rattle.kept_meets.proofs.standing.inside.Goals as goal
 
-more : (c : goal.After-piece-at) → Hands c.loop-at.left c.in-Bit.bit c.in-Bit.later
-more c = hands _ _ _ _ (omega (arith, c.loop-at.invariant.0, c.requires.0)) c.next-next.ensures c.in-Bit.is
+more : (c : goal.After-piece-at) → Hands c.loop-at.left c.in-Some.bit c.in-Some.later
+more c = hands _ _ _ _ (omega (arith, c.loop-at.invariant.0, c.requires.0)) c.next-next.ensures c.in-Some.is
 
 pub loop-at-init : goal.loop-at-init
 loop-at-init c = (omega arith, way-start _ _ _ _ _ _ (omega arith))
@@ -14,9 +14,9 @@ loop-at-init c = (omega arith, way-start _ _ _ _ _ _ (omega arith))
 pub returns-then-at-eq0 : goal.returns-then-at-eq0
 returns-then-at-eq0 c = way-nothing c.loop-at.invariant.1 c.if-at-eq0.true
 
-pub returns-in-End : goal.returns-in-End
-returns-in-End c = way_end c.loop-at.invariant.1 (hands_end c.loop-at.left _ (omega (arith, c.loop-at.invariant.0, c.requires.0)) c.next-next.ensures
-    c.in-End.is)
+pub returns-in-None : goal.returns-in-None
+returns-in-None c = way_end c.loop-at.invariant.1 (hands_end c.loop-at.left _ (omega (arith, c.loop-at.invariant.0, c.requires.0)) c.next-next.ensures
+    c.in-None.is)
 
 pub overflow_sub-s : goal.overflow_sub-s
 overflow_sub-s c = c.loop-at.invariant.0

@@ -1,54 +1,8 @@
 -- `simplifying::shrink` meets its contract, by the nodes that it reads. Assumes nothing.
 use native.Mathlib.Omega.{arith}
-use Prim.Native.Nat.{ℕ}
-use Rattle.nets.specs.Bits.{Bits}
-use Rattle.nets.specs.Tries.{Trie}
-use Rattle.kept_simplify.specs.Shrinks.{Source}
 use Rattle.kept_simplify.proofs.Shrinking.{source_fits, shrink-one, block-moves, block-shrinks, fork-fits}
-use Rattle.kept_simplify.proofs.Shrinking.{Forked, fork-numbers, second-source, second-apart, ends, rest-room, rest-source, rest-apart, pending, shrunk}
+use Rattle.kept_simplify.proofs.Shrinking.{forked, fork-numbers, second-source, second-apart, ends, rest-room, rest-source, rest-apart, pending, shrunk}
 use Rattle.kept_simplify.proofs.simplifying.+shrink.Goals as goal
-
-abbrev Given : (τ : ℕ) → goal.After-shrink-arg-1 τ → Bits → Trie → Type 0
-Given τ c p t = let a = c.args in Source a.family a.w.now a.b a.n a.i a.e a.o p t
-
-split : (τ : ℕ) → (c : goal.After-shrink-arg-1 τ) (p : Bits) (t : Trie) → Given τ c p t → let a = c.args in let h = c.fork_at-h.result in
-    Forked a.family a.w.now a.b a.n a.i a.e a.o p t h.path h.middle h.second
-split τ c p t s = let h = c.fork_at-h.ensures in record { src = s; many = c.if-k-eq1.false; path = h.0; ahead = h.1.0; second = h.1.1 }
-
-abbrev Given-struct_known-1 : (τ : ℕ) → goal.After-struct_known-1 τ → Bits → Trie → Type 0
-Given-struct_known-1 τ c p t = let a = c.args in Source a.family a.w.now a.b a.n a.i a.e a.o p t
-
-split-struct_known-1 : (τ : ℕ) → (c : goal.After-struct_known-1 τ) (p : Bits) (t : Trie) → Given-struct_known-1 τ c p t → let a = c.args in let h = c.fork_at-h.result in
-    Forked a.family a.w.now a.b a.n a.i a.e a.o p t h.path h.middle h.second
-split-struct_known-1 τ c p t s = let h = c.fork_at-h.ensures in record { src = s; many = c.if-k-eq1.false; path = h.0; ahead = h.1.0; second = h.1.1 }
-
-abbrev Given-net_at-first : (τ : ℕ) → goal.After-net_at-first τ → Bits → Trie → Type 0
-Given-net_at-first τ c p t = let a = c.args in Source a.family a.w.now a.b a.n a.i a.e a.o p t
-
-split-net_at-first : (τ : ℕ) → (c : goal.After-net_at-first τ) (p : Bits) (t : Trie) → Given-net_at-first τ c p t → let a = c.args in let h = c.fork_at-h.result in
-    Forked a.family a.w.now a.b a.n a.i a.e a.o p t h.path h.middle h.second
-split-net_at-first τ c p t s = let h = c.fork_at-h.ensures in record { src = s; many = c.if-k-eq1.false; path = h.0; ahead = h.1.0; second = h.1.1 }
-
-abbrev Given-shrink-arg-2-1 : (τ : ℕ) → goal.After-shrink-arg-2-1 τ → Bits → Trie → Type 0
-Given-shrink-arg-2-1 τ c p t = let a = c.args in Source a.family a.w.now a.b a.n a.i a.e a.o p t
-
-split-shrink-arg-2-1 : (τ : ℕ) → (c : goal.After-shrink-arg-2-1 τ) (p : Bits) (t : Trie) → Given-shrink-arg-2-1 τ c p t → let a = c.args in let h = c.fork_at-h.result in
-    Forked a.family a.w.now a.b a.n a.i a.e a.o p t h.path h.middle h.second
-split-shrink-arg-2-1 τ c p t s = let h = c.fork_at-h.ensures in record { src = s; many = c.if-k-eq1.false; path = h.0; ahead = h.1.0; second = h.1.1 }
-
-abbrev Given-write_over-arg-3-1 : (τ : ℕ) → goal.After-write_over-arg-3-1 τ → Bits → Trie → Type 0
-Given-write_over-arg-3-1 τ c p t = let a = c.args in Source a.family a.w.now a.b a.n a.i a.e a.o p t
-
-split-write_over-arg-3-1 : (τ : ℕ) → (c : goal.After-write_over-arg-3-1 τ) (p : Bits) (t : Trie) → Given-write_over-arg-3-1 τ c p t → let a = c.args in let h = c.fork_at-h.result in
-    Forked a.family a.w.now a.b a.n a.i a.e a.o p t h.path h.middle h.second
-split-write_over-arg-3-1 τ c p t s = let h = c.fork_at-h.ensures in record { src = s; many = c.if-k-eq1.false; path = h.0; ahead = h.1.0; second = h.1.1 }
-
-abbrev Given-slice_known-4-1 : (τ : ℕ) → goal.After-slice_known-4-1 τ → Bits → Trie → Type 0
-Given-slice_known-4-1 τ c p t = let a = c.args in Source a.family a.w.now a.b a.n a.i a.e a.o p t
-
-split-slice_known-4-1 : (τ : ℕ) → (c : goal.After-slice_known-4-1 τ) (p : Bits) (t : Trie) → Given-slice_known-4-1 τ c p t → let a = c.args in let h = c.fork_at-h.result in
-    Forked a.family a.w.now a.b a.n a.i a.e a.o p t h.path h.middle h.second
-split-slice_known-4-1 τ c p t s = let h = c.fork_at-h.ensures in record { src = s; many = c.if-k-eq1.false; path = h.0; ahead = h.1.0; second = h.1.1 }
 
 pub overflow_sub-k : goal.overflow_sub-k
 overflow_sub-k τ c = let (p, t, s) = c.requires.0 in omega (arith, source_fits s)
@@ -73,22 +27,22 @@ overflow_add-o τ c = let (p, t, s) = c.requires.0 in omega (arith, source_fits 
 
 pub shrink-r-requires : goal.shrink-r-requires
 shrink-r-requires τ c = let (p, t, s) = c.requires.0 in
-    let d = split τ c p t s in
+    let d = forked s c.if-k-eq1.false c.fork_at-h.ensures in
     (omega (arith, fork-numbers d, c.decreases), ((_, _, second-source d), second-apart d c.requires.1))
 
 pub overflow_cast-h : goal.overflow_cast-h
 overflow_cast-h τ c = let (p, t, s) = c.requires.0 in
-    omega (arith, fork-numbers (split-struct_known-1 τ c p t s))
+    omega (arith, fork-numbers (forked s c.if-k-eq1.false c.fork_at-h.ensures))
 
 pub net_at-first-requires : goal.net_at-first-requires
 net_at-first-requires τ c = let (p, t, s) = c.requires.0 in
-    let d = split-struct_known-1 τ c p t s in
+    let d = forked s c.if-k-eq1.false c.fork_at-h.ensures in
     let g = fork-numbers d in
     record { kept_room = rest-room d _ _ (c.shrink-r.ensures _ _ (second-source d)); le_i = (omega arith, omega arith) }
 
 pub join_from-after-requires : goal.join_from-after-requires
 join_from-after-requires τ c = let (p, t, s) = c.requires.0 in
-    let d = split-net_at-first τ c p t s in
+    let d = forked s c.if-k-eq1.false c.fork_at-h.ensures in
     let g = fork-numbers d in
     let h = c.shrink-r.ensures _ _ (second-source d) in
     record { kept_room = rest-room d _ _ h; le_m = (omega arith, omega arith, g.2); apart = rest-apart d _ _ h c.requires.1 }
@@ -99,24 +53,24 @@ overflow_add-o-2 τ c = let (p, t, s) = c.requires.0 in
 
 pub overflow_add-o-3 : goal.overflow_add-o-3
 overflow_add-o-3 τ c = let (p, t, s) = c.requires.0 in
-    let d = split-shrink-arg-2-1 τ c p t s in
+    let d = forked s c.if-k-eq1.false c.fork_at-h.ensures in
     omega (arith, fork-numbers d, ends d _ _ (c.shrink-r.ensures _ _ (second-source d)))
 
 pub shrink-l-requires : goal.shrink-l-requires
 shrink-l-requires τ c = let (p, t, s) = c.requires.0 in
-    let d = split-shrink-arg-2-1 τ c p t s in (
+    let d = forked s c.if-k-eq1.false c.fork_at-h.ensures in (
       omega (arith, fork-numbers d, c.decreases),
       ((_, _, rest-source d _ _ (c.shrink-r.ensures _ _ (second-source d))), c.join_from-after.ensures),
     )
 
 pub write_over-requires : goal.write_over-requires
 write_over-requires τ c = let (p, t, s) = c.requires.0 in
-    let d = split-write_over-arg-3-1 τ c p t s in
+    let d = forked s c.if-k-eq1.false c.fork_at-h.ensures in
     let h = c.shrink-r.ensures _ _ (second-source d) in
     (_, _, _, _, pending d _ _ h _ _ _ c.net_at-first.ensures (c.shrink-l.ensures _ _ (rest-source d _ _ h)))
 
 pub returns : goal.returns
-returns τ c p t s = let d = split-slice_known-4-1 τ c p t s in
+returns τ c p t s = let d = forked s c.if-k-eq1.false c.fork_at-h.ensures in
     let h = c.shrink-r.ensures _ _ (second-source d) in
     let g = c.shrink-l.ensures _ _ (rest-source d _ _ h) in
     shrunk d _ _ h _ _ _ c.net_at-first.ensures g _ _ (c.write_over.ensures _ _ _ _ (pending d _ _ h _ _ _ c.net_at-first.ensures g))

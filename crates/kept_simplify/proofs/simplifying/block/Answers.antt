@@ -4,8 +4,8 @@ use Rattle.nodes.specs.Words.{put}
 use Rattle.nodes.proofs.Has.{has-seg, has_same}
 use Rattle.kept_simplify.proofs.simplifying.block.Goals as goal
 
-pub returns-then-i-o : goal.returns-then-i-o
-returns-then-i-o c xs h e = rw (← c.if-i-o.true) (sym (has_same h))
+pub returns-else-i-o : goal.returns-else-i-o
+returns-else-i-o c xs h e = rw (← c.if-i-o.false) (sym (has_same h))
 
-pub returns : goal.returns
-returns c xs h e = c.move_nodes.ensures ∙ ap (put _ _) (rw (← e) (has-seg h))
+pub returns-then-i-o : goal.returns-then-i-o
+returns-then-i-o c xs h e = c.move_nodes.ensures ∙ ap (put _ _) (rw (← e) (has-seg h))

@@ -1,16 +1,17 @@
 -- `places::place_of` meets its contract, each return by the tests on the way to it. Assumes nothing.
 use borrow.Author.Rules.{rules}
 use Rattle.listing.proofs.Calls.{place-start, place-family, place-refused, place-past}
+use Rattle.nets.proofs.Propagated.{propagated}
 use Rattle.listing.proofs.places.place_of.Goals as goal
 
 pub returns-then-net-seat : goal.returns-then-net-seat
-returns-then-net-seat c = place-family _ c.in-Past.is c.if-net-seat.true
+returns-then-net-seat c = place-family _ c.in-Some.is c.if-net-seat.true
 
-pub returns-in-Start : goal.returns-in-Start
-returns-in-Start c = place-start c.in-Start.is c.before_all.ensures
+pub returns-in_default : goal.returns-in_default
+returns-in_default c = place-start c.in_default.is c.before_all.ensures
 
-pub returns-in-Network : goal.returns-in-Network
-returns-in-Network c = place-past _ c.in-Past.is _ c.to_network-entered.ensures c.if-net-seat.false _ _ c.in-Network.is
+pub returns : goal.returns
+returns c = place-past _ c.in-Some.is _ c.to_network.ensures c.if-net-seat.false _ _ c.in_ok-n.was
 
-pub returns-in-Refused : goal.returns-in-Refused
-returns-in-Refused c = place-refused _ c.in-Past.is _ c.to_network-entered.ensures c.if-net-seat.false _ c.in-Refused.is
+pub returns-in_err-n : goal.returns-in_err-n
+returns-in_err-n c = rw (propagated c.from_residual.ensures) (place-refused _ c.in-Some.is _ c.to_network.ensures c.if-net-seat.false _ c.in_err-n.was)

@@ -6,10 +6,10 @@ use Rattle.lookup.proofs.walking.lookup.Goals as goal
 
 pub query-requires : goal.query-requires
 query-requires c = let r = c.root-a.ensures in
-    (root-header _ _ _ r _ c.in-Granted.is, root-known _ _ _ r _ c.in-Granted.is)
+    (root-header _ _ _ r _ c.in-Ok.is, root-known _ _ _ r _ c.in-Ok.is)
 
-pub returns-in-Granted : goal.returns-in-Granted
-returns-in-Granted c = c.query.ensures ∙ lookup-root _ _ _ c.root-a.ensures _ c.in-Granted.is _
+pub returns-in-Ok : goal.returns-in-Ok
+returns-in-Ok c = c.query.ensures ∙ lookup-root _ _ _ c.root-a.ensures _ c.in-Ok.is _
 
-pub returns-in-Refused : goal.returns-in-Refused
-returns-in-Refused c = lookup-refused _ _ _ c.root-a.ensures _ _ c.in-Refused.is
+pub returns-in-Err : goal.returns-in-Err
+returns-in-Err c = lookup-refused _ _ _ c.root-a.ensures _ _ c.in-Err.is

@@ -17,17 +17,17 @@ bounds-w-5 c = omega (arith, is_header-header _ c.requires.0)
 
 pub path-requires : goal.path-requires
 path-requires c = let s = c.requires in
-    (s.0, s.1, prefix-few _ _ _ c.prefix_bits-p.ensures c.in-Bits.is)
+    (s.0, s.1, prefix-few _ _ _ c.prefix_bits-p.ensures c.in-Ok.is)
 
 pub returns-then-w-eq0 : goal.returns-then-w-eq0
-returns-then-w-eq0 c = query-path _ _ _ c.if-net-w.false _ c.prefix_bits-p.ensures _ _ c.in-Bits.is c.if-w-eq0.true c.path.ensures
+returns-then-w-eq0 c = query-path _ _ _ c.if-net-w.false _ c.prefix_bits-p.ensures _ _ c.in-Ok.is c.if-w-eq0.true c.path.ensures
 
 pub kept_path-requires : goal.kept_path-requires
 kept_path-requires c = let s = c.requires in
-    (s.0, s.1, c.if-net-w.false, (prefix-bits _ _ _ c.prefix_bits-p.ensures c.in-Bits.is).0)
+    (s.0, s.1, c.if-net-w.false, (prefix-bits _ _ _ c.prefix_bits-p.ensures c.in-Ok.is).0)
 
 pub returns-else-w-eq0 : goal.returns-else-w-eq0
-returns-else-w-eq0 c = query-kept _ _ _ c.if-net-w.false _ c.prefix_bits-p.ensures _ _ c.in-Bits.is c.if-w-eq0.false c.kept_path.ensures
+returns-else-w-eq0 c = query-kept _ _ _ c.if-net-w.false _ c.prefix_bits-p.ensures _ _ c.in-Ok.is c.if-w-eq0.false c.kept_path.ensures
 
-pub returns-in-Refused : goal.returns-in-Refused
-returns-in-Refused c = query-refused _ _ _ c.if-net-w.false _ c.prefix_bits-p.ensures _ c.in-Refused.is
+pub returns-in-Err : goal.returns-in-Err
+returns-in-Err c = query-refused _ _ _ c.if-net-w.false _ c.prefix_bits-p.ensures _ c.in-Err.is

@@ -20,9 +20,6 @@ query-requires c = let h = c.requires in (h.0, h.1)
 pub bounds-answers-i : goal.bounds-answers-i
 bounds-answers-i c = omega (arith, c.loop-i.invariant.room, c.loop-i-test.true)
 
-pub loop-i-smaller : goal.loop-i-smaller
-loop-i-smaller c = omega (arith, c.loop-i-test.true)
-
 pub loop-i-preserved : goal.loop-i-preserved
 loop-i-preserved c = filling-next _ _ _ _ _ _ _ c.loop-i.invariant c.loop-i-test.true
     (asked-shown _ _ _ _ _ _ _ _ c.query_at-net.ensures c.query.ensures c.number_of.ensures)

@@ -10,6 +10,3 @@ use Rattle.lookup_many.proofs.asking.one_by_one.Given as goal
 
 abbrev pub invariant-loop-i : goal.invariant-loop-i
 invariant-loop-i l = Filling (asked_of l.pool l.set l.family l.queries) (length l.queries / 3) l.initial.i l.initial.answers l.answers l.i
-
-abbrev pub decreases-loop-i : goal.decreases-loop-i
-decreases-loop-i l = length l.queries / 3 - l.i

@@ -70,24 +70,21 @@ returns-then-n-root c = (omega arith, fill_none _ _ _)
 pub loop-i-init : goal.loop-i-init
 loop-i-init c = filled-start _ _ _
 
-pub size-e-requires : goal.size-e-requires
-size-e-requires c = omega (arith, c.loop-i-test.true)
-
 pub block-requires : goal.block-requires
 block-requires c = let h = c.requires in (
   seated h.0 h.1 c.if-w-ne0.false c.if-tag-ne0.false refl refl c.if-root-eq0.false c.if-n-root.false h.2,
-  record { queries = omega (arith, c.size-e.ensures, c.loop-i-test.true); answers = omega (arith, c.loop-i.invariant.same, h.3) },
-  c.size-e.ensures.2,
+  record { queries = omega (arith, c.min-e.ensures, c.loop-i-test.true); answers = omega (arith, c.loop-i.invariant.same, h.3) },
+  omega (arith, c.min-e.ensures),
 )
 
 pub overflow_add-i : goal.overflow_add-i
-overflow_add-i c = search (rules, c.size-e.ensures, c.loop-i-test.true)
+overflow_add-i c = search (rules, c.min-e.ensures, c.loop-i-test.true)
 
 pub loop-i-smaller : goal.loop-i-smaller
-loop-i-smaller c = omega (arith, c.size-e.ensures, c.loop-i-test.true)
+loop-i-smaller c = omega (arith, c.min-e.ensures, c.loop-i-test.true)
 
 pub loop-i-preserved : goal.loop-i-preserved
-loop-i-preserved c = filled_next _ _ _ _ _ _ _ c.loop-i.invariant (omega (arith, c.size-e.ensures, c.loop-i-test.true)) c.block.ensures
+loop-i-preserved c = filled_next _ _ _ _ _ _ _ c.loop-i.invariant (omega (arith, c.min-e.ensures, c.loop-i-test.true)) c.block.ensures
 
 pub shape_of-answers : goal.shape_of-answers
 shape_of-answers c = c.loop-i.invariant.same

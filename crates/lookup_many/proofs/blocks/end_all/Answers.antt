@@ -25,12 +25,6 @@ end_at-requires c = let h = c.requires in
     let r = ap length c.loop-a.invariant.1 ∙ length-put _ _ _ in
     (h.0, record { queries = omega (arith, h.1.queries, c.loop-a-test.true); answers = omega (arith, h.1.answers, r) }, rw c.lane_at-l.ensures (h.2.each _ c.loop-a-test.true))
 
-pub overflow_add-a : goal.overflow_add-a
-overflow_add-a c = search (rules, c.loop-a-test.true)
-
-pub loop-a-smaller : goal.loop-a-smaller
-loop-a-smaller c = omega (arith, c.loop-a-test.true)
-
 pub loop-a-preserved : goal.loop-a-preserved
 loop-a-preserved c = (omega (arith, c.loop-a-test.true), fill-two _ _ _ _ _ _ _ c.loop-a.invariant.1 c.end_at.ensures)
 

@@ -13,6 +13,3 @@ use Rattle.lookup_many.proofs.blocks.end_all.Given as goal
 
 abbrev pub invariant-loop-a : goal.invariant-loop-a
 invariant-loop-a l = (l.a ≤ l.e) × (l.answers ≡ put l.initial.answers l.i (fill (asked_of l.w l.set l.family l.queries) l.i l.a))
-
-abbrev pub decreases-loop-a : goal.decreases-loop-a
-decreases-loop-a l = l.e - l.a

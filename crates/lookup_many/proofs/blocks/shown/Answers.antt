@@ -33,7 +33,7 @@ overflow_sub-bits c = rw c.first-f.ensures (ending-first c.requires.1)
 pub walk_down-requires : goal.walk_down-requires
 walk_down-requires c = let h = c.requires in
     let o = h.1.on in
-    (seat-room h.0, omega (arith, o.low), omega (arith, o.low, o.within), rw c.of_word-in-End.ensures (omega arith), h.1.few)
+    (seat-room h.0, omega (arith, o.low), omega (arith, o.low, o.within), rw c.of_word-in-None.ensures (omega arith), h.1.few)
 
 pub overflow_add-b : goal.overflow_add-b
 overflow_add-b c = let r = seat-room c.requires.0 in omega (arith, r.low, r.few)
@@ -41,8 +41,8 @@ overflow_add-b c = let r = seat-room c.requires.0 in omega (arith, r.low, r.few)
 pub overflow_cast-x : goal.overflow_cast-x
 overflow_cast-x c = omega (arith, c.type_inv.w c.args.l.p)
 
-pub overflow_add-p-in-Bit : goal.overflow_add-p-in-Bit
-overflow_add-p-in-Bit c = let r = seat-room c.requires.0 in
+pub overflow_add-p-in-Some : goal.overflow_add-p-in-Some
+overflow_add-p-in-Some c = let r = seat-room c.requires.0 in
     omega (arith, r.low, r.few, c.requires.1.on.within, c.type_inv.w c.args.l.p)
 
 pub overflow_add-result-then-turn-eq0 : goal.overflow_add-result-then-turn-eq0
@@ -50,8 +50,8 @@ overflow_add-result-then-turn-eq0 c = omega (arith, first-few c.args.bits.len _ 
 
 pub returns-then-turn-eq0 : goal.returns-then-turn-eq0
 returns-then-turn-eq0 c = rw c.first-f.ensures
-    (shown-none c.requires.1 _ _ _ (bits-next c ∙ ap next_as c.in-Bit.is) c.if-x-eq0.false c.if-b-n.false c.turn.ensures c.if-turn-eq0.true)
+    (shown-none c.requires.1 _ _ _ (bits-next c ∙ ap next_as c.in-Some.is) c.if-x-eq0.false c.if-b-n.false c.turn.ensures c.if-turn-eq0.true)
 
-pub returns-in-End : goal.returns-in-End
-returns-in-End c = shown-second c.requires.1 _ (bits-next-walk_down c ∙ ap next_as c.in-End.is)
-    (rw (c.of_word-in-End.ensures, c.first-f.ensures) at c.walk_down.ensures)
+pub returns-in-None : goal.returns-in-None
+returns-in-None c = shown-second c.requires.1 _ (bits-next-walk_down c ∙ ap next_as c.in-None.is)
+    (rw (c.of_word-in-None.ensures, c.first-f.ensures) at c.walk_down.ensures)

@@ -23,12 +23,6 @@ keep-requires c = (omega (arith, c.loop-a-test.true, c.requires.1), c.loop-a.inv
 pub bounds-live-a : goal.bounds-live-a
 bounds-live-a c = omega (arith, c.loop-a.invariant.2.wide, c.loop-a-test.true, c.requires.1)
 
-pub overflow_add-a : goal.overflow_add-a
-overflow_add-a c = omega (arith, c.loop-a-test.true, c.requires.1)
-
-pub loop-a-smaller : goal.loop-a-smaller
-loop-a-smaller c = omega (arith, c.loop-a-test.true)
-
 pub loop-a-preserved : goal.loop-a-preserved
 loop-a-preserved c = let i = c.loop-a.invariant in (
   omega (arith, c.loop-a-test.true),

@@ -10,6 +10,3 @@ use Rattle.lookup_many.proofs.blocks.start.Given as goal
 
 abbrev pub invariant-loop-a : goal.invariant-loop-a
 invariant-loop-a l = (l.a ≤ l.e) × Started l.p l.family l.queries l.i l.a l.lanes × Live l.a l.a l.live
-
-abbrev pub decreases-loop-a : goal.decreases-loop-a
-decreases-loop-a l = l.e - l.a

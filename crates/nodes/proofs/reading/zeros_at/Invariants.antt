@@ -1,10 +1,8 @@
--- `reading::zeros_at` meets its contract. The loop's invariant: the zeros from k on complete the count. Assumes nothing.
-use Prim.Native.Nat.{◌-◌}
-use Rattle.nodes.proofs.Zeros.{Count}
+-- `reading::zeros_at` meets its contract. The loop's invariant: the count so far. Assumes nothing.
+use mathlib.Core.Path.{◌≡◌}
+use lib.ListN.{take}
+use Rattle.nodes.specs.Words.{zeros}
 use Rattle.nodes.proofs.reading.zeros_at.Given as goal
 
-abbrev pub invariant-loop-k : goal.invariant-loop-k
-invariant-loop-k l = Count l.w l.p l.m l.end l.k l.count
-
-abbrev pub decreases-loop-k : goal.decreases-loop-k
-decreases-loop-k l = l.end - l.k
+abbrev pub invariant-loop-x : goal.invariant-loop-x
+invariant-loop-x l = l.count ≡ zeros (take l.x-index l.x-items)

@@ -1,7 +1,6 @@
 -- `laying::header` meets its contract: four stores are one write, and one stands behind them. Assumes nothing.
 use native.Mathlib.Omega.{arith}
 use lib.ListN.{length-set}
-use borrow.Author.Rules.{rules}
 use Rattle.pool_state.proofs.Setups.{set-header}
 use Rattle.pool.proofs.laying.header.Goals as goal
 

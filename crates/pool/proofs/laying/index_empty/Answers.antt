@@ -6,7 +6,6 @@ use native.Mathlib.Nat.{add-zero}
 use native.Mathlib.Numerals.{add-one}
 use native.Mathlib.Omega.{arith}
 use lib.ListN.{length-set}
-use borrow.Author.Rules.{rules}
 use Rattle.nets.specs.Bits.{digit}
 use Rattle.nodes.specs.Words.{put}
 use Rattle.pool_state.specs.Decode.{record_at}

@@ -1,11 +1,9 @@
 -- `laying::indexes` meets its contract. The loop's invariant: the tags and indexes to come complete it. Assumes nothing.
 use mathlib.Core.Path.{◌∙◌}
-use Prim.Native.Nat.{◌-◌}
 use native.Mathlib.Omega.{arith}
 use lib.ListN.{length-set}
-use borrow.Author.Rules.{rules}
 use Rattle.nodes.proofs.Put.{set-put}
-use Rattle.pool_state.proofs.Setups.{Indexing, indexing-start, indexing-fits, indexing-turn, indexing-end}
+use Rattle.pool_state.proofs.Setups.{indexing-start, indexing-fits, indexing-turn, indexing-end}
 use Rattle.pool.proofs.laying.indexes.Goals as goal
 
 pub loop-s-init : goal.loop-s-init

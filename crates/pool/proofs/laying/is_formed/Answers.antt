@@ -1,6 +1,5 @@
 -- `laying::is_formed` meets its contract, by its tests. Assumes nothing.
 use mathlib.Core.Path.{sym, ◌∙◌}
-use borrow.Author.Rules.{rules}
 use borrow.Author.Tests.{not-true, not-false}
 use Rattle.pool.proofs.Needed.{formed-not, formed-first, formed-second}
 use Rattle.pool.proofs.laying.is_formed.Goals as goal

@@ -1,8 +1,7 @@
 -- `laying::is_setup` meets its contract: the flag after each test is the conjunction so far. Assumes nothing.
 use mathlib.Core.Bool.{◌&&◌}
-use mathlib.Core.Path.{◌≡◌, ◌∙◌, ap}
+use mathlib.Core.Path.{◌≡◌, ◌∙◌}
 use lib.Dec.{leb}
-use borrow.Author.Rules.{rules}
 use Rattle.pool_state.specs.States.{is_size}
 use Rattle.nets.specs.Networks.{is_family}
 use Rattle.pool_state.specs.Decode.{least_words}

@@ -1,9 +1,7 @@
 -- `laying::records` meets its contract. The loop's invariant: the records to come complete it. Assumes nothing.
-use Prim.Native.Nat.{◌-◌}
-use lib.ListN.{length, length-set}
+use lib.ListN.{length-set}
 use native.Mathlib.Omega.{arith}
-use borrow.Author.Rules.{rules}
-use Rattle.pool_state.proofs.Setups.{Recording, records-start, records-turn, records-end}
+use Rattle.pool_state.proofs.Setups.{records-start, records-turn, records-end}
 use Rattle.pool.proofs.laying.records.Goals as goal
 
 pub loop-s-init : goal.loop-s-init

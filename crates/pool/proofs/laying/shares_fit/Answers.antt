@@ -1,7 +1,5 @@
 -- `laying::shares_fit` meets its contract. The loop's invariant: the answer is that for the shares to come and the nodes that are left. Assumes nothing.
-use Prim.Native.Nat.{◌-◌}
-use borrow.Author.Rules.{rules}
-use Rattle.pool_state.proofs.Setups.{Sharing, shares_fit-no-share, shares_fit-no-limit, shares_fit-start, shares_fit-over, shares_fit-past, shares_fit-turn, shares_fit-end}
+use Rattle.pool_state.proofs.Setups.{shares_fit-no-share, shares_fit-no-limit, shares_fit-start, shares_fit-over, shares_fit-past, shares_fit-turn, shares_fit-end}
 use Rattle.pool.proofs.laying.shares_fit.Goals as goal
 
 pub returns-then-shares-n : goal.returns-then-shares-n

@@ -9,6 +9,3 @@ use Rattle.pool_change.proofs.relinking.relink.Given as goal
 
 abbrev pub invariant-loop-s : goal.invariant-loop-s
 invariant-loop-s l = Turn l.initial.w l.set l.old l.new l.sets l.w l.s
-
-abbrev pub decreases-loop-s : goal.decreases-loop-s
-decreases-loop-s l = l.sets - l.s

@@ -1,8 +1,6 @@
 -- `holding::make_room` meets its contract: there is room, or squeezing makes it, or what is held is cut in half. Assumes nothing.
 use mathlib.Core.Path.{refl}
 use native.Mathlib.Omega.{arith}
-use borrow.Author.Rules.{rules}
-use Rattle.setfile_format.proofs.Bytes.{Bytes}
 use Rattle.salvage_batch.proofs.Thinnings.{kept_same}
 use Rattle.salvage_batch.proofs.Holdings.{holds-stands, squeezed-kept, holds-squeezed, cut_fits, holds-cut}
 use Rattle.salvage_batch.proofs.holding.make_room.Goals as goal
@@ -29,6 +27,6 @@ returns c = let o = c.requires.2 in
     record {
       kept = squeezed-kept o c.squeeze-n.ensures;
       count_lt_most = omega (arith, o.room.two);
-      holds = λ S a p. holds-cut p c.squeeze-n.ensures (λ i. omega (arith, c.slice_known-2-1.given i)) (omega (arith, o.room.two)) (omega (arith, c.if-n-half.false)) _ refl refl
+      holds = λ S a p. holds-cut p c.squeeze-n.ensures (λ i. omega (arith, c.slice_known-2-1.given i)) (omega (arith, o.room.two)) (omega (arith, c.if-n-half.false)) _ _ refl refl
           c.entry-net.ensures.value;
     }

@@ -1,28 +1,15 @@
 -- `order::is_earlier` meets its contract, by the order of addresses in words. Assumes nothing.
-use mathlib.Core.Path.{◌≡◌, ◌∙◌}
-use Prim.Native.Nat.{◌<◌, ◌^◌}
+use mathlib.Core.Path.{◌≡◌}
 use native.Mathlib.Omega.{arith}
-use Rattle.nets.specs.Networks.{address}
-use Rattle.setfile_entries.proofs.Clean.{value-other, value_same}
-use Rattle.salvage_batch.proofs.Orders.{earlier-other, earlier-same, value-high}
+use lib.Dec.{ltb}
+use Rattle.std.proofs.lemmas.Grind.{common_steps}
+use Rattle.salvage_batch.proofs.Orders.{earlier-words}
 use Rattle.salvage_batch.proofs.order.is_earlier.Goals as goal
-
-pub returns-then-x-y : goal.returns-then-x-y
-returns-then-x-y c = let x = c.args.x in
-    let y = c.args.y in
-    let n = c.if-x-y.true in
-    value-other x.hi x.lo y.hi y.lo (omega arith) (omega arith) n ∙ earlier-other c.requires.1 c.requires.2 (λ e. n (value-high x.hi x.lo y.hi y.lo (omega arith) (omega arith) e))
-
-pub returns-then-x-y-2 : goal.returns-then-x-y-2
-returns-then-x-y-2 c = let x = c.args.x in
-    let y = c.args.y in
-    let e : x.hi ≡ y.hi = omega arith in
-    let n = c.if-x-y-2.true in
-    value_same x.hi x.lo y.hi y.lo (omega arith) (omega arith) e ∙ earlier-other c.requires.1 c.requires.2 (λ q. n (omega (arith, q)))
 
 pub returns : goal.returns
 returns c = let x = c.args.x in
     let y = c.args.y in
-    let e : x.hi ≡ y.hi = omega arith in
-    let g : x.lo ≡ y.lo = omega arith in
-    earlier-same c.requires.1 c.requires.2 (rw (e, g))
+    let short : x.hi ≡ y.hi → x.lo ≡ y.lo → c.lt.result ≡ ltb x.len y.len = λ e g. grind (arith, common_steps, e, g) in
+    let low : x.hi ≡ y.hi → (x.lo ≡ y.lo → ⊥) → c.lt.result ≡ ltb x.lo y.lo = λ e n. grind (arith, common_steps, e, n) in
+    let high : (x.hi ≡ y.hi → ⊥) → c.lt.result ≡ ltb x.hi y.hi = λ n. grind (arith, common_steps, n) in
+    earlier-words c.requires.1 c.requires.2 (omega arith) (omega arith) short low high

@@ -1,15 +1,8 @@
 -- `squeezing::thin` meets its contract. The loop's invariant: what is kept, and what will be kept of the rest, are what thinning keeps of all. Assumes nothing.
 use mathlib.Core.Path.{refl}
-use Prim.Native.Nat.{◌-◌}
 use native.Mathlib.Omega.{arith}
-use borrow.Author.Rules.{rules}
-use Rattle.setfile_format.proofs.Bytes.{Bytes}
-use Rattle.salvage_batch.specs.Buffers.{Thinning}
 use Rattle.salvage_batch.proofs.Thinnings.{stands-first, thins-none, thinning-start, thinning-end}
 use Rattle.salvage_batch.proofs.squeezing.thin.Goals as goal
-
-bytes : (c : goal.After-entry) → Bytes c.args.buf.now
-bytes c i = omega (arith, c.slice_known-1.given i)
 
 pub returns-then-n-eq0 : goal.returns-then-n-eq0
 returns-then-n-eq0 c = thins-none c.if-n-eq0.true
@@ -18,7 +11,7 @@ pub entry-requires : goal.entry-requires
 entry-requires c = stands-first c.requires c.if-n-eq0.false
 
 pub loop-i-init : goal.loop-i-init
-loop-i-init c = thinning-start c.requires (bytes c) (omega (arith, c.if-n-eq0.false)) refl c.entry.ensures.value
+loop-i-init c = thinning-start c.requires (λ i. omega (arith, c.slice_known-1.given i)) (omega (arith, c.if-n-eq0.false)) refl c.entry.ensures.value
 
 pub thin_one-t-requires : goal.thin_one-t-requires
 thin_one-t-requires c = (_, _, c.loop-i.invariant, c.loop-i-test.true)

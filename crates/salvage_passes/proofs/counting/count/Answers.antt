@@ -1,15 +1,11 @@
 -- `counting::count` meets its contract. The loop's invariant: what is counted is the beginning of what is left, or all. Assumes nothing.
-use mathlib.Core.Bool.{cond}
-use mathlib.Core.Path.{◌≡◌, refl, sym, ◌∙◌}
-use Prim.Native.Nat.{ℕ, suc, ◌-◌, ◌≤◌}
+use mathlib.Core.Path.{refl, sym, ◌∙◌}
+use Prim.Native.Nat.{ℕ, ◌-◌, ◌≤◌}
 use native.Mathlib.Omega.{arith}
-use borrow.Author.Rules.{rules}
 use lib.ListN.{length, length-replicate}
 use Rattle.salvage_lists.specs.Salvaging.{in_range_in}
 use Rattle.salvage_lists.proofs.Counts.{length-in_range_in}
-use Rattle.salvage_batch.specs.Buffers.{Kept}
 use Rattle.salvage_batch.proofs.Thinnings.{kept_same, kept_trans, kept_more}
-use Rattle.salvage_passes.specs.Parts.{Sofar}
 use Rattle.salvage_passes.proofs.Batches.{sofar-start, room-local, fewer}
 use Rattle.salvage_passes.proofs.counting.count.Goals as goal
 
@@ -17,7 +13,7 @@ few : (c : goal.After-slice_known-in-loop-t-1) → let a = c.args in length (in_
 few c = omega (arith, length-in_range_in c.args.family c.args.bytes.now 0 c.args.n)
 
 pub loop-t-init : goal.loop-t-init
-loop-t-init c = (length-replicate {A = ℕ} 69648 0, sofar-start _ _ _ c.requires.0 refl c.no_edge-after.ensures refl, kept_same _ _ _, λ z. refl)
+loop-t-init c = (length-replicate {A = ℕ} 69648 0, sofar-start _ _ _ c.requires.0 refl refl refl, kept_same _ _ _, λ z. refl)
 
 pub slice_bounds-count_more-end : goal.slice_bounds-count_more-end
 slice_bounds-count_more-end c = sym c.loop-t.invariant.0

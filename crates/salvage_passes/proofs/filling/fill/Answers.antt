@@ -1,63 +1,32 @@
 -- `filling::fill` meets its contract. The loop's invariant: what is written is the beginning of what is left. Assumes nothing.
-use mathlib.Core.List.{List}
 use mathlib.Core.Path.{◌≡◌, refl, sym, ◌∙◌}
-use Prim.Native.Nat.{ℕ, ◌+◌, ◌-◌, ◌≤◌}
+use Prim.Native.Nat.{◌-◌}
 use native.Mathlib.Omega.{arith}
-use borrow.Author.Rules.{rules}
-use lib.ListN.{length}
-use Rattle.nets.specs.Bits.{Bits}
-use Rattle.salvage_lists.specs.Salvaging.{in_range_in}
-use Rattle.salvage_passes.specs.Parts.{Filling}
 use Rattle.salvage_passes.proofs.filling.fill.Goals as goal
-
--- as the caller has shown
-now : (c : goal.At-loop-done) → let a = c.args in
-    Filling a.family (in_range_in a.family a.bytes.now 0 a.n) c.requires.by_index.1 a.m c.requires.by_index.0 c.loop-done.out c.loop-done.done
-now c = c.loop-done.invariant.1 _ _ c.requires.by_index.2
-
--- as the caller has shown
-now-fill_batch-arg-1 : (c : goal.After-fill_batch-arg-1) → let a = c.args in
-    Filling a.family (in_range_in a.family a.bytes.now 0 a.n) c.requires.by_index.1 a.m c.requires.by_index.0 c.loop-done.out c.loop-done.done
-now-fill_batch-arg-1 c = c.loop-done.invariant.1 _ _ c.requires.by_index.2
-
--- as the caller has shown
-now-slice_known-in-loop-done-1 : (c : goal.After-slice_known-in-loop-done-1) → let a = c.args in
-    Filling a.family (in_range_in a.family a.bytes.now 0 a.n) c.requires.by_index.1 a.m c.requires.by_index.0 c.loop-done.out c.loop-done.done
-now-slice_known-in-loop-done-1 c = c.loop-done.invariant.1 _ _ c.requires.by_index.2
-
--- as the caller has shown
-now-fill_last-arg-1 : (c : goal.After-fill_last-arg-1) → let a = c.args in
-    Filling a.family (in_range_in a.family a.bytes.now 0 a.n) c.requires.by_index.1 a.m c.requires.by_index.0 c.loop-done.out c.loop-done.done
-now-fill_last-arg-1 c = c.loop-done.invariant.1 _ _ c.requires.by_index.2
-
--- as the caller has shown
-now-slice_known-then-done-m-1 : (c : goal.After-slice_known-then-done-m-1) → let a = c.args in
-    Filling a.family (in_range_in a.family a.bytes.now 0 a.n) c.requires.by_index.1 a.m c.requires.by_index.0 c.loop-done.out c.loop-done.done
-now-slice_known-then-done-m-1 c = c.loop-done.invariant.1 _ _ c.requires.by_index.2
 
 pub loop-done-init : goal.loop-done-init
 loop-done-init c = (refl, λ v T o. o)
 
 pub overflow_add-done : goal.overflow_add-done
-overflow_add-done c = omega (arith, (now c).most, (now c).few)
+overflow_add-done c = omega (arith, (c.loop-done.invariant.1 _ _ c.requires.by_index.2).most, (c.loop-done.invariant.1 _ _ c.requires.by_index.2).few)
 
 pub fill_batch-done-requires : goal.fill_batch-done-requires
 fill_batch-done-requires c = let p = c.requires.n_le_most_entries in
-    record { n_le_most_entries = (p.0, p.1, c.loop-done-test.true); by_index = (_, _, now-fill_batch-arg-1 c) }
+    record { n_le_most_entries = (p.0, p.1, c.loop-done-test.true); by_index = (_, _, c.loop-done.invariant.1 _ _ c.requires.by_index.2) }
 
 pub loop-done-smaller : goal.loop-done-smaller
 loop-done-smaller c = omega (arith, c.fill_batch-done.ensures.0, c.loop-done-test.true)
 
 pub loop-done-preserved : goal.loop-done-preserved
 loop-done-preserved c = let e = c.fill_batch-done.ensures.1 in
-    ((e _ _ (now-slice_known-in-loop-done-1 c)).kept.long ∙ sym c.requires.by_index.2.kept.long, λ v T o. e v T (c.loop-done.invariant.1 v T o))
+    ((e _ _ (c.loop-done.invariant.1 _ _ c.requires.by_index.2)).kept.long ∙ sym c.requires.by_index.2.kept.long, λ v T o. e v T (c.loop-done.invariant.1 v T o))
 
 pub fill_last-requires : goal.fill_last-requires
 fill_last-requires c = let p = c.requires.n_le_most_entries in
-    record { n_le_most_entries = (p.0, p.1, omega (arith, c.if-done-m.true, c.loop-done-test.false)); by_index = (_, _, now-fill_last-arg-1 c) }
+    record { n_le_most_entries = (p.0, p.1, omega (arith, c.if-done-m.true, c.loop-done-test.false)); by_index = (_, _, c.loop-done.invariant.1 _ _ c.requires.by_index.2) }
 
 pub shape_of-out-then-done-m : goal.shape_of-out-then-done-m
-shape_of-out-then-done-m c = (c.fill_last.ensures _ _ (now-slice_known-then-done-m-1 c)).kept.long ∙ sym c.requires.by_index.2.kept.long
+shape_of-out-then-done-m c = (c.fill_last.ensures _ _ (c.loop-done.invariant.1 _ _ c.requires.by_index.2)).kept.long ∙ sym c.requires.by_index.2.kept.long
 
 pub returns-then-done-m : goal.returns-then-done-m
 returns-then-done-m c v T o = c.fill_last.ensures v T (c.loop-done.invariant.1 v T o)

@@ -1,34 +1,19 @@
 -- `loading::nodes_in` meets its contract: the nodes of the file's list in the pool's form. Assumes nothing.
-use mathlib.Core.List.{List}
-use Prim.Native.Nat.{ℕ}
 use native.Mathlib.Omega.{arith}
-use borrow.Author.Rules.{rules}
 use Rattle.setfile.proofs.Filling.{count-there, count-few, takes_first, takes-second}
 use Rattle.setfile.proofs.loading.nodes_in.Goals as goal
 
--- the words of the pool
-abbrev words : goal.Then-is_first → List ℕ
-words c = c.args.pool.now
-
--- the words of the pool
-abbrev words-then-m-eq0 : goal.Then-m-eq0 → List ℕ
-words-then-m-eq0 c = c.args.pool.now
-
--- the words of the pool
-abbrev words-else-m-eq0 : goal.Else-m-eq0 → List ℕ
-words-else-m-eq0 c = c.args.pool.now
-
 pub returns-then-is_first : goal.returns-then-is_first
-returns-then-is_first c f l reads q = takes_first (words c) c.is_first.ensures c.if-is_first.true l q
+returns-then-is_first c f l reads q = takes_first c.args.pool.now c.is_first.ensures c.if-is_first.true l q
 
 pub number-m-requires : goal.number-m-requires
 number-m-requires c = count-there _ c.requires.2
 
 pub returns-then-m-eq0 : goal.returns-then-m-eq0
-returns-then-m-eq0 c f l reads q = takes-second _ reads c.number-m.ensures (words-then-m-eq0 c) c.is_first.ensures c.if-is_first.false (omega arith)
+returns-then-m-eq0 c f l reads q = takes-second _ reads c.number-m.ensures c.args.pool.now c.is_first.ensures c.if-is_first.false (omega arith)
 
 pub overflow_mul-result : goal.overflow_mul-result
 overflow_mul-result c = omega (arith, count-few _ c.requires.2 c.number-m.ensures)
 
 pub returns : goal.returns
-returns c f l reads q = takes-second _ reads c.number-m.ensures (words-else-m-eq0 c) c.is_first.ensures c.if-is_first.false (omega arith)
+returns c f l reads q = takes-second _ reads c.number-m.ensures c.args.pool.now c.is_first.ensures c.if-is_first.false (omega arith)

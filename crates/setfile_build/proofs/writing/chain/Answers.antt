@@ -1,12 +1,9 @@
 -- `writing::chain` meets its contract. The loop's invariant: what is still to be written completes it, and the bits still to come are at hand. Assumes nothing.
-use mathlib.Core.Path.{◌≡◌}
-use Prim.Native.Nat.{◌-◌, ◌/◌, ◌^◌, ◌<◌}
+use Prim.Native.Nat.{◌-◌, ◌/◌, ◌^◌}
 use native.Mathlib.Omega.{arith}
-use borrow.Author.Rules.{rules}
 use lib.Dec.{eqb}
 use Rattle.nodes.proofs.Chains.{bool_byte-le}
-use Rattle.setfile_build.specs.Building.{word_from}
-use Rattle.setfile_build.proofs.Chaining.{Chaining, chaining-start, chaining-room, chaining-len, chaining-bit, chaining-turn, chaining-end}
+use Rattle.setfile_build.proofs.Chaining.{chaining-start, chaining-room, chaining-len, chaining-bit, chaining-turn, chaining-end}
 use Rattle.setfile_build.proofs.Digits.{first_bit}
 use Rattle.setfile_build.proofs.writing.chain.Goals as goal
 
@@ -25,9 +22,6 @@ overflow_add-bit c = omega (arith, bool_byte-le (eqb (c.loop-k.rest / 2 ^ 63) 1)
 pub store-requires : goal.store-requires
 store-requires c = let r = chaining-room c.requires c.loop-k.invariant.0 in
     (r.0, (r.1.0, omega (arith, bool_byte-le (eqb (c.loop-k.rest / 2 ^ 63) 1))))
-
-pub overflow_add-k : goal.overflow_add-k
-overflow_add-k c = omega (arith, chaining-room c.requires c.loop-k.invariant.0)
 
 pub overflow_add-i : goal.overflow_add-i
 overflow_add-i c = omega (arith, chaining-room c.requires c.loop-k.invariant.0)

@@ -1,49 +1,9 @@
 -- `abreast::side_by_side` meets its contract. The loop's invariant: the files are on their way side by side; with each turn less is left of the first.
 -- Assumes nothing.
-use mathlib.Core.List.{List}
-use mathlib.Core.Path.{◌≡◌}
 use native.Mathlib.Omega.{arith}
 use borrow.Author.Rules.{rules}
-use Rattle.nets.specs.Bits.{Bits}
-use Rattle.nets.specs.Networks.{width}
-use Rattle.setfile_compare.specs.Abreast.{Meets}
-use Rattle.setfile_compare.specs.declared.abreast.Meet.TheVariants as meet
-use Rattle.setfile_format.specs.Files.{read_file, file}
-use Rattle.setfile_compare.proofs.Going.{Going, rest_of, going-begin, going-shortest, going-longer, going-differs, going-alike, going-again, going_less}
+use Rattle.setfile_compare.proofs.Going.{going-begin, going-shortest, going-longer, going-differs, going-alike, going-again, going_less}
 use Rattle.setfile_compare.proofs.abreast.side_by_side.Goals as goal
-
--- both hold the addresses up to e
-alike : (c : goal.After-c-in-Alike-1) →
-    let a = c.args in
-    let p = c.requires in
-    let n = c.in-Alike.e in
-    (g : Going a.first.now a.second.now a.family c.loop-holder.c c.loop-holder.d c.loop-holder.a c.loop-holder.b p.0 p.1)
-    × Meets (width a.family) (meet.Alike n) g.x g.ms g.y g.ns
-alike c = let p = c.requires in
-    let g = c.loop-holder.invariant p.0 p.1 p.2 p.3 in
-    (g, going-alike g _ _ (c.meeting-m.ensures _ _ _ _ _ g.one.stands g.two.stands) c.in-Alike.is)
-
--- both hold the addresses up to e
-alike-d-in-alike-1 : (c : goal.After-d-in-Alike-1) →
-    let a = c.args in
-    let p = c.requires in
-    let n = c.in-Alike.e in
-    (g : Going a.first.now a.second.now a.family c.loop-holder.c c.loop-holder.d c.loop-holder.a c.loop-holder.b p.0 p.1)
-    × Meets (width a.family) (meet.Alike n) g.x g.ms g.y g.ns
-alike-d-in-alike-1 c = let p = c.requires in
-    let g = c.loop-holder.invariant p.0 p.1 p.2 p.3 in
-    (g, going-alike g _ _ (c.meeting-m.ensures _ _ _ _ _ g.one.stands g.two.stands) c.in-Alike.is)
-
--- both hold the addresses up to e
-alike-pass-b : (c : goal.After-pass-b) →
-    let a = c.args in
-    let p = c.requires in
-    let n = c.in-Alike.e in
-    (g : Going a.first.now a.second.now a.family c.loop-holder.c c.loop-holder.d c.loop-holder.a c.loop-holder.b p.0 p.1)
-    × Meets (width a.family) (meet.Alike n) g.x g.ms g.y g.ns
-alike-pass-b c = let p = c.requires in
-    let g = c.loop-holder.invariant p.0 p.1 p.2 p.3 in
-    (g, going-alike g _ _ (c.meeting-m.ensures _ _ _ _ _ g.one.stands g.two.stands) c.in-Alike.is)
 
 pub begin-a-requires : goal.begin-a-requires
 begin-a-requires c = let p = c.requires in (p.0, p.2)
@@ -83,13 +43,21 @@ pub enum_known-m-in-Alike-1 : goal.enum_known-m-in-Alike-1
 enum_known-m-in-Alike-1 c = search rules
 
 pub pass-a-requires : goal.pass-a-requires
-pass-a-requires c = let (g, k) = alike c in (_, _, _, g.one, k.2)
+pass-a-requires c = let p = c.requires in
+    let g = c.loop-holder.invariant p.0 p.1 p.2 p.3 in
+    let k = going-alike g _ _ (c.meeting-m.ensures _ _ _ _ _ g.one.stands g.two.stands) c.in-Alike.is in
+    (_, _, _, g.one, k.2)
 
 pub pass-b-requires : goal.pass-b-requires
-pass-b-requires c = let (g, k) = alike-d-in-alike-1 c in (_, _, _, g.two, k.3)
+pass-b-requires c = let p = c.requires in
+    let g = c.loop-holder.invariant p.0 p.1 p.2 p.3 in
+    let k = going-alike g _ _ (c.meeting-m.ensures _ _ _ _ _ g.one.stands g.two.stands) c.in-Alike.is in
+    (_, _, _, g.two, k.3)
 
 pub loop-holder-smaller : goal.loop-holder-smaller
-loop-holder-smaller c = let (g, k) = alike-pass-b c in
+loop-holder-smaller c = let p = c.requires in
+    let g = c.loop-holder.invariant p.0 p.1 p.2 p.3 in
+    let k = going-alike g _ _ (c.meeting-m.ensures _ _ _ _ _ g.one.stands g.two.stands) c.in-Alike.is in
     going_less g _ k (c.pass-a.ensures _ _ _ g.one k.2)
 
 pub loop-holder-preserved : goal.loop-holder-preserved

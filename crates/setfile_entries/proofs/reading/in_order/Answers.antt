@@ -1,6 +1,5 @@
 -- `reading::in_order` meets its contract. The loop's invariant: the check of the entries that are left completes that of all. Assumes nothing.
 use mathlib.Core.Path.{sym, ◌∙◌}
-use Prim.Native.Nat.{◌-◌}
 use native.Mathlib.Nat.{le_trans, pos_of_ne-zero}
 use native.Mathlib.Omega.{arith}
 use borrow.Author.Tests.{not-true, not-false}

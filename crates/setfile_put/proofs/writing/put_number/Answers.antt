@@ -1,18 +1,14 @@
--- `writing::put_number` meets its contract: four stores are one write. Assumes nothing.
+-- `writing::put_number` meets its contract: its bytes are one write. Assumes nothing.
+use mathlib.Core.Path.{◌≡◌, ◌∙◌}
+use Prim.Native.Nat.{◌+◌, ◌-◌}
 use native.Mathlib.Omega.{arith}
-use borrow.Author.Rules.{rules}
-use lib.ListN.{length-set}
-use Rattle.setfile_put.proofs.Stores.{number-stores}
+use Rattle.setfile_format.specs.Files.{bytes_of}
+use Rattle.setfile_format.proofs.Bytes.{length-bytes_of}
+use Rattle.setfile_put.proofs.Stores.{put-spliced, bytes-number}
 use Rattle.setfile_put.proofs.writing.put_number.Goals as goal
 
-pub bounds-out-at-2 : goal.bounds-out-at-2
-bounds-out-at-2 c = simp length-set (omega arith)
-
-pub bounds-out-at-3 : goal.bounds-out-at-3
-bounds-out-at-3 c = simp length-set (omega arith)
-
-pub bounds-out-at-4 : goal.bounds-out-at-4
-bounds-out-at-4 c = simp length-set (omega arith)
-
 pub returns : goal.returns
-returns c = number-stores _ _ _ (search rules)
+returns c = let a = c.args in
+    let n : a.at + 4 - a.at ≡ 4 = omega arith in
+    let e : c.copy_from_slice.new.self ≡ bytes_of 4 a.x = c.copy_from_slice.ensures.after ∙ c.to_be_bytes.ensures ∙ bytes-number a.x in
+    rw (n, e) (rw (length-bytes_of 4 a.x) at (put-spliced a.out.now a.at (bytes_of 4 a.x) (rw (length-bytes_of 4 a.x) c.requires)))

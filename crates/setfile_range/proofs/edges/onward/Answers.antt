@@ -6,8 +6,8 @@ use Rattle.setfile_range.proofs.edges.onward.Goals as goal
 pub down-path-requires : goal.down-path-requires
 down-path-requires c = let (f, p, d, q, o) = c.requires in (f, p, o.path, goes_on o)
 
-pub returns-in-Bit : goal.returns-in-Bit
-returns-in-Bit c = (refl, λ f p d q o. edge-onward o _ c.next-next.ensures _ _ c.in-Bit.is c.down-path.ensures)
+pub returns-in-Some : goal.returns-in-Some
+returns-in-Some c = (refl, λ f p d q o. edge-onward o _ c.next-next.ensures _ _ c.in-Some.is c.down-path.ensures)
 
-pub returns-in-End : goal.returns-in-End
-returns-in-End c = (refl, λ f p d q o. absurd (bit-none o _ c.next-next.ensures c.in-End.is))
+pub returns-in-None : goal.returns-in-None
+returns-in-None c = (refl, λ f p d q o. absurd (bit-none o _ c.next-next.ensures c.in-None.is))

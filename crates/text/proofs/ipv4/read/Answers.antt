@@ -1,50 +1,35 @@
 -- `ipv4::read` meets its contract. Assumes nothing.
--- the address and the length that were read
-use mathlib.Core.Path.{◌≡◌}
 use native.Mathlib.Omega.{arith}
 use lib.ListN.{drop}
-use Rattle.text_decimal.specs.Decimal.{parsed, read_number}
-use Rattle.text.specs.Ipv4.{read_quad}
 use Rattle.text_decimal.proofs.Numbers.{read_number-most}
-use Rattle.text.proofs.Reading.{read_as-is, read_line-nothing, read_line-unread, read_line-more, read_line-whole}
+use Rattle.nets.proofs.Propagated.{propagated}
+use Rattle.text.proofs.Reading.{read_as-ok, read_as-err, read_line-nothing, read_line-unread, read_line-more, read_line-whole}
 use Rattle.text.proofs.ipv4.read.Goals as goal
 
-address : (c : goal.In_default-r) → let s = c.args.line.now in
-    parsed c.in-Number.address (drop c.in-Number.next.at s) ≡ read_quad s
-address c = read_as-is c.args.line.now c.in-Number.is c.quad-r.ensures
+pub returns-in_err-address : goal.returns-in_err-address
+returns-in_err-address c = let s = c.args.line.now in
+    let h = read_as-err s c.quad.result c.ok_or.ensures.value c.in_err-address.was c.quad.ensures in
+    rw (propagated c.from_residual.ensures, h.0) (read_line-nothing s h.1)
 
-address-then-end-line : (c : goal.Then-end-line) → let s = c.args.line.now in
-    parsed c.in-Number.address (drop c.in-Number.next.at s) ≡ read_quad s
-address-then-end-line c = read_as-is c.args.line.now c.in-Number.is c.quad-r.ensures
-
-len : (c : goal.Then-end-line) → let s = c.args.line.now in
-    parsed c.in-Number-r.len (drop c.in-Number-r.end.at s) ≡ read_number 32 (drop c.in-Number.next.at s)
-len c = read_as-is c.args.line.now c.in-Number-r.is c.number-r.ensures
-
-len-else-end-line : (c : goal.Else-end-line) → let s = c.args.line.now in
-    parsed c.in-Number-r.len (drop c.in-Number-r.end.at s) ≡ read_number 32 (drop c.in-Number.next.at s)
-len-else-end-line c = read_as-is c.args.line.now c.in-Number-r.is c.number-r.ensures
-
-address-else-end-line : (c : goal.Else-end-line) → let s = c.args.line.now in
-    parsed c.in-Number.address (drop c.in-Number.next.at s) ≡ read_quad s
-address-else-end-line c = read_as-is c.args.line.now c.in-Number.is c.quad-r.ensures
-
-pub returns-in_default : goal.returns-in_default
-returns-in_default c = let s = c.args.line.now in
-    read_line-nothing s (read_as-is s c.in_default.is c.quad-r.ensures)
-
-pub returns-in_default-r : goal.returns-in_default-r
-returns-in_default-r c = let s = c.args.line.now in
-    read_line-unread s c.in-Number.address (drop c.in-Number.next.at s) (address c) (read_as-is s c.in_default-r.is c.number-r.ensures)
+pub returns-in_err-len : goal.returns-in_err-len
+returns-in_err-len c = let s = c.args.line.now in
+    let h = read_as-err s c.number.result c.ok_or-2.ensures.value c.in_err-len.was c.number.ensures in
+    let a = read_as-ok s c.quad.result c.ok_or.ensures.value c.in_ok-address.was c.quad.ensures in
+    rw (propagated c.from_residual-in_err-len.ensures, h.0) (read_line-unread s c.in_ok-address.address (drop c.in_ok-address.next.at s) a h.1)
 
 pub returns-then-end-line : goal.returns-then-end-line
 returns-then-end-line c = let s = c.args.line.now in
-    read_line-more s c.in-Number.address (drop c.in-Number.next.at s) c.in-Number-r.len c.in-Number-r.end.at (address-then-end-line c) (len c) c.if-end-line.true
+    let a = read_as-ok s c.quad.result c.ok_or.ensures.value c.in_ok-address.was c.quad.ensures in
+    let n = read_as-ok s c.number.result c.ok_or-2.ensures.value c.in_ok-len.was c.number.ensures in
+    read_line-more s c.in_ok-address.address (drop c.in_ok-address.next.at s) c.in_ok-len.len c.in_ok-len.end.at a n c.if-end-line.true
 
 pub overflow_cast-result-2 : goal.overflow_cast-result-2
 overflow_cast-result-2 c = let s = c.args.line.now in
-    omega (arith, read_number-most 32 (drop c.in-Number.next.at s) c.in-Number-r.len (drop c.in-Number-r.end.at s) (len-else-end-line c))
+    let n = read_as-ok s c.number.result c.ok_or-2.ensures.value c.in_ok-len.was c.number.ensures in
+    omega (arith, read_number-most 32 (drop c.in_ok-address.next.at s) c.in_ok-len.len (drop c.in_ok-len.end.at s) n)
 
 pub returns : goal.returns
 returns c = let s = c.args.line.now in
-    read_line-whole s c.in-Number.address (drop c.in-Number.next.at s) c.in-Number-r.len c.in-Number-r.end.at (address-else-end-line c) (len-else-end-line c) c.if-end-line.false
+    let a = read_as-ok s c.quad.result c.ok_or.ensures.value c.in_ok-address.was c.quad.ensures in
+    let n = read_as-ok s c.number.result c.ok_or-2.ensures.value c.in_ok-len.was c.number.ensures in
+    read_line-whole s c.in_ok-address.address (drop c.in_ok-address.next.at s) c.in_ok-len.len c.in_ok-len.end.at a n c.if-end-line.false

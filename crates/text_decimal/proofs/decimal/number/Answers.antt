@@ -1,7 +1,6 @@
 -- `decimal::number` meets its contract. The loop's invariant: what is still to be read completes the number. Assumes nothing.
 use mathlib.Core.Bool.{false}
 use mathlib.Core.Path.{◌≡◌, sym, ◌∙◌}
-use Prim.Native.Nat.{◌-◌}
 use native.Mathlib.Omega.{arith}
 use lib.ListN.{drop}
 use Rattle.text_decimal.specs.Places.{starts_digit}

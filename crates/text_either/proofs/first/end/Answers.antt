@@ -1,5 +1,7 @@
 -- `first::end` meets its contract. The loop's invariant: what was passed, with what is left, is the first line. Assumes nothing.
-use Prim.Native.Nat.{◌-◌}
+use mathlib.Core.Path.{◌≡◌}
+use native.Mathlib.Omega.{arith}
+use lib.ListN.{length}
 use Rattle.text_either.proofs.Firsts.{passed_start, passed-step, passed-feed, passed-end}
 use Rattle.text_either.proofs.first.end.Goals as goal
 
@@ -13,4 +15,6 @@ pub loop-at-preserved : goal.loop-at-preserved
 loop-at-preserved c = passed-step c.args.input.now c.loop-at.at c.loop-at-test.true c.if-input-at-eq10.false c.loop-at.invariant
 
 pub returns : goal.returns
-returns c = passed-end c.args.input.now c.loop-at.at c.loop-at-test.false c.loop-at.invariant
+returns c = let s = c.args.input.now in
+    let e : c.loop-at.at ≡ length s = omega arith in
+    passed-end s (length s) (omega arith) (rw e at c.loop-at.invariant)

@@ -1,105 +1,72 @@
--- `ipv6::read` meets its contract. Assumes nothing.
--- the address is whole
-use mathlib.Core.Bool.{true}
+-- `ipv6::read` meets its contract: the address is whole, a slash follows it, and then the length. Assumes nothing.
+use mathlib.Core.Bool.{Bool}
+use mathlib.Core.List.{List}
 use mathlib.Core.Path.{◌≡◌, refl, ap, sym, ◌∙◌}
-use Prim.Native.Nat.{◌+◌}
+use Prim.Native.Nat.{ℕ, ◌+◌}
 use native.Mathlib.Omega.{arith}
+use lib.Dec.{eqb, leb}
 use lib.ListN.{drop}
-use borrow.Author.Tests.{not-true, not-false}
-use Rattle.text_decimal.specs.Decimal.{parsed, read_number}
+use mathlib.Core.Bool.{cond}
+use Rattle.std.specs.Prelude.{is_some}
+use Rattle.nets.proofs.Propagated.{propagated}
 use Rattle.text.specs.Ipv4.{slash}
 use Rattle.text_decimal.specs.Places.{starts_byte}
 use Rattle.text_decimal.proofs.Numbers.{read_number-most}
 use Rattle.text_decimal.proofs.Places.{starts-within}
-use Rattle.text.proofs.Reading.{read_as-is}
-use Rattle.text_ipv6_read.specs.Reader.{is_outline}
-use Rattle.text_ipv6_read.specs.Places.{outline_as}
+use Rattle.text.proofs.Reading.{read_as-ok, read_as-err}
+use Rattle.text_ipv6_read.specs.Reader.{is_outline, read_address}
+use Rattle.text_ipv6_read.specs.Places.{outline_as, Sized}
+use Rattle.text_ipv6_read.specs.declared.outlines.Outline as declared
 use Rattle.text_ipv6_read.proofs.Laying.{is_outline-placed}
 use Rattle.text_ipv6_read.proofs.Reading.{line-part, line_other, line-unread, line-more, line-whole}
 use Rattle.text_ipv6_read.proofs.ipv6.read.Goals as goal
 
-shaped : (c : goal.Then-not-byte_at) → is_outline (outline_as c.args.line.now c.read-o.result) ≡ true
-shaped c = sym (c.is_whole.ensures ∙ is_outline-placed c.args.line.now c.read-o.result c.read-o.ensures.0) ∙ not-false c.is_whole.result c.if-not-is_whole.false-raw
-
--- a slash follows it
-ended : (c : goal.Else-not-byte_at) → starts_byte slash (drop c.read-o.result.at c.args.line.now) ≡ true
-ended c = sym c.byte_at.ensures ∙ not-false c.byte_at.result c.if-not-byte_at.false-raw
-
-shaped-in_default : (c : goal.In_default) → is_outline (outline_as c.args.line.now c.read-o.result) ≡ true
-shaped-in_default c = sym (c.is_whole.ensures ∙ is_outline-placed c.args.line.now c.read-o.result c.read-o.ensures.0) ∙ not-false c.is_whole.result c.if-not-is_whole.false-raw
-
--- a slash follows it
-ended-in_default : (c : goal.In_default) → starts_byte slash (drop c.read-o.result.at c.args.line.now) ≡ true
-ended-in_default c = sym c.byte_at.ensures ∙ not-false c.byte_at.result c.if-not-byte_at.false-raw
-
-shaped-then-end-line : (c : goal.Then-end-line) → is_outline (outline_as c.args.line.now c.read-o.result) ≡ true
-shaped-then-end-line c = sym (c.is_whole.ensures ∙ is_outline-placed c.args.line.now c.read-o.result c.read-o.ensures.0) ∙ not-false c.is_whole.result c.if-not-is_whole.false-raw
-
--- a slash follows it
-ended-then-end-line : (c : goal.Then-end-line) → starts_byte slash (drop c.read-o.result.at c.args.line.now) ≡ true
-ended-then-end-line c = sym c.byte_at.ensures ∙ not-false c.byte_at.result c.if-not-byte_at.false-raw
-
--- the length that was read
-len : (c : goal.Then-end-line)
-    → let s = c.args.line.now in
-    parsed c.in-Number.len (drop c.in-Number.end.at s) ≡ read_number 128 (drop (c.read-o.result.at + 1) s)
-len c = read_as-is c.args.line.now c.in-Number.is c.number-r.ensures
-
--- the length that was read
-len-else-end-line : (c : goal.Else-end-line)
-    → let s = c.args.line.now in
-    parsed c.in-Number.len (drop c.in-Number.end.at s) ≡ read_number 128 (drop (c.read-o.result.at + 1) s)
-len-else-end-line c = read_as-is c.args.line.now c.in-Number.is c.number-r.ensures
-
-shaped-network : (c : goal.After-network) → is_outline (outline_as c.args.line.now c.read-o.result) ≡ true
-shaped-network c = sym (c.is_whole.ensures ∙ is_outline-placed c.args.line.now c.read-o.result c.read-o.ensures.0) ∙ not-false c.is_whole.result c.if-not-is_whole.false-raw
-
--- a slash follows it
-ended-network : (c : goal.After-network) → starts_byte slash (drop c.read-o.result.at c.args.line.now) ≡ true
-ended-network c = sym c.byte_at.ensures ∙ not-false c.byte_at.result c.if-not-byte_at.false-raw
-
--- the length that was read
-len-network : (c : goal.After-network)
-    → let s = c.args.line.now in
-    parsed c.in-Number.len (drop c.in-Number.end.at s) ≡ read_number 128 (drop (c.read-o.result.at + 1) s)
-len-network c = read_as-is c.args.line.now c.in-Number.is c.number-r.ensures
+-- whether the address is whole, by the answer
+shaped : (s : List ℕ) (o : declared.Outline) {b d : Bool} → Sized o × (outline_as s o ≡ read_address s)
+    → b ≡ cond (is_some o.gap) (leb o.count 7) (eqb o.count 8) → b ≡ d → is_outline (outline_as s o) ≡ d
+shaped s o z e h = sym (e ∙ is_outline-placed s o z.0) ∙ h
 
 pub returns-then-not-is_whole : goal.returns-then-not-is_whole
-unfolding starts_byte
 returns-then-not-is_whole c = let s = c.args.line.now in
     let o = c.read-o.result in
-    line-part s o c.read-o.ensures.1 (sym (c.is_whole.ensures ∙ is_outline-placed s o c.read-o.ensures.0) ∙ not-true c.is_whole.result c.if-not-is_whole.true-raw)
+    line-part s o c.read-o.ensures.1 (shaped s o c.read-o.ensures c.is_whole.ensures c.if-not-is_whole.true)
 
 pub returns-then-not-byte_at : goal.returns-then-not-byte_at
-unfolding starts_byte
 returns-then-not-byte_at c = let s = c.args.line.now in
-    line_other s c.read-o.result c.read-o.ensures.1 (shaped c) (sym c.byte_at.ensures ∙ not-true c.byte_at.result c.if-not-byte_at.true-raw)
+    let o = c.read-o.result in
+    line_other s o c.read-o.ensures.1 (shaped s o c.read-o.ensures c.is_whole.ensures c.if-not-is_whole.false) (sym c.byte_at.ensures ∙ c.if-not-byte_at.true)
 
 pub overflow_add-at : goal.overflow_add-at
 unfolding starts_byte
 overflow_add-at c = let s = c.args.line.now in
-    omega (arith, starts-within (starts_byte slash) refl s c.read-o.result.at (ended c))
+    omega (arith, starts-within (starts_byte slash) refl s c.read-o.result.at (sym c.byte_at.ensures ∙ c.if-not-byte_at.false))
 
-pub returns-in_default : goal.returns-in_default
-unfolding starts_byte
-returns-in_default c = let s = c.args.line.now in
-    line-unread s c.read-o.result c.read-o.ensures.1 (shaped-in_default c) (ended-in_default c) (read_as-is s c.in_default.is c.number-r.ensures)
+pub returns-in_err-len : goal.returns-in_err-len
+returns-in_err-len c = let s = c.args.line.now in
+    let o = c.read-o.result in
+    let h = read_as-err s c.number.result c.ok_or.ensures.value c.in_err-len.was c.number.ensures in
+    rw (propagated c.from_residual.ensures, h.0)
+    (line-unread s o c.read-o.ensures.1 (shaped s o c.read-o.ensures c.is_whole.ensures c.if-not-is_whole.false) (sym c.byte_at.ensures ∙ c.if-not-byte_at.false) h.1)
 
 pub returns-then-end-line : goal.returns-then-end-line
-unfolding starts_byte
 returns-then-end-line c = let s = c.args.line.now in
-    line-more s c.read-o.result c.read-o.ensures.1 (shaped-then-end-line c) (ended-then-end-line c) c.in-Number.len c.in-Number.end.at (len c) c.if-end-line.true
+    let o = c.read-o.result in
+    let n = read_as-ok s c.number.result c.ok_or.ensures.value c.in_ok-len.was c.number.ensures in
+    line-more s o c.read-o.ensures.1 (shaped s o c.read-o.ensures c.is_whole.ensures c.if-not-is_whole.false) (sym c.byte_at.ensures ∙ c.if-not-byte_at.false)
+    c.in_ok-len.len c.in_ok-len.end.at n c.if-end-line.true
 
 pub overflow_cast-len : goal.overflow_cast-len
-unfolding starts_byte
 overflow_cast-len c = let s = c.args.line.now in
-    omega (arith, read_number-most 128 (drop (c.read-o.result.at + 1) s) c.in-Number.len (drop c.in-Number.end.at s) (len-else-end-line c))
+    let n = read_as-ok s c.number.result c.ok_or.ensures.value c.in_ok-len.was c.number.ensures in
+    omega (arith, read_number-most 128 (drop (c.read-o.result.at + 1) s) c.in_ok-len.len (drop c.in_ok-len.end.at s) n)
 
 pub network-requires : goal.network-requires
-unfolding starts_byte
 network-requires c = c.read-o.ensures.0
 
 pub returns : goal.returns
-unfolding starts_byte
 returns c = let s = c.args.line.now in
-    ap (λ m. (0, m)) c.network.ensures ∙ line-whole s c.read-o.result c.read-o.ensures.1 (shaped-network c) (ended-network c) c.in-Number.len c.in-Number.end.at (len-network c) c.if-end-line.false
+    let o = c.read-o.result in
+    let n = read_as-ok s c.number.result c.ok_or.ensures.value c.in_ok-len.was c.number.ensures in
+    ap (λ m. (0, m)) c.network.ensures
+    ∙ line-whole s o c.read-o.ensures.1 (shaped s o c.read-o.ensures c.is_whole.ensures c.if-not-is_whole.false) (sym c.byte_at.ensures ∙ c.if-not-byte_at.false)
+    c.in_ok-len.len c.in_ok-len.end.at n c.if-end-line.false

@@ -1,9 +1,8 @@
 -- `outlines::is_whole` meets its contract. Assumes nothing.
-
 use Rattle.text_ipv6_read.proofs.outlines.is_whole.Goals as goal
 
-pub returns-then-o : goal.returns-then-o
-returns-then-o c = rw c.if-o.true
+pub returns-in-Some : goal.returns-in-Some
+returns-in-Some c = rw c.in-Some.is
 
-pub returns : goal.returns
-returns c = rw c.if-o.false
+pub returns-in-None : goal.returns-in-None
+returns-in-None c = rw c.in-None.is

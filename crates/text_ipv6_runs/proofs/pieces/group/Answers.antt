@@ -1,7 +1,7 @@
 -- `pieces::group` meets its contract. The loop's invariant: what is still to be read completes the group. Assumes nothing.
 use mathlib.Core.Bool.{true, false}
 use mathlib.Core.Path.{◌≡◌, sym, ◌∙◌}
-use Prim.Native.Nat.{◌-◌, ◌<◌}
+use Prim.Native.Nat.{◌<◌}
 use native.Mathlib.Omega.{arith}
 use lib.ListN.{length, drop}
 use Rattle.text_decimal.specs.Spans.{starts_of}

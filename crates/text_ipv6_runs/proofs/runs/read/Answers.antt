@@ -7,7 +7,7 @@ pub loop-r-init : goal.loop-r-init
 loop-r-init c = (record { places = c.requires.0; within = c.requires.1 }, refl)
 
 pub step-r-requires : goal.step-r-requires
-step-r-requires c = (c.loop-r.invariant.0, c.loop-r-test.true)
+step-r-requires c = (c.loop-r.invariant.0, sym c.is_open.ensures ∙ c.loop-r-test.true)
 
 pub loop-r-smaller : goal.loop-r-smaller
 loop-r-smaller c = c.step-r.ensures.less
@@ -17,4 +17,4 @@ loop-r-preserved c = (c.step-r.ensures.fits, c.step-r.ensures.left ∙ c.loop-r.
 
 pub returns : goal.returns
 returns c = let a = c.args in
-    (c.loop-r.invariant.0, sym (left_end a.s.now c.loop-r.r c.loop-r-test.false) ∙ c.loop-r.invariant.1 ∙ left-start a.s.now a.groups a.count a.at)
+    (c.loop-r.invariant.0, sym (left_end a.s.now c.loop-r.r (sym c.is_open.ensures ∙ c.loop-r-test.false)) ∙ c.loop-r.invariant.1 ∙ left-start a.s.now a.groups a.count a.at)

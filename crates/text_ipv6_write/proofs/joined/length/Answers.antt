@@ -37,9 +37,6 @@ overflow_add-n c = omega (arith, c.length.ensures.upper_bound)
 pub overflow_add-n-in-loop-i : goal.overflow_add-n-in-loop-i
 overflow_add-n-in-loop-i c = omega (arith, c.length.ensures.upper_bound, c.loop-i.invariant)
 
-pub overflow_add-i-in-loop-i : goal.overflow_add-i-in-loop-i
-overflow_add-i-in-loop-i c = omega (arith, c.loop-i.invariant)
-
 pub loop-i-preserved : goal.loop-i-preserved
 loop-i-preserved c = let k = c.length.result in
     counted_step c.args.g c.args.from c.args.to (omega (arith, eight-length c)) c.loop-i.n c.loop-i.i k (c.loop-i.n + (1 + k))

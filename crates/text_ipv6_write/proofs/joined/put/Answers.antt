@@ -172,9 +172,6 @@ bounds-g-i c = omega (arith, c.loop-i.invariant.within)
 pub put-next-requires-in-loop-i : goal.put-next-requires-in-loop-i
 put-next-requires-in-loop-i c = simp length-set (omega (arith, fits-put-arg-in-loop-i-1 c))
 
-pub overflow_add-i-in-loop-i : goal.overflow_add-i-in-loop-i
-overflow_add-i-in-loop-i c = omega (arith, c.loop-i.invariant.within)
-
 pub loop-i-preserved : goal.loop-i-preserved
 loop-i-preserved c = let l = c.loop-i in
     let a = c.args in

@@ -4,4 +4,4 @@ use Rattle.tool_print.proofs.Fits.{listed-fits}
 use Rattle.tool_print.proofs.printing.print_set.Goals as goal
 
 pub networks-requires : goal.networks-requires
-networks-requires g c = let l = c.list-listed in omega (arith, listed-fits l.ensures c.in-Granted.is, l.auto.rows)
+networks-requires g c = let l = c.list-listed in omega (arith, listed-fits l.ensures c.in-Ok.is, l.auto.rows)

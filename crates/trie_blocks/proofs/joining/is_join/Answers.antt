@@ -6,10 +6,7 @@ use native.Mathlib.Omega.{arith}
 use borrow.Author.Tests.{eq-eqb}
 use Rattle.trie_blocks.proofs.joining.is_join.Goals as goal
 
-pub returns-then-w-b-ne-FORK : goal.returns-then-w-b-ne-FORK
-returns-then-w-b-ne-FORK c e x y = c.if-w-b-ne-FORK.true x
-
-pub returns : goal.returns
-returns c e x y = let a = c.args in
+pub returns-then-w-b-eq-FORK : goal.returns-then-w-b-eq-FORK
+returns-then-w-b-eq-FORK c e x y = let a = c.args in
     let q : a.b + (a.n + 2 - 1) ≡ a.b + (a.n + 1) = omega arith in
     false≢true (sym e ∙ eq-eqb _ 0 (rw q at y))

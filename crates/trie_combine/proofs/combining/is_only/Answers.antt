@@ -1,12 +1,10 @@
--- `combining::is_only` meets its contract, by its test. Assumes nothing.
-use mathlib.Core.Bool.{true≢false}
-use mathlib.Core.Path.{sym}
+-- `combining::is_only` meets its contract, by its tests. Assumes nothing.
 use native.Mathlib.Omega.{arith}
-use borrow.Author.Tests.{eqb-true}
+use borrow.Author.Tests.{eqb-true, leb-true}
 use Rattle.trie_combine.proofs.combining.is_only.Goals as goal
 
-pub returns-then-p-gt2 : goal.returns-then-p-gt2
-returns-then-p-gt2 c e = absurd (true≢false (sym e))
+pub returns-else-p-le2 : goal.returns-else-p-le2
+returns-else-p-le2 c e = absurd (omega (arith, c.if-p-le2.false, leb-true _ _ e))
 
-pub returns : goal.returns
-returns c e = (omega (arith, c.if-p-gt2.false), eqb-true _ _ e)
+pub returns-then-p-le2 : goal.returns-then-p-le2
+returns-then-p-le2 c e = (omega (arith, c.if-p-le2.true), eqb-true _ _ e)

@@ -15,8 +15,5 @@ returns-then-i-e c t s = (tidy-none _ t s c.if-op-eq3.false c.if-i-e.true).count
 pub next_join-next-requires : goal.next_join-next-requires
 next_join-next-requires c = let (t, s) = c.requires in tidy-asks _ t s c.if-op-eq3.false c.if-i-e.false
 
-pub spread-requires : goal.spread-requires
-spread-requires c = (c.requires, c.next_join-next.ensures)
-
 pub returns : goal.returns
 returns c t s = rw (tidy-joined _ t s c.if-op-eq3.false) (c.spread.ensures t s)

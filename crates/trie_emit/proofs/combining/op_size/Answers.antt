@@ -4,8 +4,5 @@ use native.Mathlib.Nat.{zero-add}
 use Rattle.trie_emit.proofs.Answers.{end_is}
 use Rattle.trie_emit.proofs.combining.op_size.Goals as goal
 
-pub foresee-x-requires : goal.foresee-x-requires
-foresee-x-requires c = let (t, u, s) = c.requires in (0, t, u, s)
-
 pub returns : goal.returns
 returns c t u s = c.end_of.ensures ∙ end_is _ _ _ (c.foresee-x.ensures 0 t u s) ∙ zero-add _

@@ -1,30 +1,23 @@
 -- `emitting::finish` meets its contract, by the arms of the answer of its node. Assumes nothing.
 use mathlib.Core.Path.{sym, ◌∙◌}
 use native.Mathlib.Omega.{arith}
-use lib.ListN.{length}
-use Rattle.trie_emit.proofs.Answers.{Empty≢Node, Full≢Node, Numbers, numbers, finish-flat, finish-node}
+use Rattle.trie_emit.proofs.Answers.{Empty≢Node, Full≢Node, numbers, finish-flat, finish-node}
 use Rattle.trie_emit.proofs.emitting.finish.Goals as goal
-
-facts : (c : goal.After-settle-arg-1) → let s = c.args in Numbers (length s.w.now) s.b s.o c.end_of-m.result c.in-Node.e s.l s.r
-facts c = let p = c.requires.3 in numbers p _ (c.parent-x.ensures _ _ p.both) _ _ c.in-Node.is c.end_of-m.ensures
-
-facts-settle-arg-in-node-1 : (c : goal.After-settle-arg-in-Node-1) → let s = c.args in Numbers (length s.w.now) s.b s.o c.end_of-m.result c.in-Node.e s.l s.r
-facts-settle-arg-in-node-1 c = let p = c.requires.3 in numbers p _ (c.parent-x.ensures _ _ p.both) _ _ c.in-Node.is c.end_of-m.ensures
-
-facts-links-arg-1 : (c : goal.After-links-arg-1) → let s = c.args in Numbers (length s.w.now) s.b s.o c.end_of-m.result c.in-Node.e s.l s.r
-facts-links-arg-1 c = let p = c.requires.3 in numbers p _ (c.parent-x.ensures _ _ p.both) _ _ c.in-Node.is c.end_of-m.ensures
 
 pub parent-x-requires : goal.parent-x-requires
 parent-x-requires c = let q = c.requires in (q.1, q.2, q.3.both)
 
 pub settle-requires : goal.settle-requires
-settle-requires c = let f = facts c in (omega arith, λ h. omega (arith, f.full-l h))
+settle-requires c = let p = c.requires.3 in
+    let f = numbers p _ (c.parent-x.ensures _ _ p.both) _ _ c.in-Node.is c.end_of-m.ensures in (omega arith, λ h. omega (arith, f.full-l h))
 
 pub settle-requires-in-Node : goal.settle-requires-in-Node
-settle-requires-in-Node c = let f = facts-settle-arg-in-node-1 c in (omega arith, λ h. omega (arith, f.full-r h))
+settle-requires-in-Node c = let p = c.requires.3 in
+    let f = numbers p _ (c.parent-x.ensures _ _ p.both) _ _ c.in-Node.is c.end_of-m.ensures in (omega arith, λ h. omega (arith, f.full-r h))
 
 pub links-requires : goal.links-requires
-links-requires c = let f = facts-links-arg-1 c in omega arith
+links-requires c = let p = c.requires.3 in
+    let f = numbers p _ (c.parent-x.ensures _ _ p.both) _ _ c.in-Node.is c.end_of-m.ensures in omega arith
 
 pub returns-in-Empty : goal.returns-in-Empty
 returns-in-Empty c v t u p = finish-flat p _ (c.parent-x.ensures t u p.both) (λ e q. Empty≢Node e (sym c.in-Empty.is ∙ q))

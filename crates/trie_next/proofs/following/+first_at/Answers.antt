@@ -44,11 +44,11 @@ halves-first : (τ : ℕ) → (c : goal.After-first τ) {u : Trie} → let a = c
 halves-first τ c s = forked (node-first τ c s) c.if-y-eq0.false c.middle-m.ensures
 
 -- what the tests say, of any trie that stands there
-node-in-end : (τ : ℕ) → (c : goal.In-End τ) {u : Trie} → let a = c.args in
+node-in-end : (τ : ℕ) → (c : goal.In-None τ) {u : Trie} → let a = c.args in
     Spans a.w.now a.b a.i a.e u → Root a.w.now a.b a.i a.e c.word-y.result u
 node-in-end τ c s = root _ s c.if-i-e.false c.word-y.ensures.0
 
-halves-in-end : (τ : ℕ) → (c : goal.In-End τ) {u : Trie} → let a = c.args in
+halves-in-end : (τ : ℕ) → (c : goal.In-None τ) {u : Trie} → let a = c.args in
     Spans a.w.now a.b a.i a.e u → Forked a.w.now a.b a.i a.e c.middle-m.result u
 halves-in-end τ c s = forked (node-in-end τ c s) c.if-y-eq0.false c.middle-m.ensures
 
@@ -62,11 +62,11 @@ halves-second : (τ : ℕ) → (c : goal.After-second τ) {u : Trie} → let a =
 halves-second τ c s = forked (node-second τ c s) c.if-y-eq0.false c.middle-m.ensures
 
 -- what the tests say, of any trie that stands there
-node-in-network : (τ : ℕ) → (c : goal.In-Network τ) {u : Trie} → let a = c.args in
+node-in-network : (τ : ℕ) → (c : goal.In-Some τ) {u : Trie} → let a = c.args in
     Spans a.w.now a.b a.i a.e u → Root a.w.now a.b a.i a.e c.word-y.result u
 node-in-network τ c s = root _ s c.if-i-e.false c.word-y.ensures.0
 
-halves-in-network : (τ : ℕ) → (c : goal.In-Network τ) {u : Trie} → let a = c.args in
+halves-in-network : (τ : ℕ) → (c : goal.In-Some τ) {u : Trie} → let a = c.args in
     Spans a.w.now a.b a.i a.e u → Forked a.w.now a.b a.i a.e c.middle-m.result u
 halves-in-network τ c s = forked (node-in-network τ c s) c.if-y-eq0.false c.middle-m.ensures
 
@@ -114,22 +114,22 @@ pub second-requires : goal.second-requires
 second-requires τ c = let o = c.requires in
     record { len_bound = path-goes-on o.3 (halves-in-end τ c o.3.stands); by_index = (o.0, o.1, o.3.path) }
 
-pub overflow_sub-k-in-End : goal.overflow_sub-k-in-End
-overflow_sub-k-in-End τ c = omega (arith, c.if-k-eq0-2.false)
+pub overflow_sub-k-in-None : goal.overflow_sub-k-in-None
+overflow_sub-k-in-None τ c = omega (arith, c.if-k-eq0-2.false)
 
 pub first_at-requires : goal.first_at-requires
 first_at-requires τ c = let k = halves-second τ c c.requires.3.stands in
     ((forked-falls k c.decreases).1, (c.requires.0, snoc c.requires.1 true, k.r, located-right c.requires.3 k (c.second.ensures _ _ c.requires.3.path)))
 
-pub returns-in-Network : goal.returns-in-Network
-returns-in-Network τ c f p u o = let k = halves-in-network τ c o.stands in
+pub returns-in-Some : goal.returns-in-Some
+returns-in-Some τ c f p u o = let k = halves-in-network τ c o.stands in
     let n = c.args.k in
     let l = c.first_at-n.ensures _ _ _ (located-left o k (c.first.ensures _ _ o.path)) in
-    first-left f p k n c.if-k-eq0-2.false l c.in-Network.is
+    first-left f p k n c.if-k-eq0-2.false l c.in-Some.is
 
-pub returns-in-End : goal.returns-in-End
-returns-in-End τ c f p u o = let k = halves-first_at τ c o.stands in
+pub returns-in-None : goal.returns-in-None
+returns-in-None τ c f p u o = let k = halves-first_at τ c o.stands in
     let n = c.args.k in
     let l = c.first_at-n.ensures _ _ _ (located-left o k (c.first.ensures _ _ o.path)) in
     let r = c.first_at.ensures _ _ _ (located-right o k (c.second.ensures _ _ o.path)) in
-    first-right f p k n c.if-k-eq0-2.false l c.in-End.is r
+    first-right f p k n c.if-k-eq0-2.false l c.in-None.is r

@@ -1,12 +1,8 @@
 -- `answering::leaf` meets its contract, by its test. Assumes nothing.
 use mathlib.Core.Path.{sym}
-use native.Mathlib.Omega.{arith}
 use borrow.Author.Tests.{eq-eqb, ne_eqb}
 use Rattle.nodes.proofs.Put.{put-nil}
 use Rattle.trie_spans.proofs.answering.leaf.Goals as goal
-
-pub store-requires : goal.store-requires
-store-requires c = let p = c.requires in (p.0, (p.1 c.if-n-eq1.true, omega arith))
 
 pub returns-then-n-eq1 : goal.returns-then-n-eq1
 returns-then-n-eq1 c = rw (eq-eqb _ 1 c.if-n-eq1.true) c.store.ensures

@@ -2,8 +2,8 @@
 use Rattle.trie_spots.proofs.Onward.{arrive-network, arrive-end}
 use Rattle.trie_spots.proofs.spots.arrive.Goals as goal
 
-pub returns-in-Network : goal.returns-in-Network
-returns-in-Network c = arrive-network c.args.s _ _ c.in-Network.is
+pub returns-in-Some : goal.returns-in-Some
+returns-in-Some c = arrive-network c.args.s _ _ c.in-Some.is
 
-pub returns-in-End : goal.returns-in-End
-returns-in-End c = arrive-end c.args.s _ c.in-End.is
+pub returns-in-None : goal.returns-in-None
+returns-in-None c = arrive-end c.args.s _ c.in-None.is

@@ -1,43 +1,22 @@
 -- `reach`: the walk is made, and each turn takes a step of it.
-use Rattle.std.proofs.Common.{◌≡◌, suc, sym, ap, subst, ◌∙◌, ◌<◌}
-use Rattle.pool_state.specs.Decode.{decode}
-use Rattle.trie_spots.specs.declared.spots.Spot.{Spot}
-use Rattle.walk_turns.specs.Turns.{turn_after}
-use Rattle.walk_turns.specs.declared.turns.Turn.{Turn}
-use Rattle.walk.specs.Walks.{walk_on}
-use Rattle.walk.specs.Places.{stage_in}
-use Rattle.walk.specs.declared.walking.Walk.{Walk}
-use Rattle.walk.proofs.Reached.{Going, to_go, nearer, starts, turned}
+use Rattle.std.proofs.Common.{arith, sym, ◌∙◌, suc, ◌-◌, ◌+◌}
+use Rattle.walk.proofs.Reached.{starts, done, steps, stops}
 use Rattle.walk.proofs.reaching.reach.Goals as goal
+use Rattle.walk.proofs.reaching.reach.Goals.{else-loop-k-test, then-loop-k-test+then-not-next, then-loop-k-test+else-not-next+else-k-left}
 
-pub loop-t-init : goal.loop-t-init
-loop-t-init c =
-    let a = c.args in
-    let z = (stage_in (decode a.pool.now) a.set a.left).spot in
-    let e = c.start-w.ensures in (
-      ap (λ (w : Walk). w.no) e,
-      (suc a.left, subst (λ (w : Walk). Going z (suc a.left) w c.first-t.result) (sym e) (starts a.pool a.set a.left c.first-t.result c.first-t.ensures)),
-    )
+pub loop-k-init : goal.loop-k-init
+loop-k-init c = let a = c.args in rw c.start-w.ensures (starts a.pool a.set a.left (suc a.left - 0) (omega arith))
 
 pub next-requires : goal.next-requires
-next-requires c = c.loop-t.invariant.1.1.walking
+next-requires c = c.loop-k.invariant.walking
 
-pub loop-t-smaller : goal.loop-t-smaller
-loop-t-smaller c = let t = c.loop-t.t in
-    subst (λ (r : Turn). to_go r < to_go t) (sym c.after-t.ensures) (nearer c.next.new.self.spot t c.loop-t-test.true)
-
-pub loop-t-preserved : goal.loop-t-preserved
-loop-t-preserved c =
-    let a = c.args in
-    let z = (stage_in (decode a.pool.now) a.set a.left).spot in
-    let l = c.loop-t in
-    let r = c.after-t.result in
-    let e = c.next.ensures.1 in
-    let n = turned z l.invariant.1.0 l.w l.t r l.invariant.1.1 c.loop-t-test.true (c.after-t.ensures ∙ ap (λ (w : Walk). turn_after w.spot l.t) e) in
-    (ap (λ (w : Walk). w.no) e ∙ l.invariant.0, (n.0, subst (λ (w : Walk). Going z n.0 w r) (sym e) n.1.1))
+pub loop-k-preserved : goal.loop-k-preserved
+loop-k-preserved c = rw c.next.ensures.1 (steps c.loop-k.invariant (suc c.args.left - (c.loop-k._k + 1)) (omega arith))
 
 pub returns : goal.returns
-returns c =
-    let s = c.loop-t.invariant in
-    let e = s.1.1.done c.loop-t-test.false in
-    λ i. record { spot = e i; no = s.0 i }
+returns c = elim c.loop-k-test.branch [
+  | else-loop-k-test w ↦ rw w.w-is (done c.loop-k.invariant (omega arith))
+  | then-loop-k-test+then-not-next w ↦
+      rw (w.w-is, w.next.ensures.1) (stops c.loop-k.invariant (c.args.left - c.loop-k._k) (omega arith) (sym w.next.ensures.0 ∙ w.if-not-next.true))
+  | then-loop-k-test+else-not-next+else-k-left w ↦ rw (w.w-is, w.next.ensures.1) (done (steps c.loop-k.invariant 0 (omega arith)) (omega arith))
+]

@@ -1,6 +1,0 @@
--- `tails::put_row` meets its contract: a store is a write of one. Assumes nothing.
-use Rattle.nodes.proofs.Put.{set-put}
-use Rattle.calls_bytes.proofs.tails.put_row.Goals as goal
-
-pub returns : goal.returns
-returns c = set-put _ _ _

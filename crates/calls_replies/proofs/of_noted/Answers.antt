@@ -1,9 +1,0 @@
--- `of_noted` meets its contract, arm by arm. Assumes nothing.
-use borrow.Author.Rules.{rules}
-use Rattle.calls_replies.proofs.of_noted.Goals as goal
-
-pub returns-in-Granted : goal.returns-in-Granted
-returns-in-Granted c = rw c.in-Granted.is c.of_trimmed.ensures
-
-pub returns-in-Refused : goal.returns-in-Refused
-returns-in-Refused c = rw c.in-Refused.is c.refused.ensures

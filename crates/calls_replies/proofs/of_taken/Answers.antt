@@ -1,9 +1,0 @@
--- `of_taken` meets its contract, arm by arm. Assumes nothing.
-use borrow.Author.Rules.{rules}
-use Rattle.calls_replies.proofs.of_taken.Goals as goal
-
-pub returns-in-Network : goal.returns-in-Network
-returns-in-Network c = rw c.in-Network.is c.of_net.ensures
-
-pub returns-in-Refused : goal.returns-in-Refused
-returns-in-Refused c = rw c.in-Refused.is c.refused.ensures

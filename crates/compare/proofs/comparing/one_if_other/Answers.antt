@@ -1,9 +1,0 @@
--- `comparing::one_if_other` meets its contract. Assumes nothing.
-use borrow.Author.Tests.{eq-eqb, ne_eqb}
-use Rattle.compare.proofs.comparing.one_if_other.Goals as goal
-
-pub returns-then-x-y : goal.returns-then-x-y
-returns-then-x-y c = rw (eq-eqb _ _ c.if-x-y.true)
-
-pub returns : goal.returns
-returns c = rw (ne_eqb _ _ c.if-x-y.false)

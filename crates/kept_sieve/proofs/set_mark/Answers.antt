@@ -1,5 +1,0 @@
--- `set_mark` meets its contract. Assumes nothing.
-use Rattle.kept_sieve.proofs.set_mark.Goals as goal
-
-pub returns : goal.returns
-returns c = rw (← c.head-x.ensures) c.store_head.ensures

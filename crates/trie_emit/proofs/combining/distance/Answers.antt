@@ -1,9 +1,0 @@
--- `combining::distance` meets its contract, by its test. Assumes nothing.
-
-use Rattle.trie_emit.proofs.combining.distance.Goals as goal
-
-pub returns-then-second : goal.returns-then-second
-returns-then-second c = rw c.if-second.true
-
-pub returns-else-second : goal.returns-else-second
-returns-else-second c = rw c.if-second.false
