@@ -1,14 +1,13 @@
 // What is written to standard output. Each function fails where not all of it was written.
-use nets::Refusal;
 use std::io;
 use std::io::ErrorKind;
 
 // A pool of 1,000 nodes has no more networks than nodes; three numbers each.
 const ROWS: usize = 3000;
 
-// The one line of an input with a refused line.
-pub fn refused(out: &impl Print, number: u64, refusal: Refusal) -> io::Result<()> {
-    let no = refusal.number();
+// The one line of an input with a refused line, by a refusal or its number.
+pub fn refused<N: Into<u8>>(out: &impl Print, number: u64, no: N) -> io::Result<()> {
+    let no: u8 = no.into();
     println!(out; "line {number} refused {no}")
 }
 

@@ -13,6 +13,7 @@ use pool_check::seats::{seat_in, seat_of};
 use pool_check::survey;
 use pool_header::{FORM, HEAD, LIMIT, NODES, RECORD, SHARE, is_size, least_words};
 use pool_state::Survey;
+pub use pool_state::{Answer, Report, Told};
 
 mod laying;
 
